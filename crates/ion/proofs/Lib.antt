@@ -1,0 +1,5 @@
+pub mod Tests
+pub mod Fields
+pub mod Reader
+pub mod Unique
+pub mod Exact

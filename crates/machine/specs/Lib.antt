@@ -1,0 +1,4 @@
+pub mod Call
+pub mod Machine
+pub mod Model
+pub mod Demands

@@ -1,0 +1,201 @@
+-- The writer as a machine over a state and a lent buffer: document 01's "Modules" (container_writers, writer) and "Checks by place".
+-- What each call answers, and what it leaves in the state and in every byte of the buffer.
+-- Assumes nothing.
+use Prim.Native.Nat.{ℕ, zero, suc, _+_, _-_, max}
+use mathlib.Core.Bool.{Bool, true, false, not, _&&_, _||_}
+use mathlib.Core.List.{List, [], _∷_, _++_}
+use lib.Dec.{ltb, leb, eqb}
+use lib.ListN.{length, take, drop, replicate, getD, set}
+use lib.Seq.{slice}
+use Rattle.machine.specs.declared.State.{State}
+use Rattle.machine.specs.declared.Container.{Container}
+use Rattle.ion.specs.Value.{listCode, sexpCode, structCode, annotationCode, list, sexp}
+use Rattle.encoding.specs.Fields.{varUIntBytes}
+use Rattle.encoding.specs.Headers.{typeByte, framedBytes, annotationBytes, annotatedBytes, markerBytes}
+use Rattle.encoding.specs.Argument.{Argument, argumentBytes, argumentChecks}
+use Rattle.machine.specs.Call.{ContainerType, sequenceType, structType, Call, write, name, opening, closing, abandonment, versionMarker, taking, emptying}
+
+-- a state, and the buffer that is lent with it
+pub record Config : Type 0 where
+  pub state : State
+  pub buffer : List ℕ
+
+-- ---- the open containers
+
+abbrev pub noContainer : Container
+noContainer = record { start = 0; header = 0; code = 0 }
+
+-- the first n records of the array, the last of them, which is the innermost, first
+abbrev pub innermostFirst : List Container → ℕ → List Container
+innermostFirst l zero = []
+innermostFirst l (suc n) = getD l n noContainer ∷ innermostFirst l n
+
+abbrev pub openContainers : Config → List Container
+openContainers w = innermostFirst (w .state .containers) (w .state .depth)
+
+abbrev pub isOpen : List Container → Bool
+isOpen [] = false
+isOpen (c ∷ cs) = true
+
+-- the innermost is a struct
+abbrev pub inStruct : List Container → Bool
+inStruct [] = false
+inStruct (c ∷ cs) = eqb (c .code) (typeByte structCode)
+
+abbrev pub outer : List Container → List Container
+outer [] = []
+outer (c ∷ cs) = cs
+
+-- ---- the bytes that an opening reserves, and that a closing puts in their place
+
+abbrev pub containerCode : ContainerType → ℕ
+containerCode (sequenceType list) = typeByte listCode
+containerCode (sequenceType sexp) = typeByte sexpCode
+containerCode structType = typeByte structCode
+
+-- two zero bytes; with annotations two zero bytes, the annotations, and two more
+abbrev pub reserve : List ℕ → List ℕ
+reserve [] = 0 ∷ 0 ∷ []
+reserve (a ∷ an) = 0 ∷ 0 ∷ (annotationBytes (a ∷ an) ++ (0 ∷ 0 ∷ []))
+
+-- where the header's reserve lies in a container that starts at p
+abbrev pub headerPlace : ℕ → List ℕ → ℕ
+headerPlace p [] = p
+headerPlace p (a ∷ an) = p + 2 + length (annotationBytes (a ∷ an))
+
+-- The body lies behind the header's reserve, the annotations between the two reserves. The wrapper's length counts the final inner header.
+unfoldable pub closedBytes : Container → List ℕ → List ℕ
+closedBytes c live =
+    elim (eqb (c .header) (c .start)) [
+      | true ↦ framedBytes (c .code) (drop (c .header + 2) live)
+      | false ↦ framedBytes (typeByte annotationCode) (slice (c .start + 2) (c .header) live ++ framedBytes (c .code) (drop (c .header + 2) live))
+    ]
+
+-- with none open there is nothing to close, and the call is refused
+abbrev pub closedInnermost : List Container → List ℕ → List ℕ
+closedInnermost [] live = []
+closedInnermost (c ∷ cs) live = closedBytes c live
+
+abbrev pub innermostStart : List Container → ℕ → ℕ
+innermostStart [] used = used
+innermostStart (c ∷ cs) used = c .start
+
+-- ---- the effect of an accepted call
+
+-- The used bytes
+abbrev pub live : Config → List ℕ
+live w = take (w .state .used) (w .buffer)
+
+-- The used bytes of b from p on, up to `used`, make way for `out`: what is freed becomes zero, and no other byte alters.
+unfoldable pub splice : ℕ → ℕ → List ℕ → List ℕ → List ℕ
+splice used p out b = (take p b ++ out) ++ (replicate (used - (p + length out)) 0 ++ drop (max used (p + length out)) b)
+
+-- `out` is put at p, with so many containers open after it
+abbrev pub put : Config → ℕ → List ℕ → ℕ → Bool → List Container → Config
+put w p out depth waiting containers = record {
+  state = record { used = p + length out; depth = depth; waiting = waiting; containers = containers };
+  buffer = splice (w .state .used) p out (w .buffer);
+}
+
+-- A closing and an abandonment lower the depth and leave the array; an opening sets the record at the depth.
+-- After an abandonment a name waits again exactly if the container that is then innermost is a struct.
+abbrev pub effect : Call → Config → Config
+effect (write an a) w = put w (w .state .used) (annotatedBytes an (argumentBytes a)) (w .state .depth) false (w .state .containers)
+effect (name n) w = put w (w .state .used) (varUIntBytes n) (w .state .depth) true (w .state .containers)
+effect (opening an k) w =
+    put w (w .state .used) (reserve an) (w .state .depth + 1) false
+    (set (w .state .containers) (w .state .depth) (record { start = w .state .used; header = headerPlace (w .state .used) an; code = containerCode k }))
+effect closing w = put w (innermostStart (openContainers w) (w .state .used)) (closedInnermost (openContainers w) (live w)) (w .state .depth - 1) false (w .state .containers)
+effect abandonment w = put w (innermostStart (openContainers w) (w .state .used)) [] (w .state .depth - 1) (inStruct (outer (openContainers w))) (w .state .containers)
+effect versionMarker w = put w (w .state .used) markerBytes (w .state .depth) (w .state .waiting) (w .state .containers)
+effect taking w = w
+effect emptying w = record { state = record { used = 0; depth = w .state .depth; waiting = w .state .waiting; containers = w .state .containers }; buffer = w .buffer }
+
+-- ---- "Checks by place"
+
+abbrev pub longestBuffer : ℕ
+longestBuffer = 16777215
+
+-- each type code B0, C0 or D0; header equals start or lies 4 or more beyond it; header plus 2 at most the next start, or used for the innermost
+unfoldable pub containersFit : ℕ → List Container → Bool
+containersFit limit [] = true
+containersFit limit (c ∷ cs) =
+    (eqb (c .code) (typeByte listCode) || (eqb (c .code) (typeByte sexpCode) || eqb (c .code) (typeByte structCode)))
+    && ((eqb (c .header) (c .start) || leb (c .start + 4) (c .header)) && (leb (c .header + 2) limit && containersFit (c .start) cs))
+
+-- "State fits": used at most the buffer's length; at most 32 containers, and they fit; a name waits only in an innermost struct
+unfoldable pub fits : Config → Bool
+fits w =
+    leb (w .state .used) (length (w .buffer))
+    && (leb (w .state .depth) 32 && (containersFit (w .state .used) (openContainers w) && (not (w .state .waiting) || inStruct (openContainers w))))
+
+-- a value in a struct with no name waiting
+abbrev pub lacksName : Config → Bool
+lacksName w = inStruct (openContainers w) && not (w .state .waiting)
+
+-- The lines 1, 2, 3, those that only some calls have, and 10: each test that refuses, with its number.
+-- `misplaced` is line 3 of the call, `own` its lines of 4 to 9, `used` its used length on return.
+abbrev pub lines : Config → Bool → List (Bool × ℕ) → ℕ → List (Bool × ℕ)
+lines w misplaced own used =
+    (ltb longestBuffer (length (w .buffer)), 1)
+    ∷ (not (fits w), 2)
+    ∷ (misplaced, 3)
+    ∷ (own ++ ((ltb (length (w .buffer)) used, 10) ∷ []))
+
+-- A taking has no number: it hands back a part, which may be empty.
+abbrev pub checks : Call → Config → List (Bool × ℕ)
+checks (write an a) w = lines w (lacksName w) (argumentChecks a) (effect (write an a) w .state .used)
+checks (name n) w = lines w (not (inStruct (openContainers w)) || w .state .waiting) [] (effect (name n) w .state .used)
+checks (opening an k) w = lines w (lacksName w) ((leb 32 (w .state .depth), 4) ∷ []) (effect (opening an k) w .state .used)
+checks closing w = lines w (not (isOpen (openContainers w)) || w .state .waiting) [] (effect closing w .state .used)
+checks abandonment w = lines w (not (isOpen (openContainers w))) [] (effect abandonment w .state .used)
+checks versionMarker w = lines w (isOpen (openContainers w)) [] (effect versionMarker w .state .used)
+checks taking w = []
+checks emptying w = lines w (isOpen (openContainers w)) [] (effect emptying w .state .used)
+
+pub data Answer : Type 0 where
+  accepted : Answer
+  refused : ℕ → Answer
+
+-- the first failing line answers
+abbrev pub firstFailing : List (Bool × ℕ) → Answer
+firstFailing [] = accepted
+firstFailing (x ∷ xs) = elim (x .0) [ true ↦ refused (x .1) | false ↦ firstFailing xs ]
+
+unfoldable pub answer : Call → Config → Answer
+answer c w = firstFailing (checks c w)
+
+abbrev pub isAccepted : Answer → Bool
+isAccepted accepted = true
+isAccepted (refused n) = false
+
+abbrev pub ifAccepted : Answer → Config → Config → Config
+ifAccepted accepted x y = x
+ifAccepted (refused n) x y = y
+
+-- A call: a refusal returns the state given, and an unaltered buffer.
+abbrev pub after : Call → Config → Config
+after c w = ifAccepted (answer c w) (effect c w) w
+
+-- ---- a start: it knows the lines 1 and 10 only
+
+-- no container, no waiting name
+abbrev pub emptyState : ℕ → State
+emptyState used = record { used = used; depth = 0; waiting = false; containers = replicate 32 noContainer }
+
+unfoldable pub startAnswer : List ℕ → Answer
+startAnswer b = firstFailing ((ltb longestBuffer (length b), 1) ∷ (ltb (length b) 4, 10) ∷ [])
+
+-- a refused start answers the empty state with used length 0, and alters nothing
+abbrev pub started : List ℕ → Config
+started b = ifAccepted (startAnswer b) (record { state = emptyState 4; buffer = splice 0 0 markerBytes b }) (record { state = emptyState 0; buffer = b })
+
+-- ---- a taking hands back a part of the buffer
+
+abbrev pub partOf : Bool → List ℕ → List ℕ
+partOf true x = x
+partOf false x = []
+
+-- empty if a container is open, a field name waits, or the state or buffer would be refused by 1 or 2
+unfoldable pub taken : Config → List ℕ
+taken w = partOf (leb (length (w .buffer)) longestBuffer && (fits w && (not (isOpen (openContainers w)) && not (w .state .waiting)))) (live w)
