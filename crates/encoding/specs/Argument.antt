@@ -3,7 +3,7 @@
 -- Assumes nothing.
 use Prim.Native.Nat.{ℕ, zero, suc, _+_, _^_, _<_}
 use mathlib.Core.Path.{_≡_}
-use mathlib.Core.Bool.{Bool, true, false, _&&_, not}
+use mathlib.Core.Bool.{Bool, true, false, _&&_, _||_, not}
 use mathlib.Core.List.{List, [], _∷_, _++_}
 use mathlib.Core.Option.{Option}
 use lib.Dec.{ltb, eqb}
@@ -122,6 +122,15 @@ argumentChecks (writeBlob b) = []
 abbrev pub NoneHolds : List (Bool × ℕ) → Type 0
 NoneHolds [] = Unit {0}
 NoneHolds (x ∷ xs) = (x .0 ≡ false) × NoneHolds xs
+
+-- one of the tests holds
+abbrev pub anyHolds : List (Bool × ℕ) → Bool
+anyHolds [] = false
+anyHolds (x ∷ xs) = x .0 || anyHolds xs
+
+-- The bytes of a scalar whose own checks pass, and none otherwise; no scalar has none.
+unfoldable pub checkedBytes : Argument → List ℕ
+checkedBytes a = elim (anyHolds (argumentChecks a)) [ true ↦ [] | false ↦ argumentBytes a ]
 
 -- ---- what the types of the arguments say, as far as a theorem needs it: numbers of 32 and 64 bits, slices shorter than 2 ^ 64
 

@@ -1,0 +1,1 @@
+// Bytes laid into a lent buffer.
