@@ -9,7 +9,7 @@ use lib.Dec.{ltb, leb, eqb}
 use lib.ListN.{length}
 use lib.IntN.{ℤ, pos, negsuc, negℤ}
 use Rattle.ion.specs.Value.{Signed, signed, Fraction, noFraction, fraction}
-use Rattle.ion.specs.Calendar.{daysInMonth}
+use Rattle.ion.specs.Calendar.{daysInMonth, minuteNumber}
 use Rattle.ion.specs.Scalars.{areFields}
 use Rattle.encoding.specs.Fields.{varUIntsBytes, varIntBytes, signedOf, uintBytes}
 use Rattle.encoding.specs.Decimal.{decimalBody}
@@ -60,6 +60,15 @@ utc (some z) (y ∷ m ∷ []) = y ∷ m ∷ []
 utc (some z) (y ∷ m ∷ d ∷ []) = y ∷ m ∷ d ∷ []
 utc (some z) (y ∷ m ∷ d ∷ h ∷ []) = y ∷ m ∷ d ∷ h ∷ []
 utc (some z) (y ∷ m ∷ d ∷ h ∷ i ∷ r) = utcFields (utcMinutes z h i) y m d r
+
+-- The minute of fields that have one, counted through the calendar. The theorem `utc-is-local-minus-offset` says by it what `utc` does.
+abbrev pub minuteOf : List ℕ → ℤ
+minuteOf [] = pos 0
+minuteOf (y ∷ []) = pos 0
+minuteOf (y ∷ m ∷ []) = pos 0
+minuteOf (y ∷ m ∷ d ∷ []) = pos 0
+minuteOf (y ∷ m ∷ d ∷ h ∷ []) = pos 0
+minuteOf (y ∷ m ∷ d ∷ h ∷ i ∷ r) = pos (minuteNumber y m d h i)
 
 -- ---- check 7: the rules for local fields, offset and fraction
 

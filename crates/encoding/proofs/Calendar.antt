@@ -1,0 +1,235 @@
+-- UTC is local minus offset: the day before and the day after are real days, one day number away, and the minutes counted through the calendar
+-- differ by the offset. Assumes nothing.
+use Prim.Native.Nat.{ℕ, zero, suc, _+_, _-_, _*_, _/_, _%_, _<_, _≤_}
+use native.Mathlib.Omega.{arith}
+use native.Mathlib.Numerals.{add-one}
+use mathlib.Core.Path.{_≡_, refl, sym, _∙_, ap}
+use mathlib.Core.Bool.{Bool, true, false, false≢true, cond, _&&_}
+use mathlib.Core.List.{List, [], _∷_}
+use mathlib.Core.Option.{some}
+use lib.Dec.{ltb, leb}
+use lib.ListN.{length, getD}
+use lib.IntN.{ℤ, pos, negsuc, _-ℤ_}
+use borrow.Author.Tests.{ltb-true, ltb-false, leb-true, le-ltb}
+use Rattle.ion.specs.Value.{Fraction}
+use Rattle.ion.specs.Calendar.{isLeapYear, daysInMonth, isMonth, isDay, daysBeforeMonth, daysBeforeYear, dayNumber, minuteNumber}
+use Rattle.ion.specs.Scalars.{areFields}
+use Rattle.ion.proofs.Tests.{by-cases, both}
+use Rattle.encoding.specs.Timestamp.{Date, date, dayBefore, dayAfter, nearDay, utcMinutes, utc, isLocalYear, offsetFits, isTimestamp, fieldsAt, minuteOf}
+
+-- ---- real days
+
+pub record RealDay (y m d : ℕ) : Type 0 where
+  pub year : y ≤ 10000
+  pub month-least : 1 ≤ m
+  pub month-most : m ≤ 12
+  pub day-least : 1 ≤ d
+  pub day-most : d ≤ daysInMonth y m
+
+abbrev pub RealDate : Date → Type 0
+RealDate (date y m d) = RealDay y m d
+
+pub real-of : (y m d : ℕ) → leb y 10000 ≡ true → isDay y m d ≡ true → RealDay y m d
+real-of y m d e f =
+    let a = both {a = isMonth m} f in
+    let b = both {a = leb 1 m} (a .0) in
+    let c = both {a = leb 1 d} (a .1) in
+    record { year = leb-true y 10000 e; month-least = leb-true 1 m (b .0); month-most = leb-true m 12 (b .1); day-least = leb-true 1 d (c .0); day-most = leb-true d (daysInMonth y m) (c .1) }
+
+-- what holds of each entry of a table holds at an index of it
+allHold : (ℕ → Bool) → List ℕ → Bool
+allHold p [] = true
+allHold p (x ∷ xs) = p x && allHold p xs
+
+holds-at : (p : ℕ → Bool) (l : List ℕ) (i : ℕ) → allHold p l ≡ true → i < length l → p (getD l i 0) ≡ true
+unfolding allHold
+holds-at p [] i e h = absurd (none i h)
+  where
+    none : (k : ℕ) → k < 0 → ⊥
+    none k q = omega arith
+holds-at p (x ∷ xs) zero e h = both {a = p x} e .0
+holds-at p (x ∷ xs) (suc i) e h = holds-at p xs i (both {a = p x} e .1) (omega arith)
+
+abbrev inMonth : ℕ → Bool
+inMonth d = leb 28 d && leb d 31
+
+-- a month has 28 to 31 days
+days-range : (y m : ℕ) → 1 ≤ m → m ≤ 12 → (28 ≤ daysInMonth y m) × (daysInMonth y m ≤ 31)
+days-range y zero h k = absurd (none h)
+  where
+    none : 1 ≤ 0 → ⊥
+    none q = omega arith
+days-range y (suc m) h k = of-table (cond (isLeapYear y) 29 28) (february (isLeapYear y))
+  where
+    february : (leap : Bool) → inMonth (cond leap 29 28) ≡ true
+    february true = refl
+    february false = refl
+
+    of-table : (feb : ℕ) → inMonth feb ≡ true → (28 ≤ getD (31 ∷ feb ∷ 31 ∷ 30 ∷ 31 ∷ 30 ∷ 31 ∷ 31 ∷ 30 ∷ 31 ∷ 30 ∷ 31 ∷ []) m 0) × (getD (31 ∷ feb ∷ 31 ∷ 30 ∷ 31 ∷ 30 ∷ 31 ∷ 31 ∷ 30 ∷ 31 ∷ 30 ∷ 31 ∷ []) m 0 ≤ 31)
+    of-table feb e =
+        let l : List ℕ = 31 ∷ feb ∷ 31 ∷ 30 ∷ 31 ∷ 30 ∷ 31 ∷ 31 ∷ 30 ∷ 31 ∷ 30 ∷ 31 ∷ [] in
+        let q = both {a = leb 28 (getD l m 0)} (holds-at inMonth l m (unfold allHold in rw e) (omega arith)) in
+        (leb-true 28 (getD l m 0) (q .0), leb-true (getD l m 0) 31 (q .1))
+
+pub month-days : (y m : ℕ) → 1 ≤ m → m ≤ 12 → daysInMonth y m ≤ 31
+month-days y m h k = days-range y m h k .1
+
+before-real : (y m d : ℕ) → 1 ≤ y → RealDay y m d → RealDate (dayBefore y m d)
+unfolding dayBefore
+before-real y m d h g =
+    by-cases (ltb 1 d)
+    (λ p. let q : 1 < d = ltb-true 1 d p in rw (p, dayBefore) (record { year = g .year; month-least = g .month-least; month-most = g .month-most; day-least = omega arith; day-most = omega (arith, g .day-most) }))
+    (λ p. by-cases (ltb 1 m)
+    (λ q.
+    let r : 1 < m = ltb-true 1 m q in
+    let n = days-range y (m - 1) (omega arith) (omega (arith, g .month-most)) in
+    rw (p, dayBefore, q) (record { year = g .year; month-least = omega arith; month-most = omega (arith, g .month-most); day-least = omega (arith, n .0); day-most = omega arith }))
+    (λ q. rw (p, dayBefore, q) (record { year = omega (arith, g .year); month-least = omega arith; month-most = omega arith; day-least = omega arith; day-most = omega arith })))
+
+after-real : (y m d : ℕ) → y ≤ 9999 → RealDay y m d → RealDate (dayAfter y m d)
+unfolding dayAfter
+after-real y m d h g =
+    by-cases (ltb d (daysInMonth y m))
+    (λ p. let q : d < daysInMonth y m = ltb-true d (daysInMonth y m) p in rw (p, dayAfter) (record { year = g .year; month-least = g .month-least; month-most = g .month-most; day-least = omega arith; day-most = omega arith }))
+    (λ p. by-cases (ltb m 12)
+    (λ q.
+    let r : m < 12 = ltb-true m 12 q in
+    let n = days-range y (m + 1) (omega arith) (omega arith) in
+    rw (p, dayAfter, q) (record { year = g .year; month-least = omega arith; month-most = omega arith; day-least = omega arith; day-most = omega (arith, n .0) }))
+    (λ q. rw (p, dayAfter, q) (record { year = omega arith; month-least = omega arith; month-most = omega arith; day-least = omega arith; day-most = omega arith })))
+
+pub near-real : (k y m d : ℕ) → 1 ≤ y → y ≤ 9999 → RealDay y m d → RealDate (nearDay k y m d)
+near-real zero y m d a b g = before-real y m d a g
+near-real (suc zero) y m d a b g = g
+near-real (suc (suc k)) y m d a b g = after-real y m d b g
+
+-- ---- day numbers
+
+abbrev numberOf : Date → ℕ
+numberOf (date y m d) = dayNumber y m d
+
+month-next : (y m : ℕ) → daysBeforeMonth y (m + 1) ≡ daysBeforeMonth y m + daysInMonth y m
+unfolding daysBeforeMonth
+month-next y m = rw (add-one m)
+
+month-first : (y : ℕ) → daysBeforeMonth y 1 ≡ 0
+unfolding daysBeforeMonth
+month-first y = refl
+
+year-next : (y : ℕ) → daysBeforeYear (y + 1) ≡ daysBeforeYear y + daysBeforeMonth y 13
+unfolding daysBeforeYear
+year-next y = rw (add-one y)
+
+after-number : (y m d : ℕ) → RealDay y m d → numberOf (dayAfter y m d) ≡ suc (dayNumber y m d)
+unfolding dayAfter dayNumber
+after-number y m d g =
+    by-cases (ltb d (daysInMonth y m))
+    (λ p. rw (p, dayAfter) (omega arith))
+    (λ p.
+    let q : d ≡ daysInMonth y m = omega (arith, g .day-most, ltb-false d (daysInMonth y m) p) in
+    by-cases (ltb m 12)
+    (λ r. rw (p, dayAfter, r) (omega (arith, month-next y m)))
+    (λ r.
+    let e : m ≡ 12 = omega (arith, g .month-most, ltb-false m 12 r) in
+    let a : daysBeforeMonth y m ≡ daysBeforeMonth y 12 = ap (daysBeforeMonth y) e in
+    let b : d ≡ 31 = q ∙ ap (daysInMonth y) e in
+    rw (p, dayAfter, r) (omega (arith, year-next y, month-next y 12, month-first (y + 1), a, b))))
+
+before-number : (y m d : ℕ) → 1 ≤ y → RealDay y m d → suc (numberOf (dayBefore y m d)) ≡ dayNumber y m d
+unfolding dayBefore dayNumber
+before-number y m d h g =
+    by-cases (ltb 1 d)
+    (λ p. let q : 1 < d = ltb-true 1 d p in rw (p, dayBefore) (omega arith))
+    (λ p.
+    let q : d ≡ 1 = omega (arith, g .day-least, ltb-false 1 d p) in
+    by-cases (ltb 1 m)
+    (λ r.
+    let l : 1 < m = ltb-true 1 m r in
+    let e : m - 1 + 1 ≡ m = omega arith in
+    let a : daysBeforeMonth y m ≡ daysBeforeMonth y (m - 1) + daysInMonth y (m - 1) = ap (daysBeforeMonth y) (sym e) ∙ month-next y (m - 1) in
+    rw (p, dayBefore, r) (omega arith))
+    (λ r.
+    let f : m ≡ 1 = omega (arith, g .month-least, ltb-false 1 m r) in
+    let e : y - 1 + 1 ≡ y = omega arith in
+    let a : daysBeforeYear y ≡ daysBeforeYear (y - 1) + daysBeforeMonth (y - 1) 13 = ap daysBeforeYear (sym e) ∙ year-next (y - 1) in
+    let b : daysBeforeMonth y m ≡ 0 = ap (daysBeforeMonth y) f ∙ month-first y in
+    rw (p, dayBefore, r) (omega (arith, month-next (y - 1) 12))))
+
+near-number : (k y m d : ℕ) → 1 ≤ y → RealDay y m d → k ≤ 2 → suc (numberOf (nearDay k y m d)) ≡ dayNumber y m d + k
+near-number zero y m d h g k = before-number y m d h g ∙ omega arith
+near-number (suc zero) y m d h g k = omega arith
+near-number (suc (suc zero)) y m d h g k = ap suc (after-number y m d g) ∙ omega arith
+near-number (suc (suc (suc n))) y m d h g k = absurd (many n k)
+  where
+    many : (j : ℕ) → suc (suc (suc j)) ≤ 2 → ⊥
+    many j q = omega arith
+
+-- ---- minutes
+
+abbrev minuteAt : Date → ℕ → ℕ
+minuteAt x t = numberOf x * 1440 + t % 1440
+
+-- t minutes from the start of the day before are the minute t % 1440 of the day t / 1440
+near-minute : (t y m d : ℕ) → 1 ≤ y → RealDay y m d → t < 4320 → minuteAt (nearDay (t / 1440) y m d) t + 1440 ≡ dayNumber y m d * 1440 + t
+near-minute t y m d h g lt =
+    let e : suc (numberOf (nearDay (t / 1440) y m d)) ≡ dayNumber y m d + t / 1440 = near-number (t / 1440) y m d h g (omega arith) in
+    omega (arith, e)
+
+fields-minute : (x : Date) (t : ℕ) (r : List ℕ) → minuteOf (fieldsAt x t r) ≡ pos (minuteAt x t)
+unfolding minuteNumber
+fields-minute (date y m d) t r = ap pos (omega arith)
+
+-- u is a minute of the calendar that lies local minus offset from the same day's start
+minus-offset : (z : ℤ) (n h i u : ℕ) (fs : List ℕ) → offsetFits (some z) fs ≡ true → 1440 ≤ n → u + 1440 ≡ n + utcMinutes z h i → pos u ≡ pos (n + (h * 60 + i)) -ℤ z
+minus-offset (pos zero) n h i u fs f big e = ap pos (omega arith)
+minus-offset (pos (suc k)) n h i u fs f big e =
+    let le : suc k ≤ 1439 = leb-true (suc k) 1439 (both {a = leb 5 (length fs)} f .1) in
+    rw (le-ltb (n + (h * 60 + i)) (suc k) (omega arith)) (ap pos (omega arith))
+minus-offset (negsuc k) n h i u fs f big e = ap pos (omega arith)
+
+within-days : (z : ℤ) (h i : ℕ) (fs : List ℕ) → offsetFits (some z) fs ≡ true → h < 24 → i < 60 → utcMinutes z h i < 4320
+within-days (pos k) h i fs f p q = omega arith
+within-days (negsuc k) h i fs f p q = let le : suc k ≤ 1439 = leb-true (suc k) 1439 (both {a = leb 5 (length fs)} f .1) in omega arith
+
+-- the parts of check 7 that fields with a minute pass
+pub record WithMinute (y m d h i : ℕ) : Type 0 where
+  pub real : RealDay y m d
+  pub hour : h < 24
+  pub minute : i < 60
+
+pub with-minute : (y m d h i : ℕ) (r : List ℕ) → areFields (y ∷ m ∷ d ∷ h ∷ i ∷ r) ≡ true → WithMinute y m d h i
+unfolding areFields
+with-minute y m d h i [] e =
+    let a = both {a = leb y 10000} e in
+    let b = both {a = isDay y m d} (a .1) in
+    let c = both {a = ltb h 24} (b .1) in
+    record { real = real-of y m d (a .0) (b .0); hour = ltb-true h 24 (c .0); minute = ltb-true i 60 (c .1) }
+with-minute y m d h i (s ∷ []) e =
+    let a = both {a = leb y 10000} e in
+    let b = both {a = isDay y m d} (a .1) in
+    let c = both {a = ltb h 24} (b .1) in
+    record { real = real-of y m d (a .0) (b .0); hour = ltb-true h 24 (c .0); minute = ltb-true i 60 (both {a = ltb i 60} (c .1) .0) }
+with-minute y m d h i (s ∷ x ∷ r) e = absurd (false≢true e)
+
+pub local-year : (y : ℕ) (r : List ℕ) → isLocalYear (y ∷ r) ≡ true → (1 ≤ y) × (y ≤ 9999)
+local-year y r e = let a = both {a = leb 1 y} e in (leb-true 1 y (a .0), leb-true y 9999 (a .1))
+
+-- the first day of the year 0 has the number one, so every minute has a day before it
+day-positive : (y m d : ℕ) → RealDay y m d → 1440 ≤ dayNumber y m d * 1440
+unfolding dayNumber
+day-positive y m d g = omega (arith, g .day-least)
+
+-- UTC is local minus offset, of every timestamp that passes check 7 and has a minute; the seconds stay.
+pub utc-is-local-minus-offset : (z : ℤ) (y m d h i : ℕ) (r : List ℕ) (x : Fraction) → isTimestamp (some z) (y ∷ m ∷ d ∷ h ∷ i ∷ r) x ≡ true
+    → minuteOf (utc (some z) (y ∷ m ∷ d ∷ h ∷ i ∷ r)) ≡ minuteOf (y ∷ m ∷ d ∷ h ∷ i ∷ r) -ℤ z
+unfolding isTimestamp
+utc-is-local-minus-offset z y m d h i r x e =
+    let a = both {a = areFields (y ∷ m ∷ d ∷ h ∷ i ∷ r)} e in
+    let b = both {a = isLocalYear (y ∷ m ∷ d ∷ h ∷ i ∷ r)} (a .1) in
+    let o = both {a = offsetFits (some z) (y ∷ m ∷ d ∷ h ∷ i ∷ r)} (b .1) .0 in
+    let w = with-minute y m d h i r (a .0) in
+    let t = utcMinutes z h i in
+    let q = near-minute t y m d (local-year y (m ∷ d ∷ h ∷ i ∷ r) (b .0) .0) (w .real) (within-days z h i (y ∷ m ∷ d ∷ h ∷ i ∷ r) o (w .hour) (w .minute)) in
+    fields-minute (nearDay (t / 1440) y m d) t r
+    ∙ minus-offset z (dayNumber y m d * 1440) h i (minuteAt (nearDay (t / 1440) y m d) t) (y ∷ m ∷ d ∷ h ∷ i ∷ r) o (day-positive y m d (w .real)) q
+    ∙ unfold minuteNumber in refl

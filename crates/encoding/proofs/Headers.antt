@@ -1,0 +1,70 @@
+-- Headers, annotations and containers that the writer puts are those of the grammar.
+-- Assumes nothing.
+use Prim.Native.Nat.{ℕ, _+_, _*_, _^_, _<_, _≤_}
+use native.Mathlib.Omega.{arith}
+use mathlib.Core.Path.{_≡_}
+use mathlib.Core.List.{List, [], _∷_, _++_, append-assoc}
+use mathlib.Core.Option.{some}
+use lib.Dec.{ltb}
+use lib.ListN.{length, length-append}
+use borrow.Author.Tests.{ltb-true}
+use Rattle.ion.specs.Value.{TypeCode, structCode, annotationCode, code, sequenceCode, Scalar, SequenceType, Value, scalar, sequence, struct, Members, Fields}
+use Rattle.ion.specs.Scalars.{scalarOf}
+use Rattle.ion.specs.Grammar.{Header, short, long, sids, bare, one, members, fields, _⟶_, sids-end, sids-next, is-scalar, is-sequence, is-struct, is-bare, is-annotated}
+use Rattle.ion.proofs.Tests.{by-cases}
+use Rattle.encoding.specs.Fields.{varUIntBytes, varUIntsBytes, AllU64}
+use Rattle.encoding.specs.Headers.{typeByte, headerBytes, framedBytes, annotationBytes, annotatedBytes}
+use Rattle.encoding.proofs.Fields.{varUIntBytes-reads}
+
+pub headerBytes-is : (c : TypeCode) (n : ℕ) → n < 2 ^ 64 → Header c n (headerBytes (typeByte c) n)
+unfolding headerBytes
+headerBytes-is c n h =
+    by-cases (ltb n 14)
+    (λ p. rw (p, headerBytes) (short (ltb-true n 14 p)))
+    (λ p. rw (p, headerBytes) (long (varUIntBytes-reads n h)))
+
+pub framed-longer : (t : ℕ) (body : List ℕ) → length body ≤ length (framedBytes t body)
+unfolding framedBytes
+framed-longer t body = simp length-append (omega arith)
+
+-- ---- what a framed body stands for
+
+pub scalar-reads : (an : List ℕ) (c : TypeCode) (body : List ℕ) (s : Scalar) → length body < 2 ^ 64 → scalarOf c body ≡ some s → framedBytes (typeByte c) body ⟶ bare an (scalar an s)
+unfolding framedBytes
+scalar-reads an c body s h e = is-scalar c body (headerBytes-is c (length body) h) e
+
+pub sequence-reads : (an body : List ℕ) (k : SequenceType) (vs : Members Scalar) → length body < 2 ^ 64 → body ⟶ members vs → framedBytes (typeByte (sequenceCode k)) body ⟶ bare an (sequence an k vs)
+unfolding framedBytes
+sequence-reads an body k vs h r = is-sequence k (headerBytes-is (sequenceCode k) (length body) h) r
+
+pub struct-reads : (an body : List ℕ) (fs : Fields Scalar) → length body < 2 ^ 64 → body ⟶ fields fs → framedBytes (typeByte structCode) body ⟶ bare an (struct an fs)
+unfolding framedBytes
+struct-reads an body fs h r = is-struct (headerBytes-is structCode (length body) h) r
+
+-- ---- annotations
+
+sids-reads : (an : List ℕ) → AllU64 an → varUIntsBytes an ⟶ sids an
+unfolding varUIntsBytes
+sids-reads [] h = sids-end
+sids-reads (a ∷ an) h = sids-next (varUIntBytes a) (varUIntBytes-reads a (h .0)) (sids-reads an (h .1))
+
+wrapper-reads : (a : ℕ) (an b : List ℕ) (v : Value) → AllU64 (a ∷ an) → length (annotationBytes (a ∷ an) ++ b) < 2 ^ 64 → b ⟶ bare (a ∷ an) v
+    → framedBytes (typeByte annotationCode) (annotationBytes (a ∷ an) ++ b) ⟶ one v
+unfolding framedBytes annotationBytes
+wrapper-reads a an b v h lt r =
+    let s = varUIntsBytes (a ∷ an) in
+    let l = varUIntBytes (length s) in
+    let e : (l ++ s) ++ b ≡ l ++ (s ++ b) = append-assoc l s b in
+    let n : length (l ++ (s ++ b)) < 2 ^ 64 = rw e at lt in
+    let m : length s < 2 ^ 64 = omega (arith, length-append l (s ++ b), length-append s b) in
+    rw e (is-annotated l (headerBytes-is annotationCode (length (l ++ (s ++ b))) n) (varUIntBytes-reads (length s) m) (sids-reads (a ∷ an) h) r)
+
+pub annotated-reads : (an b : List ℕ) (v : Value) → AllU64 an → length (annotatedBytes an b) < 2 ^ 64 → b ⟶ bare an v → annotatedBytes an b ⟶ one v
+unfolding annotatedBytes
+annotated-reads [] b v h lt r = is-bare r
+annotated-reads (a ∷ an) b v h lt r = wrapper-reads a an b v h (omega (arith, framed-longer (typeByte annotationCode) (annotationBytes (a ∷ an) ++ b))) r
+
+pub annotated-longer : (an b : List ℕ) → length b ≤ length (annotatedBytes an b)
+unfolding annotatedBytes
+annotated-longer [] b = omega arith
+annotated-longer (a ∷ an) b = omega (arith, framed-longer (typeByte annotationCode) (annotationBytes (a ∷ an) ++ b), length-append (annotationBytes (a ∷ an)) b)

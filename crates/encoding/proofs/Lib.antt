@@ -1,0 +1,8 @@
+pub mod Digits
+pub mod Fields
+pub mod Headers
+pub mod Decimal
+pub mod Calendar
+pub mod Timestamp
+pub mod Argument
+pub mod Stream
