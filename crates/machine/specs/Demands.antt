@@ -54,10 +54,9 @@ written cs buffer = modelAfter (λ a. a) cs (started buffer) startedModel .items
 
 -- ---- the demands
 
--- An accepted start, arguments of their types, and no container open at the end.
+-- An accepted start, and no container open at the end.
 pub record Run (cs : List Call) (buffer : List ℕ) : Type 0 where
   pub starts : startAnswer buffer ≡ accepted
-  pub typed : AllTyped cs
   pub ends : afterAll cs (started buffer) .state .depth ≡ 0
 
 -- The joined bytes are those of what was written.
@@ -69,6 +68,6 @@ pub record ReadsOnlyAs (bytes : List ℕ) (is : List (Item Scalar)) : Type 0 whe
   pub reading : Reads bytes is
   pub only : (x : List (Item Scalar)) → Reads bytes x → x ≡ is
 
--- The joined bytes read as what was spelled, and as nothing else.
+-- Of calls with arguments of their types, the joined bytes read as what was spelled, and as nothing else.
 abbrev pub Demand3 : Type 0
-Demand3 = (cs : List Call) (buffer : List ℕ) → Run cs buffer → ReadsOnlyAs (joined cs (started buffer)) (spelled cs buffer)
+Demand3 = (cs : List Call) (buffer : List ℕ) → Run cs buffer → AllTyped cs → ReadsOnlyAs (joined cs (started buffer)) (spelled cs buffer)

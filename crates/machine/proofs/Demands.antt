@@ -1,0 +1,103 @@
+-- Demands 2 and 3: by induction over the list of calls, the invariant and the writable model go through every call, refused ones included.
+-- Assumes nothing.
+use Prim.Native.Nat.{ℕ, zero, suc, _+_, _<_, _≤_}
+use native.Mathlib.Omega.{arith}
+use mathlib.Core.Path.{_≡_, refl, sym, _∙_, ap}
+use mathlib.Core.Bool.{Bool, true, false, _&&_}
+use mathlib.Core.List.{List, [], _∷_, _++_, append-assoc, append-nil}
+use lib.Dec.{ltb}
+use lib.ListN.{length, replicate}
+use borrow.Author.Tests.{ltb-false}
+use Rattle.ion.specs.Value.{Item, marker}
+use Rattle.ion.specs.Grammar.{Reads}
+use Rattle.ion.proofs.Unique.{reads-unique}
+use Rattle.encoding.specs.Headers.{markerBytes}
+use Rattle.encoding.specs.Argument.{Argument}
+use Rattle.encoding.specs.Stream.{streamBytes, WritableItems}
+use Rattle.encoding.proofs.Stream.{streamBytes-reads}
+use Rattle.machine.specs.Call.{Call, TypedCall, AllTyped}
+use Rattle.machine.specs.Machine.{Config, innermostFirst, openContainers, isOpen, effect, longestBuffer, checks, Answer, accepted, refused, answer, isAccepted, ifAccepted, after, emptyState, startAnswer, started, splice, partOf, taken}
+use Rattle.machine.specs.Model.{Model, modelStep, startedModel}
+use Rattle.machine.specs.Demands.{afterAll, isEmptying, flushed, joined, modelAfter, spelled, written, Run, Demand2, ReadsOnlyAs, Demand3}
+use Rattle.machine.proofs.Invariant.{WritableOf}
+use Rattle.machine.proofs.Splice.{take-splice, length-splice}
+use Rattle.machine.proofs.Steps.{none-failing, Invariant, taken-whole, accepted-keeps, accepted-writable}
+use Rattle.machine.proofs.Meaning.{spelled-is}
+
+abbrev stepArguments : Call → Config → Model Argument → Model Argument
+stepArguments c w x = modelStep (λ a. a) c (isAccepted (answer c w)) x
+
+and-yes : (b : Bool) → (b && true) ≡ b
+and-yes true = refl
+and-yes false = refl
+
+and-no : (b : Bool) → (b && false) ≡ false
+and-no true = refl
+and-no false = refl
+
+-- ---- one call, accepted or refused
+
+call-keeps : (done : List ℕ) (w : Config) (x : Model Argument) (c : Call) → Invariant done w x → Invariant (done ++ flushed c w) (after c w) (stepArguments c w x)
+call-keeps done w x c inv = by-answer (answer c w) refl
+  where
+    by-answer : (a : Answer) → answer c w ≡ a → Invariant (done ++ partOf (isEmptying c && isAccepted a) (taken w)) (ifAccepted a (effect c w) w) (modelStep (λ a. a) c (isAccepted a) x)
+    by-answer accepted e = rw and-yes (accepted-keeps done w x c inv (none-failing (checks c w) (unfold answer in e)))
+    by-answer (refused n) e = rw (and-no, append-nil) inv
+
+call-writable : (done : List ℕ) (w : Config) (x : Model Argument) (c : Call) → Invariant done w x → TypedCall c → WritableOf x → WritableOf (stepArguments c w x)
+call-writable done w x c inv t o = by-answer (answer c w) refl
+  where
+    by-answer : (a : Answer) → answer c w ≡ a → WritableOf (modelStep (λ a. a) c (isAccepted a) x)
+    by-answer accepted e = accepted-writable done w x c inv (none-failing (checks c w) (unfold answer in e)) t o
+    by-answer (refused n) e = o
+
+-- ---- a list of calls
+
+none-left : (w : Config) → w .state .depth ≡ 0 → isOpen (openContainers w) ≡ false
+none-left w e = rw e
+
+joined-is : (cs : List Call) (done : List ℕ) (w : Config) (x : Model Argument) → Invariant done w x → afterAll cs w .state .depth ≡ 0 → done ++ joined cs w ≡ streamBytes ((modelAfter (λ a. a) cs w x) .items)
+unfolding joined modelAfter afterAll
+joined-is [] done w x inv e = taken-whole done w x inv (none-left w e)
+joined-is (c ∷ cs) done w x inv e = rw (← (append-assoc done (flushed c w) (joined cs (after c w)))) (joined-is cs (done ++ flushed c w) (after c w) (stepArguments c w x) (call-keeps done w x c inv) e)
+
+all-writable : (cs : List Call) (done : List ℕ) (w : Config) (x : Model Argument) → Invariant done w x → AllTyped cs → WritableOf x → WritableItems ((modelAfter (λ a. a) cs w x) .items)
+unfolding modelAfter
+all-writable [] done w x inv t o = o .items
+all-writable (c ∷ cs) done w x inv t o = all-writable cs (done ++ flushed c w) (after c w) (stepArguments c w x) (call-keeps done w x c inv) (t .1) (call-writable done w x c inv (t .0) o)
+
+-- ---- the start
+
+start-keeps : (b : List ℕ) → startAnswer b ≡ accepted → Invariant [] (started b) startedModel
+unfolding streamBytes
+start-keeps b e =
+    let h = none-failing ((ltb longestBuffer (length b), 1) ∷ (ltb (length b) 4, 10) ∷ []) (unfold startAnswer in e) in
+    let short : length b ≤ longestBuffer = ltb-false longestBuffer (length b) (h .0) in
+    let room : 4 ≤ length b = ltb-false (length b) 4 (h .1 .0) in
+    let l : length (splice 0 0 markerBytes b) ≡ length b = length-splice 0 0 markerBytes b (omega arith) (omega arith) (omega arith) in
+    rw e (record {
+      fit = omega arith;
+      short = omega arith;
+      flag = refl;
+      records = refl;
+      layout = record {
+        base = markerBytes;
+        whole = refl;
+        shown = take-splice 0 0 markerBytes b (omega arith);
+        placed = refl;
+        aside = tt;
+        waits = refl;
+      };
+    })
+
+-- ---- the demands
+
+pub demand2 : Demand2
+demand2 cs b r = joined-is cs [] (started b) startedModel (start-keeps b (r .starts)) (r .ends)
+
+pub demand3 : Demand3
+demand3 cs b r t =
+    let inv = start-keeps b (r .starts) in
+    let ok : WritableItems (written cs b) = all-writable cs [] (started b) startedModel inv t (record { items = (tt, tt); stack = tt; name = tt }) in
+    let reads : Reads (joined cs (started b)) (spelled cs b) = rw (spelled-is cs b, demand2 cs b r) (streamBytes-reads (written cs b) ok) in
+    record { reading = reads; only = λ y p. reads-unique (joined cs (started b)) y (spelled cs b) p reads }

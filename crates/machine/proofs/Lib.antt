@@ -1,0 +1,6 @@
+pub mod Growth
+pub mod Invariant
+pub mod Splice
+pub mod Steps
+pub mod Meaning
+pub mod Demands
