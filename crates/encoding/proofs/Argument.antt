@@ -1,20 +1,19 @@
 -- The bytes of a scalar call stand for the value that its arguments name.
 -- Assumes nothing.
-use Prim.Native.Nat.{ℕ, zero, suc, _+_, _^_, _<_, _≤_}
+use Prim.Native.Nat.{ℕ, zero, suc, _^_, _<_}
 use native.Mathlib.Omega.{arith}
 use mathlib.Core.Path.{_≡_, refl, sym, _∙_, ap, subst}
-use mathlib.Core.Bool.{Bool, true, false, true≢false, _&&_, not}
+use mathlib.Core.Bool.{true, false, true≢false, not}
 use mathlib.Core.List.{List, [], _∷_}
 use mathlib.Core.Option.{some}
 use lib.Dec.{T, eqb, ltb}
 use lib.ListN.{length}
-use lib.IntN.{ℤ, pos, negsuc, negℤ}
+use lib.IntN.{pos, negsuc, negℤ}
 use lib.Ieee.{binary32, binary64, ofBits, toBits, isNan}
 use lib.Ieee.{fits as holds}
 use lib.Ieee.Bits.{ofBits-toBits, toBits-lt}
 use borrow.Author.Tests.{ltb-false, eqb-true, not-false, lt-ltb}
 use Rattle.ion.specs.Value.{IonType, ionNull, ionBool, ionInt, ionFloat, ionDecimal, ionTimestamp, ionSymbol, ionString, ionClob, ionBlob, ionList, ionSexp, ionStruct, positiveCode, negativeCode, decimalCode, timestampCode, symbolCode, stringCode, clobCode, blobCode, nullType, FloatValue, finite, signed, int, float, decimal, timestamp, symbol, string, clob, blob, scalar}
-use Rattle.ion.specs.Chain.{check}
 use Rattle.ion.specs.Fields.{uint}
 use Rattle.ion.specs.Text.{utf8}
 use Rattle.ion.specs.Scalars.{intOf, floatValue, floatOf, scalarOf}

@@ -3,7 +3,7 @@
 use Prim.Native.Nat.{ℕ, zero, suc, _+_, _-_, _*_, _/_, _%_, _<_, _≤_}
 use native.Mathlib.Omega.{arith}
 use native.Mathlib.Numerals.{add-one}
-use mathlib.Core.Path.{_≡_, refl, sym, _∙_, ap}
+use mathlib.Core.Path.{_≡_, refl, sym, _∙_, ap, subst}
 use mathlib.Core.Bool.{Bool, true, false, false≢true, cond, _&&_}
 use mathlib.Core.List.{List, [], _∷_}
 use mathlib.Core.Option.{some}
@@ -233,3 +233,62 @@ utc-is-local-minus-offset z y m d h i r x e =
     fields-minute (nearDay (t / 1440) y m d) t r
     ∙ minus-offset z (dayNumber y m d * 1440) h i (minuteAt (nearDay (t / 1440) y m d) t) (y ∷ m ∷ d ∷ h ∷ i ∷ r) o (day-positive y m d (w .real)) q
     ∙ unfold minuteNumber in refl
+
+-- ---- no other minute of the calendar has the same number, so the theorem leaves `utc` no choice
+
+month-later : (y m k : ℕ) → daysBeforeMonth y m ≤ daysBeforeMonth y (m + k)
+unfolding daysBeforeMonth
+month-later y m zero = let e : m + 0 ≡ m = omega arith in rw e (omega arith)
+month-later y m (suc k) = let e : m + suc k ≡ suc (m + k) = omega arith in rw e (omega (arith, month-later y m k))
+
+year-later : (y k : ℕ) → daysBeforeYear y ≤ daysBeforeYear (y + k)
+unfolding daysBeforeYear
+year-later y zero = let e : y + 0 ≡ y = omega arith in rw e (omega arith)
+year-later y (suc k) = let e : y + suc k ≡ suc (y + k) = omega arith in rw e (omega (arith, year-later y k))
+
+month-order : (y m d m′ d′ : ℕ) → RealDay y m d → RealDay y m′ d′ → m < m′ → dayNumber y m d < dayNumber y m′ d′
+unfolding dayNumber
+month-order y m d m′ d′ g g′ lt =
+    let e : m + 1 + (m′ - (m + 1)) ≡ m′ = omega arith in
+    let a : daysBeforeMonth y (m + 1) ≤ daysBeforeMonth y m′ = rw e at (month-later y (m + 1) (m′ - (m + 1))) in
+    omega (arith, month-next y m, g .day-most, g′ .day-least)
+
+in-year : (y m d : ℕ) → RealDay y m d → daysBeforeMonth y m + d ≤ daysBeforeMonth y 13
+in-year y m d g =
+    let e : m + 1 + (12 - m) ≡ 13 = omega (arith, g .month-most) in
+    let a : daysBeforeMonth y (m + 1) ≤ daysBeforeMonth y 13 = rw e at (month-later y (m + 1) (12 - m)) in
+    omega (arith, month-next y m, g .day-most)
+
+year-order : (y m d y′ m′ d′ : ℕ) → RealDay y m d → RealDay y′ m′ d′ → y < y′ → dayNumber y m d < dayNumber y′ m′ d′
+unfolding dayNumber
+year-order y m d y′ m′ d′ g g′ lt =
+    let e : y + 1 + (y′ - (y + 1)) ≡ y′ = omega arith in
+    let a : daysBeforeYear (y + 1) ≤ daysBeforeYear y′ = rw e at (year-later (y + 1) (y′ - (y + 1))) in
+    omega (arith, year-next y, in-year y m d g, g′ .day-least)
+
+-- two numbers that neither order
+same-number : (m n : ℕ) → (m < n → ⊥) → (n < m → ⊥) → m ≡ n
+same-number m n p q = by-cases (ltb m n) (λ e. absurd (p (ltb-true m n e))) (λ e. by-cases (ltb n m) (λ f. absurd (q (ltb-true n m f))) (λ f. omega (arith, ltb-false m n e, ltb-false n m f)))
+
+day-order : (y m d d′ : ℕ) → dayNumber y m d ≡ dayNumber y m d′ → d ≡ d′
+unfolding dayNumber
+day-order y m d d′ e = omega arith
+
+unique-in-year : (y m d m′ d′ : ℕ) → RealDay y m d → RealDay y m′ d′ → dayNumber y m d ≡ dayNumber y m′ d′ → (m ≡ m′) × (d ≡ d′)
+unique-in-year y m d m′ d′ g g′ e =
+    let b : m ≡ m′ = same-number m m′ (λ l. omega (arith, month-order y m d m′ d′ g g′ l)) (λ l. omega (arith, month-order y m′ d′ m d g′ g l)) in
+    (b, day-order y m d d′ (e ∙ ap (λ (k : ℕ). dayNumber y k d′) (sym b)))
+
+pub day-unique : (y m d y′ m′ d′ : ℕ) → RealDay y m d → RealDay y′ m′ d′ → dayNumber y m d ≡ dayNumber y′ m′ d′ → (y ≡ y′) × (m ≡ m′) × (d ≡ d′)
+day-unique y m d y′ m′ d′ g g′ e =
+    let a : y ≡ y′ = same-number y y′ (λ l. omega (arith, year-order y m d y′ m′ d′ g g′ l)) (λ l. omega (arith, year-order y′ m′ d′ y m d g′ g l)) in
+    let u = unique-in-year y m d m′ d′ g (subst (λ (k : ℕ). RealDay k m′ d′) (sym a) g′) (e ∙ ap (λ (k : ℕ). dayNumber k m′ d′) (sym a)) in
+    (a, u .0, u .1)
+
+pub minute-unique : (y m d h i y′ m′ d′ h′ i′ : ℕ) → WithMinute y m d h i → WithMinute y′ m′ d′ h′ i′ → minuteNumber y m d h i ≡ minuteNumber y′ m′ d′ h′ i′ → (y ≡ y′) × (m ≡ m′) × (d ≡ d′) × (h ≡ h′) × (i ≡ i′)
+unfolding minuteNumber
+minute-unique y m d h i y′ m′ d′ h′ i′ w w′ e =
+    let a : dayNumber y m d ≡ dayNumber y′ m′ d′ = omega (arith, w .hour, w .minute, w′ .hour, w′ .minute) in
+    let t : h * 60 + i ≡ h′ * 60 + i′ = omega arith in
+    let u = day-unique y m d y′ m′ d′ (w .real) (w′ .real) a in
+    (u .0, u .1, u .2, omega (arith, w .minute, w′ .minute), omega (arith, w .minute, w′ .minute))

@@ -1,9 +1,9 @@
 -- A decimal's body reads as its coefficient and exponent.
 -- Assumes nothing.
 use Prim.Native.Nat.{ℕ, zero, suc}
-use mathlib.Core.Path.{_≡_, refl, _∙_, ap}
+use mathlib.Core.Path.{_≡_, refl, _∙_}
 use mathlib.Core.Bool.{Bool, true, false, false≢true}
-use mathlib.Core.List.{List, [], _∷_, _++_, append-nil}
+use mathlib.Core.List.{List, [], _∷_, _++_}
 use mathlib.Core.Option.{some, Option·none-ne-some}
 use lib.IntN.{ℤ, pos, negsuc}
 use Rattle.ion.specs.Value.{Signed, signed, decimal}

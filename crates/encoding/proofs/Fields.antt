@@ -2,20 +2,19 @@
 -- Assumes nothing.
 use Prim.Native.Nat.{ℕ, zero, suc, _+_, _*_, _/_, _%_, _^_, _<_, _≤_}
 use native.Mathlib.Omega.{arith}
-use native.Mathlib.Nat.{div-add-mod', mod-lt, div-lt-iff-lt-mul, div-div-eq-div-mul, mul-comm, one-le-pow, pow-suc}
+use native.Mathlib.Nat.{div-add-mod', mod-lt, div-lt-iff-lt-mul, mul-comm, one-le-pow}
 use mathlib.Core.Path.{_≡_, refl, sym, _∙_, ap, subst}
 use mathlib.Core.Bool.{Bool, true, false}
 use mathlib.Core.List.{List, [], _∷_, _++_, append-assoc}
-use mathlib.Core.Option.{Option, none, some}
+use mathlib.Core.Option.{some}
 use lib.Dec.{ltb, leb, eqb}
-use lib.ListN.{length, length-append}
+use lib.ListN.{length}
 use lib.IntN.{ℤ, pos, negsuc}
 use borrow.Author.Tests.{ltb-true, lt-ltb, le-ltb, le-leb, lt-leb, eqb-true}
 use Rattle.ion.specs.Value.{signed}
-use Rattle.ion.specs.Chain.{check}
-use Rattle.ion.specs.Fields.{bigEndian, uint, intField, groups, inU64, varUInt, VarUInt, isI64, giveSign, isNegative, varInt}
+use Rattle.ion.specs.Fields.{bigEndian, uint, intField, groups, varUInt, VarUInt, isI64, giveSign, varInt}
 use Rattle.ion.proofs.Tests.{by-cases}
-use Rattle.encoding.specs.Digits.{lowDigits, digitCount, digits}
+use Rattle.encoding.specs.Digits.{lowDigits, digitCount}
 use Rattle.encoding.specs.Fields.{varUIntBytes, signBit, varIntGroups, varIntBytes, signedOf, uintBytes, trimmed, orZero, topBit, intBytes, IsI64}
 use Rattle.encoding.proofs.Digits.{digitCount-holds, digitCount-least, length-digits, groups-lowDigits, groups-digits, bigEndian-digits, above}
 

@@ -1,6 +1,6 @@
 -- Headers, annotations and containers that the writer puts are those of the grammar.
 -- Assumes nothing.
-use Prim.Native.Nat.{ℕ, _+_, _*_, _^_, _<_, _≤_}
+use Prim.Native.Nat.{ℕ, _^_, _<_, _≤_}
 use native.Mathlib.Omega.{arith}
 use mathlib.Core.Path.{_≡_}
 use mathlib.Core.List.{List, [], _∷_, _++_, append-assoc}
@@ -8,7 +8,7 @@ use mathlib.Core.Option.{some}
 use lib.Dec.{ltb}
 use lib.ListN.{length, length-append}
 use borrow.Author.Tests.{ltb-true}
-use Rattle.ion.specs.Value.{TypeCode, structCode, annotationCode, code, sequenceCode, Scalar, SequenceType, Value, scalar, sequence, struct, Members, Fields}
+use Rattle.ion.specs.Value.{TypeCode, structCode, annotationCode, sequenceCode, Scalar, SequenceType, Value, scalar, sequence, struct, Members, Fields}
 use Rattle.ion.specs.Scalars.{scalarOf}
 use Rattle.ion.specs.Grammar.{Header, short, long, sids, bare, one, members, fields, _⟶_, sids-end, sids-next, is-scalar, is-sequence, is-struct, is-bare, is-annotated}
 use Rattle.ion.proofs.Tests.{by-cases}

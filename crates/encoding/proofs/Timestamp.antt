@@ -1,27 +1,27 @@
 -- A timestamp's body reads as its offset, its UTC fields and its fraction: part by part, in the order of the body.
 -- Assumes nothing.
-use Prim.Native.Nat.{ℕ, zero, suc, _+_, _*_, _/_, _%_, _^_, _<_, _≤_}
+use Prim.Native.Nat.{ℕ, zero, suc, _+_, _/_, _%_, _^_, _<_, _≤_}
 use native.Mathlib.Omega.{arith}
-use mathlib.Core.Path.{_≡_, refl, sym, _∙_, ap, subst}
-use mathlib.Core.Bool.{Bool, true, false, false≢true, _&&_}
+use mathlib.Core.Path.{_≡_, refl, _∙_, ap, subst}
+use mathlib.Core.Bool.{true, false, false≢true}
 use mathlib.Core.List.{List, [], _∷_, _++_, append-assoc, append-nil}
 use mathlib.Core.Option.{Option, none, some, Option·none-ne-some}
 use lib.Dec.{ltb, leb, eqb}
 use lib.ListN.{length, drop}
-use lib.IntN.{ℤ, pos, negsuc, negℤ}
+use lib.IntN.{ℤ, pos, negsuc}
 use borrow.Author.Tests.{ltb-true, leb-true, eqb-true, lt-ltb, le-leb}
 use Rattle.ion.specs.Value.{Signed, signed, Fraction, noFraction, fraction, timestamp}
-use Rattle.ion.specs.Chain.{_>>=_, check}
-use Rattle.ion.specs.Fields.{uint, intField, groups, varUInt, varUInts, varInt}
-use Rattle.ion.specs.Calendar.{isMonth, isDay, daysInMonth}
+use Rattle.ion.specs.Chain.{_>>=_}
+use Rattle.ion.specs.Fields.{intField, groups, varUInt, varUInts, varInt}
+use Rattle.ion.specs.Calendar.{isDay, daysInMonth}
 use Rattle.ion.specs.Scalars.{offsetOf, isYear, areFields, fractionOf, fractionAt, timestampOf}
-use Rattle.ion.proofs.Tests.{by-cases, both, and-true}
+use Rattle.ion.proofs.Tests.{both, and-true}
 use Rattle.ion.proofs.Fields.{varUInt-append}
-use Rattle.encoding.specs.Fields.{varUIntBytes, varUIntsBytes, varIntBytes, signedOf, uintBytes, trimmed, intBytes, AllU64, IsI64}
+use Rattle.encoding.specs.Fields.{varUIntBytes, varUIntsBytes, varIntBytes, signedOf, uintBytes, trimmed, intBytes, AllU64}
 use Rattle.encoding.specs.Decimal.{isZeroDecimal, decimalBody}
 use Rattle.encoding.specs.Timestamp.{Date, date, nearDay, fieldsAt, utcMinutes, utc, isLocalYear, offsetFits, fractionFits, isTimestamp, offsetBytes, fractionBytes, timestampBody}
 use Rattle.encoding.proofs.Fields.{varUIntBytes-reads, varIntBytes-reads, signed-reads, uintBytes-reads, trimmed-same, intBytes-reads}
-use Rattle.encoding.proofs.Calendar.{RealDay, RealDate, real-of, month-days, near-real, WithMinute, with-minute, local-year}
+use Rattle.encoding.proofs.Calendar.{RealDay, RealDate, real-of, month-days, near-real, with-minute, local-year}
 
 -- ---- the UTC fields are fields of the grammar
 

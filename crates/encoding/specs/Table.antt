@@ -5,7 +5,6 @@ use mathlib.Core.Path.{_≡_, refl}
 use mathlib.Core.Bool.{true, false}
 use mathlib.Core.List.{List, [], _∷_, map}
 use mathlib.Core.Option.{none, some}
-use lib.ListN.{length}
 use lib.IntN.{pos, negsuc}
 use lib.Ieee.{ofBits, toBits, isNan}
 use lib.Ieee.{fits as holds}

@@ -8,7 +8,7 @@ use mathlib.Core.Option.{Option, none, some}
 use lib.Dec.{ltb, leb, eqb}
 use lib.ListN.{length}
 use lib.IntN.{ℤ, pos, negsuc, negℤ}
-use Rattle.ion.specs.Value.{Signed, signed, Fraction, noFraction, fraction}
+use Rattle.ion.specs.Value.{signed, Fraction, noFraction, fraction}
 use Rattle.ion.specs.Calendar.{daysInMonth, minuteNumber}
 use Rattle.ion.specs.Scalars.{areFields}
 use Rattle.encoding.specs.Fields.{varUIntsBytes, varIntBytes, signedOf, uintBytes}

@@ -1,24 +1,23 @@
 -- The other way: what the reader answers is a reading of the grammar. With `complete`, the reader accepts exactly the grammar.
 -- Assumes nothing.
-use Prim.Native.Nat.{ℕ, zero, suc, _+_, _-_, _*_, _/_, _%_, _^_, _<_, _≤_}
+use Prim.Native.Nat.{ℕ, zero, suc, _+_, _*_, _/_, _%_, _<_}
 use native.Mathlib.Omega.{arith}
-use native.Mathlib.Nat.{div-add-mod', mod-lt}
+use native.Mathlib.Nat.{div-add-mod'}
 use mathlib.Core.Path.{_≡_, refl, sym, _∙_, ap, subst}
 use mathlib.Core.Logic.{_≢_, _↔_}
-use mathlib.Core.Bool.{Bool, true, false, false≢true, _&&_, _||_, not}
+use mathlib.Core.Bool.{Bool, true, false, false≢true, _&&_, not}
 use mathlib.Core.List.{List, [], _∷_, _++_, append-assoc, append-nil}
 use mathlib.Core.Option.{Option, none, some, Option·some-injective, Option·none-ne-some}
-use lib.Dec.{ltb, leb, eqb, leb→le, nltb→le, T, eqb-refl}
-use lib.ListN.{length, getD, take, drop, take-append-drop}
+use lib.Dec.{ltb, leb, eqb}
+use lib.ListN.{length, take, drop, take-append-drop}
 use lib.Seq.{length-take-le}
 use lib.Ieee.{binary32, binary64}
-use lib.Ieee.Bits.{is-true as T-true}
-use Rattle.ion.specs.Value.{IonType, TypeCode, nullCode, boolCode, positiveCode, negativeCode, floatCode, decimalCode, timestampCode, symbolCode, stringCode, clobCode, blobCode, listCode, sexpCode, structCode, annotationCode, code, nullType, sequenceCode, FloatValue, finite, Scalar, null, bool, float, SequenceType, list, sexp, Value, Members, scalar, sequence, struct, noMembers, member, Fields, noFields, field, Item, marker, value}
+use Rattle.ion.specs.Value.{TypeCode, nullCode, boolCode, positiveCode, negativeCode, floatCode, decimalCode, timestampCode, symbolCode, stringCode, clobCode, blobCode, listCode, sexpCode, structCode, annotationCode, code, nullType, sequenceCode, FloatValue, finite, Scalar, null, bool, float, list, sexp, Value, Members, scalar, sequence, struct, noMembers, member, Fields, noFields, field, Item, marker, value}
 use Rattle.ion.specs.Chain.{_>>=_, check}
 use Rattle.ion.specs.Fields.{varUInt, VarUInt, uint}
 use Rattle.ion.specs.Scalars.{floatOf, scalarOf}
-use Rattle.ion.specs.Grammar.{Header, short, long, sorted, Phrase, padding, sids, bare, one, members, fields, stream, _⟶_, pad, sids-end, sids-next, is-null, is-false, is-true, is-zero, is-float32, is-float64, is-scalar, is-sequence, is-struct, is-sorted, is-bare, is-annotated, members-end, members-pad, members-next, fields-end, fields-pad, fields-next, stream-end, stream-pad, stream-marker, stream-next, Reads}
-use Rattle.ion.proofs.Reader.{allCodes, find-code, Shape, padShape, scalarShape, sequenceShape, structShape, wrapperShape, codeOf, cut, lengthOf, framed, shapeOf, plain, sortedAt, boolAt, bitsAt, floatAt, bodyAt, shapeAt, shape, sidsOf, isNil, bareOf, innerOf, wrapperOf, valueOf, isPad, nextMember, nextField, nextItem, orElse, afterMarker, readMembers, readFields, readStream}
+use Rattle.ion.specs.Grammar.{Header, short, long, sorted, padding, sids, bare, one, members, fields, stream, _⟶_, pad, sids-end, sids-next, is-null, is-false, is-true, is-zero, is-float32, is-float64, is-scalar, is-sequence, is-struct, is-sorted, is-bare, is-annotated, members-end, members-pad, members-next, fields-end, fields-pad, fields-next, stream-end, stream-pad, stream-marker, stream-next, Reads}
+use Rattle.ion.proofs.Reader.{allCodes, find-code, Shape, padShape, scalarShape, sequenceShape, structShape, wrapperShape, codeOf, cut, lengthOf, framed, shapeOf, plain, sortedAt, boolAt, bitsAt, floatAt, bodyAt, shapeAt, shape, sidsOf, isNil, bareOf, innerOf, wrapperOf, valueOf, isPad, nextMember, nextField, nextItem, orElse, afterMarker, readMembers, readFields, readStream, reader}
 use borrow.Author.Tests.{ltb-true, ltb-false, leb-true, eqb-true, eqb-false}
 use Rattle.ion.proofs.Tests.{by-cases, both}
 use Rattle.ion.proofs.Fields.{varUInt-split}
@@ -266,7 +265,7 @@ module _ (f : List ℕ → Option (Members Scalar)) (g : List ℕ → Option (Fi
       let q : b ≡ s .front = s .joins ∙ ap (λ (r : List ℕ). s .front ++ r) (nil-of (m .0 .1) (c .0)) ∙ append-nil (s .front) in
       subst (λ (y : List ℕ). y ⟶ bare an v) (sym q) (bare-sound an (s .front) (m .0 .0) v (s .shaped) (c .1))
 
-  -- the body of a wrapperShape
+  -- the body of an annotation wrapper
   wrapped-sound : (h l s b an : List ℕ) (v : Value) → Header annotationCode (length (l ++ (s ++ b))) h → VarUInt l (length s) → s ⟶ sids an → not (isNil an) ≡ true → b ⟶ bare an v → (h ++ (l ++ (s ++ b))) ⟶ one v
   wrapped-sound h l s b [] v hd e r n q = absurd (false≢true n)
   wrapped-sound h l s b (a ∷ an) v hd e r n q = is-annotated l hd e r q
@@ -418,9 +417,6 @@ stream-sound (suc n) [] is e = subst (λ (y : List (Item Scalar)). [] ⟶ stream
 stream-sound (suc n) (b ∷ bs) is e = step-sound n (b ∷ bs) is (λ c x q. stream-sound n c x q) e
 
 -- ---- the reader accepts exactly the grammar
-
-pub reader : List ℕ → Option (List (Item Scalar))
-reader b = readStream (suc (length b)) b
 
 pub exactly : (b : List ℕ) (is : List (Item Scalar)) → Reads b is ↔ (reader b ≡ some is)
 unfolding reader

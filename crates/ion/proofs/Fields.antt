@@ -3,12 +3,11 @@
 use Prim.Native.Nat.{ℕ, _+_, _*_, _%_, _^_, _<_}
 use native.Mathlib.Omega.{arith}
 use mathlib.Core.Path.{_≡_, refl, sym, _∙_, ap}
-use mathlib.Core.Bool.{Bool, true, false}
+use mathlib.Core.Bool.{true}
 use mathlib.Core.List.{List, [], _∷_, _++_}
 use mathlib.Core.Option.{Option, none, some, Option·some-injective, Option·none-ne-some, Option·map}
 use lib.Dec.{ltb}
 use lib.ListN.{length}
-use Rattle.ion.specs.Chain.{check}
 use Rattle.ion.specs.Fields.{groups, inU64, varUInt, VarUInt}
 use Rattle.ion.proofs.Tests.{by-cases}
 

@@ -3,3 +3,5 @@ pub mod Fields
 pub mod Reader
 pub mod Unique
 pub mod Exact
+pub mod Floats
+pub mod Examples

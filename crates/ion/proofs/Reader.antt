@@ -1,23 +1,21 @@
 -- A reader of the grammar, as a function with fuel: every reading is what it answers, so readings are unique.
 -- Assumes nothing.
-use Prim.Native.Nat.{ℕ, zero, suc, _+_, _-_, _*_, _/_, _%_, _^_, _<_, _≤_}
+use Prim.Native.Nat.{ℕ, zero, suc, _+_, _*_, _/_, _%_, _<_}
 use native.Mathlib.Omega.{arith}
-use native.Mathlib.Numerals.{add-one}
-use mathlib.Core.Path.{_≡_, refl, sym, _∙_, ap, subst}
-use mathlib.Core.Logic.{_≢_}
+use mathlib.Core.Path.{_≡_, refl, sym, _∙_, ap}
 use mathlib.Core.Bool.{Bool, true, false, _&&_, _||_, not}
-use mathlib.Core.List.{List, [], _∷_, _++_, append-assoc, append-nil}
+use mathlib.Core.List.{List, [], _∷_, _++_, append-assoc}
 use mathlib.Core.Option.{Option, none, some, Option·some-injective, Option·none-ne-some}
 use lib.Dec.{ltb, leb, eqb}
 use borrow.Author.Tests.{lt-ltb, le-leb, ne-eqb, eqb-true}
 use Rattle.ion.proofs.Tests.{by-cases}
-use lib.ListN.{length, getD, take, drop, length-append}
+use lib.ListN.{length, take, drop, length-append}
 use lib.Seq.{take-append-seam, drop-append-seam}
 use lib.Arith.{digits-div, digits-mod}
-use Rattle.ion.specs.Value.{IonType, TypeCode, nullCode, boolCode, positiveCode, negativeCode, floatCode, decimalCode, timestampCode, symbolCode, stringCode, clobCode, blobCode, listCode, sexpCode, structCode, annotationCode, code, nullType, sequenceCode, FloatValue, finite, Scalar, null, bool, int, float, symbol, string, clob, blob, SequenceType, list, sexp, Value, scalar, sequence, struct, Members, noMembers, member, Fields, noFields, field, Item, marker, value}
+use Rattle.ion.specs.Value.{TypeCode, nullCode, boolCode, positiveCode, negativeCode, floatCode, decimalCode, timestampCode, symbolCode, stringCode, clobCode, blobCode, listCode, sexpCode, structCode, annotationCode, code, nullType, FloatValue, finite, Scalar, null, bool, float, SequenceType, list, sexp, Value, scalar, sequence, struct, Members, noMembers, member, Fields, noFields, field, Item, marker, value}
 use lib.Ieee.{binary32, binary64}
 use Rattle.ion.specs.Chain.{_>>=_, check}
-use Rattle.ion.specs.Fields.{varUInt, VarUInt, uint}
+use Rattle.ion.specs.Fields.{varUInt, uint}
 use Rattle.ion.specs.Scalars.{floatOf, scalarOf}
 use Rattle.ion.specs.Grammar.{Header, short, long, sorted}
 use Rattle.ion.proofs.Fields.{varUInt-append}
@@ -326,3 +324,7 @@ readStream (suc f) [] = some []
 readStream (suc f) (b ∷ bs) =
     orElse (shape (b ∷ bs) >>= λ x. nextItem (isPad (x .0)) (valueOf (λ c. readMembers (suc f) c) (λ c. readFields (suc f) c) (x .0)) (readStream f (x .1)))
     (afterMarker (b ∷ bs) >>= λ r. readStream f r >>= λ is. some (marker ∷ is))
+
+-- the reader of all the bytes
+unfoldable pub reader : List ℕ → Option (List (Item Scalar))
+reader b = readStream (suc (length b)) b

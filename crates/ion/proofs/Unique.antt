@@ -1,26 +1,25 @@
 -- Every reading is what the reader answers; so two readings of the same bytes are equal.
 -- Assumes nothing.
-use Prim.Native.Nat.{ℕ, zero, suc, _+_, _-_, _*_, _/_, _%_, _^_, _<_, _≤_}
+use Prim.Native.Nat.{ℕ, zero, suc, _+_, _*_, _%_, _^_, _<_, _≤_}
 use native.Mathlib.Omega.{arith}
-use mathlib.Core.Path.{_≡_, refl, sym, _∙_, ap, subst}
+use mathlib.Core.Path.{_≡_, refl, sym, _∙_}
 use mathlib.Core.Logic.{_≢_}
-use mathlib.Core.Bool.{Bool, true, false, _&&_, _||_, not}
+use mathlib.Core.Bool.{Bool, true, false}
 use mathlib.Core.List.{List, [], _∷_, _++_, append-assoc, append-nil}
-use mathlib.Core.Option.{Option, none, some, Option·some-injective, Option·none-ne-some, Option·map}
-use lib.Dec.{T, ltb, leb, eqb}
-use lib.ListN.{length, getD, take, drop, length-append}
-use Rattle.ion.specs.Value.{IonType, TypeCode, nullCode, boolCode, positiveCode, negativeCode, floatCode, decimalCode, timestampCode, symbolCode, stringCode, clobCode, blobCode, listCode, sexpCode, structCode, annotationCode, code, nullType, sequenceCode, FloatValue, finite, Scalar, null, bool, int, float, symbol, string, clob, blob, SequenceType, list, sexp, Value, scalar, sequence, struct, Members, noMembers, member, Fields, noFields, field, Item, marker, value}
+use mathlib.Core.Option.{Option, none, some, Option·some-injective, Option·none-ne-some}
+use lib.Dec.{ltb}
+use lib.ListN.{length, length-append}
+use Rattle.ion.specs.Value.{IonType, TypeCode, nullCode, boolCode, positiveCode, negativeCode, floatCode, decimalCode, timestampCode, symbolCode, stringCode, clobCode, blobCode, listCode, sexpCode, structCode, annotationCode, code, nullType, sequenceCode, FloatValue, finite, Scalar, null, bool, float, SequenceType, list, sexp, Value, scalar, sequence, struct, Members, noMembers, member, Fields, noFields, field, Item, marker, value}
 use lib.Ieee.{binary32, binary64}
-use Rattle.ion.specs.Chain.{_>>=_}
 use Rattle.ion.specs.Fields.{groups, varUInt, VarUInt, uint}
 use Rattle.ion.specs.Scalars.{floatOf, scalarOf}
 use Rattle.ion.specs.Grammar.{Header, short, long, sorted, Phrase, padding, sids, bare, one, members, fields, stream, _⟶_, pad, sids-end, sids-next, is-null, is-false, is-true, is-zero, is-float32, is-float64, is-scalar, is-sequence, is-struct, is-sorted, is-bare, is-annotated, members-end, members-pad, members-next, fields-end, fields-pad, fields-next, stream-end, stream-pad, stream-marker, stream-next, Reads}
-use borrow.Author.Tests.{lt-ltb, le-leb, ne-eqb}
+use borrow.Author.Tests.{lt-ltb, ne-eqb}
 use Rattle.ion.proofs.Tests.{by-cases}
 use Rattle.ion.proofs.Fields.{varUInt-append, varUInt-pos}
-use Rattle.ion.proofs.Reader.{Shape, padShape, scalarShape, sequenceShape, structShape, wrapperShape, cut, cut-seam, shape, shapeAt, bodyAt, sortedAt, boolAt, bitsAt, floatAt, plain, shapeOf, shape-header, shape-td, shapeAt-body, Opened, opened, plainCode, sidsOf, bareOf, innerOf, wrapperOf, valueOf, isPad, nextMember, nextField, nextItem, readMembers, readFields, afterMarker, orElse, readStream}
+use Rattle.ion.proofs.Reader.{Shape, padShape, scalarShape, sequenceShape, structShape, wrapperShape, cut-seam, shape, shapeAt, bodyAt, sortedAt, boolAt, bitsAt, floatAt, plain, shapeOf, shape-header, shape-td, shapeAt-body, opened, plainCode, sidsOf, bareOf, innerOf, wrapperOf, valueOf, isPad, nextMember, nextField, nextItem, readMembers, readFields, afterMarker, orElse, readStream}
 
--- neither a pad nor a wrapperShape
+-- neither a pad nor an annotation wrapper
 pub ordinary : Shape → Bool
 ordinary padShape = false
 ordinary (scalarShape s) = true
@@ -70,7 +69,7 @@ header-pos : {c : TypeCode} {n : ℕ} {h : List ℕ} → Header c n h → 0 < le
 header-pos (short lt) = omega arith
 header-pos (long e) = omega arith
 
--- ---- the parts
+-- ---- what completeness says of each kind of phrase, and each production
 
 abbrev pub Result : List ℕ → Phrase → Type 0
 Result b padding = (0 < length b) × ((r : List ℕ) → shape (b ++ r) ≡ some (padShape, r))
@@ -81,15 +80,15 @@ Result b (members vs) = (f : ℕ) → length b < f → readMembers f b ≡ some 
 Result b (fields fs) = (f : ℕ) → length b < f → readFields f b ≡ some fs
 Result b (stream is) = (f : ℕ) → length b < f → readStream f b ≡ some is
 
-p-pad : {h : List ℕ} (body : List ℕ) → Header nullCode (length body) h → Result (h ++ body) padding
+complete-pad : {h : List ℕ} (body : List ℕ) → Header nullCode (length body) h → Result (h ++ body) padding
 unfolding shapeOf plainCode
-p-pad body hd = (simp length-append (omega (arith, header-pos hd)), λ r. shape-header nullCode body r padShape refl hd refl)
+complete-pad body hd = (simp length-append (omega (arith, header-pos hd)), λ r. shape-header nullCode body r padShape refl hd refl)
 
-p-sids : (l b an : List ℕ) (a : ℕ) → VarUInt l a → Result b (sids an) → Result (l ++ b) (sids (a ∷ an))
+complete-sids : (l b an : List ℕ) (a : ℕ) → VarUInt l a → Result b (sids an) → Result (l ++ b) (sids (a ∷ an))
 unfolding sidsOf varUInt groups
-p-sids l b an a e ih zero lt = absurd (omega arith)
-p-sids [] b an a e ih (suc f) lt = cc
-p-sids (x ∷ xs) b an a e ih (suc f) lt =
+complete-sids l b an a e ih zero lt = absurd (omega arith)
+complete-sids [] b an a e ih (suc f) lt = cc
+complete-sids (x ∷ xs) b an a e ih (suc f) lt =
     rw (varUInt-append (x ∷ xs) a [] b e, ih f (omega (arith, length-append xs b)))
 
 scalar-plain : (c : TypeCode) (body : List ℕ) (s : Scalar) → scalarOf c body ≡ some s → plainCode c ≡ true
@@ -130,8 +129,8 @@ scalar-shape annotationCode body s e = let q : _≡_ {A = Option Scalar} none (s
 
 -- an ordinary shape at the front, of the bytes b
 module _ (an b : List ℕ) (v : Value) (sh : Shape) (pos : 0 < length b) (at : (r : List ℕ) → shape (b ++ r) ≡ some (sh, r)) (ord : ordinary sh ≡ true) where
-  p-bare : ((f : ℕ) → length b ≤ f → bareOf (λ c. readMembers f c) (λ c. readFields f c) an sh ≡ some v) → Result b (bare an v)
-  p-bare g = (pos, λ f le. record { sh = sh; at = at; kind = ord; gives = g f le })
+  complete-bare : ((f : ℕ) → length b ≤ f → bareOf (λ c. readMembers f c) (λ c. readFields f c) an sh ≡ some v) → Result b (bare an v)
+  complete-bare g = (pos, λ f le. record { sh = sh; at = at; kind = ord; gives = g f le })
 
 framed-pos : {c : TypeCode} {n : ℕ} {h : List ℕ} (body : List ℕ) → Header c n h → 0 < length (h ++ body)
 framed-pos {h = h} body hd = simp length-append (omega (arith, header-pos hd))
@@ -140,10 +139,10 @@ framed-pos {h = h} body hd = simp length-append (omega (arith, header-pos hd))
 framed-lt : {c : TypeCode} {n : ℕ} {h : List ℕ} (body : List ℕ) (f : ℕ) → Header c n h → length (h ++ body) ≤ f → length body < f
 framed-lt {h = h} body f hd le = omega (arith, length-append h body, header-pos hd)
 
-p-scalar : (an h : List ℕ) (c : TypeCode) (s : Scalar) (body : List ℕ) → Header c (length body) h → scalarOf c body ≡ some s → Result (h ++ body) (bare an (scalar an s))
+complete-scalar : (an h : List ℕ) (c : TypeCode) (s : Scalar) (body : List ℕ) → Header c (length body) h → scalarOf c body ≡ some s → Result (h ++ body) (bare an (scalar an s))
 unfolding bareOf ordinary
-p-scalar an h c s body hd e =
-    p-bare an (h ++ body) (scalar an s) (scalarShape s) (framed-pos body hd) (λ r. shape-header c body r (scalarShape s) (scalar-plain c body s e) hd (scalar-shape c body s e)) refl
+complete-scalar an h c s body hd e =
+    complete-bare an (h ++ body) (scalar an s) (scalarShape s) (framed-pos body hd) (λ r. shape-header c body r (scalarShape s) (scalar-plain c body s e) hd (scalar-shape c body s e)) refl
     (λ f le. refl)
 
 kind-plain : (k : SequenceType) → plainCode (sequenceCode k) ≡ true
@@ -156,10 +155,10 @@ unfolding shapeOf
 kind-shape list body = refl
 kind-shape sexp body = refl
 
-p-sequence : (an h body : List ℕ) (k : SequenceType) (vs : Members Scalar) → Header (sequenceCode k) (length body) h → Result body (members vs) → Result (h ++ body) (bare an (sequence an k vs))
+complete-sequence : (an h body : List ℕ) (k : SequenceType) (vs : Members Scalar) → Header (sequenceCode k) (length body) h → Result body (members vs) → Result (h ++ body) (bare an (sequence an k vs))
 unfolding bareOf ordinary
-p-sequence an h body k vs hd ih =
-    p-bare an (h ++ body) (sequence an k vs) (sequenceShape k body) (framed-pos body hd) (λ r. shape-header (sequenceCode k) body r (sequenceShape k body) (kind-plain k) hd (kind-shape k body)) refl
+complete-sequence an h body k vs hd ih =
+    complete-bare an (h ++ body) (sequence an k vs) (sequenceShape k body) (framed-pos body hd) (λ r. shape-header (sequenceCode k) body r (sequenceShape k body) (kind-plain k) hd (kind-shape k body)) refl
     (λ f le. rw (ih f (framed-lt body f hd le)))
 
 -- one byte is no field
@@ -189,10 +188,10 @@ shape-struct {h} body r hd ne =
     let small : o .low < 16 = omega arith in
     rw (append-assoc, o .is, shape-td structCode (o .low) (o .tail ++ (body ++ r)) small, shapeAt-body structCode (o .low) _ (o .small), ne-eqb (o .low) 1 (struct-low body hd ne), bodyAt, plain, o .frames)
 
-p-struct : (an h body : List ℕ) (fs : Fields Scalar) → Header structCode (length body) h → Result body (fields fs) → Result (h ++ body) (bare an (struct an fs))
+complete-struct : (an h body : List ℕ) (fs : Fields Scalar) → Header structCode (length body) h → Result body (fields fs) → Result (h ++ body) (bare an (struct an fs))
 unfolding bareOf ordinary
-p-struct an h body fs hd ih =
-    p-bare an (h ++ body) (struct an fs) (structShape false body) (framed-pos body hd) (λ r. shape-struct body r hd (fields-length body fs ih)) refl
+complete-struct an h body fs hd ih =
+    complete-bare an (h ++ body) (struct an fs) (structShape false body) (framed-pos body hd) (λ r. shape-struct body r hd (fields-length body fs ih)) refl
     (λ f le. rw (ih f (framed-lt body f hd le)))
 
 shape-sorted : (l body r : List ℕ) → VarUInt l (length body) → 0 < length body → shape (0xD1 ∷ ((l ++ body) ++ r)) ≡ some (structShape true body, r)
@@ -200,39 +199,39 @@ unfolding bodyAt sortedAt
 shape-sorted l body r e pos =
     rw (append-assoc l body r, shape-td structCode 1 (l ++ (body ++ r)) (omega arith), shapeAt-body structCode 1 _ (omega arith), varUInt-append l (length body) [] (body ++ r) e, sortedAt, lt-ltb _ _ pos, cut-seam)
 
-p-sorted : (an l body : List ℕ) (fs : Fields Scalar) → VarUInt l (length body) → 0 < length body → sorted 0 fs ≡ true → Result body (fields fs) → Result (0xD1 ∷ (l ++ body)) (bare an (struct an fs))
+complete-sorted : (an l body : List ℕ) (fs : Fields Scalar) → VarUInt l (length body) → 0 < length body → sorted 0 fs ≡ true → Result body (fields fs) → Result (0xD1 ∷ (l ++ body)) (bare an (struct an fs))
 unfolding bareOf ordinary
-p-sorted an l body fs e pos up ih =
-    p-bare an (0xD1 ∷ (l ++ body)) (struct an fs) (structShape true body) (omega arith) (λ r. shape-sorted l body r e pos) refl
+complete-sorted an l body fs e pos up ih =
+    complete-bare an (0xD1 ∷ (l ++ body)) (struct an fs) (structShape true body) (omega arith) (λ r. shape-sorted l body r e pos) refl
     (λ f le. rw (ih f (omega (arith, length-append l body, varUInt-pos l e)), up))
 
-p-null : (an : List ℕ) (t : IonType) (c : TypeCode) → nullType c ≡ some t → Result ((code c * 16 + 15) ∷ []) (bare an (scalar an (null t)))
+complete-null : (an : List ℕ) (t : IonType) (c : TypeCode) → nullType c ≡ some t → Result ((code c * 16 + 15) ∷ []) (bare an (scalar an (null t)))
 unfolding bareOf ordinary shapeAt
-p-null an t c e = p-bare an ((code c * 16 + 15) ∷ []) (scalar an (null t)) (scalarShape (null t)) (omega arith) (λ r. rw (shape-td c 15 r (omega arith), shapeAt, e)) refl (λ f le. refl)
+complete-null an t c e = complete-bare an ((code c * 16 + 15) ∷ []) (scalar an (null t)) (scalarShape (null t)) (omega arith) (λ r. rw (shape-td c 15 r (omega arith), shapeAt, e)) refl (λ f le. refl)
 
-p-float : (an b : List ℕ) (l : ℕ) (x : FloatValue) → l < 15 → ((r : List ℕ) → floatAt l (b ++ r) ≡ some (scalarShape (float x), r)) → Result ((code floatCode * 16 + l) ∷ b) (bare an (scalar an (float x)))
+complete-float : (an b : List ℕ) (l : ℕ) (x : FloatValue) → l < 15 → ((r : List ℕ) → floatAt l (b ++ r) ≡ some (scalarShape (float x), r)) → Result ((code floatCode * 16 + l) ∷ b) (bare an (scalar an (float x)))
 unfolding bareOf ordinary bodyAt
-p-float an b l x lt e = p-bare an ((code floatCode * 16 + l) ∷ b) (scalar an (float x)) (scalarShape (float x)) (omega arith) (λ r. rw (shape-td floatCode l (b ++ r) (omega arith), shapeAt-body floatCode l (b ++ r) lt, e r)) refl (λ f le. refl)
+complete-float an b l x lt e = complete-bare an ((code floatCode * 16 + l) ∷ b) (scalar an (float x)) (scalarShape (float x)) (omega arith) (λ r. rw (shape-td floatCode l (b ++ r) (omega arith), shapeAt-body floatCode l (b ++ r) lt, e r)) refl (λ f le. refl)
 
 bits-seam : (f : List ℕ → FloatValue) (n : ℕ) (b r : List ℕ) → length b ≡ n → bitsAt f n (b ++ r) ≡ some (scalarShape (float (f b)), r)
 unfolding bitsAt
 bits-seam f n b r e = rw (← e, cut-seam)
 
-p-zero : (an : List ℕ) → Result (0x40 ∷ []) (bare an (scalar an (float (finite false 0))))
+complete-zero : (an : List ℕ) → Result (0x40 ∷ []) (bare an (scalar an (float (finite false 0))))
 unfolding floatAt
-p-zero an = p-float an [] 0 (finite false 0) (omega arith) (λ r. refl)
+complete-zero an = complete-float an [] 0 (finite false 0) (omega arith) (λ r. refl)
 
-p-float32 : (an b : List ℕ) → length b ≡ 4 → Result (0x44 ∷ b) (bare an (scalar an (float (floatOf binary32 (uint b)))))
+complete-float32 : (an b : List ℕ) → length b ≡ 4 → Result (0x44 ∷ b) (bare an (scalar an (float (floatOf binary32 (uint b)))))
 unfolding floatAt
-p-float32 an b e = p-float an b 4 (floatOf binary32 (uint b)) (omega arith) (λ r. bits-seam (λ c. floatOf binary32 (uint c)) 4 b r e)
+complete-float32 an b e = complete-float an b 4 (floatOf binary32 (uint b)) (omega arith) (λ r. bits-seam (λ c. floatOf binary32 (uint c)) 4 b r e)
 
-p-float64 : (an b : List ℕ) → length b ≡ 8 → Result (0x48 ∷ b) (bare an (scalar an (float (floatOf binary64 (uint b)))))
+complete-float64 : (an b : List ℕ) → length b ≡ 8 → Result (0x48 ∷ b) (bare an (scalar an (float (floatOf binary64 (uint b)))))
 unfolding floatAt
-p-float64 an b e = p-float an b 8 (floatOf binary64 (uint b)) (omega arith) (λ r. bits-seam (λ c. floatOf binary64 (uint c)) 8 b r e)
+complete-float64 an b e = complete-float an b 8 (floatOf binary64 (uint b)) (omega arith) (λ r. bits-seam (λ c. floatOf binary64 (uint c)) 8 b r e)
 
-p-bool : (an : List ℕ) (l : ℕ) (x : Bool) → l < 15 → ((r : List ℕ) → boolAt l r ≡ some (scalarShape (bool x), r)) → Result ((code boolCode * 16 + l) ∷ []) (bare an (scalar an (bool x)))
+complete-bool : (an : List ℕ) (l : ℕ) (x : Bool) → l < 15 → ((r : List ℕ) → boolAt l r ≡ some (scalarShape (bool x), r)) → Result ((code boolCode * 16 + l) ∷ []) (bare an (scalar an (bool x)))
 unfolding bareOf ordinary bodyAt
-p-bool an l x lt e = p-bare an ((code boolCode * 16 + l) ∷ []) (scalar an (bool x)) (scalarShape (bool x)) (omega arith) (λ r. rw (shape-td boolCode l r (omega arith), shapeAt-body boolCode l r lt, e)) refl (λ f le. refl)
+complete-bool an l x lt e = complete-bare an ((code boolCode * 16 + l) ∷ []) (scalar an (bool x)) (scalarShape (bool x)) (omega arith) (λ r. rw (shape-td boolCode l r (omega arith), shapeAt-body boolCode l r lt, e)) refl (λ f le. refl)
 
 value-bare : (f : ℕ) (sh : Shape) → ordinary sh ≡ true → valueOf (λ c. readMembers f c) (λ c. readFields f c) sh ≡ bareOf (λ c. readMembers f c) (λ c. readFields f c) [] sh
 unfolding valueOf ordinary
@@ -250,8 +249,8 @@ not-pad (sequenceShape k body) e = refl
 not-pad (structShape t body) e = refl
 not-pad (wrapperShape body) e = refl
 
-p-one : (b : List ℕ) (v : Value) → Result b (bare [] v) → Result b (one v)
-p-one b v ih = (ih .0, λ f le. let r = ih .1 f le in record { sh = r .sh; at = r .at; kind = not-pad (r .sh) (r .kind); gives = rw (value-bare f (r .sh) (r .kind)) (r .gives) })
+complete-one : (b : List ℕ) (v : Value) → Result b (bare [] v) → Result b (one v)
+complete-one b v ih = (ih .0, λ f le. let r = ih .1 f le in record { sh = r .sh; at = r .at; kind = not-pad (r .sh) (r .kind); gives = rw (value-bare f (r .sh) (r .kind)) (r .gives) })
 
 wrapped-gives : (f : ℕ) (l s b an : List ℕ) (a : ℕ) (v : Value) → VarUInt l (length s) → Result s (sids (a ∷ an)) → BareRead f (a ∷ an) b v
     → wrapperOf (λ c. readMembers f c) (λ c. readFields f c) (l ++ (s ++ b)) ≡ some v
@@ -259,10 +258,10 @@ unfolding wrapperOf innerOf
 wrapped-gives f l s b an a v e hs r =
     rw (varUInt-append l (length s) [] (s ++ b) e, cut-seam s b, hs (suc (length s)) (omega arith), rw append-nil at (r .at []), r .gives)
 
-p-wrapped : (h l s b an : List ℕ) (a : ℕ) (v : Value) → Header annotationCode (length (l ++ (s ++ b))) h → VarUInt l (length s) → Result s (sids (a ∷ an)) → Result b (bare (a ∷ an) v)
+complete-wrapped : (h l s b an : List ℕ) (a : ℕ) (v : Value) → Header annotationCode (length (l ++ (s ++ b))) h → VarUInt l (length s) → Result s (sids (a ∷ an)) → Result b (bare (a ∷ an) v)
     → Result (h ++ (l ++ (s ++ b))) (one v)
 unfolding valueOf isPad shapeOf plainCode
-p-wrapped h l s b an a v hd e hs ih = (
+complete-wrapped h l s b an a v hd e hs ih = (
   framed-pos (l ++ (s ++ b)) hd,
   λ f le. record {
     sh = wrapperShape (l ++ (s ++ b));
@@ -272,24 +271,24 @@ p-wrapped h l s b an a v hd e hs ih = (
   },
 )
 
-p-members-pad : (p b : List ℕ) (vs : Members Scalar) → Result p padding → Result b (members vs) → Result (p ++ b) (members vs)
-p-members-pad p b vs pd ih zero lt = absurd (omega arith)
-p-members-pad p b vs pd ih (suc f) lt = step-members-pad f (p ++ b) b vs (pd .1 b) (ih f (omega (arith, length-append p b, pd .0)))
+complete-members-pad : (p b : List ℕ) (vs : Members Scalar) → Result p padding → Result b (members vs) → Result (p ++ b) (members vs)
+complete-members-pad p b vs pd ih zero lt = absurd (omega arith)
+complete-members-pad p b vs pd ih (suc f) lt = step-members-pad f (p ++ b) b vs (pd .1 b) (ih f (omega (arith, length-append p b, pd .0)))
 
-p-members-next : (p b : List ℕ) (v : Value) (vs : Members Scalar) → Result p (one v) → Result b (members vs) → Result (p ++ b) (members (member v vs))
-p-members-next p b v vs x ih zero lt = absurd (omega arith)
-p-members-next p b v vs x ih (suc f) lt =
+complete-members-next : (p b : List ℕ) (v : Value) (vs : Members Scalar) → Result p (one v) → Result b (members vs) → Result (p ++ b) (members (member v vs))
+complete-members-next p b v vs x ih zero lt = absurd (omega arith)
+complete-members-next p b v vs x ih (suc f) lt =
     let r = x .1 f (omega (arith, length-append p b)) in
     step-members f (p ++ b) b (r .sh) v vs (r .at b) (r .kind) (r .gives) (ih f (omega (arith, length-append p b, x .0)))
 
-p-fields-pad : (l p b : List ℕ) (k : ℕ) (fs : Fields Scalar) → VarUInt l k → Result p padding → Result b (fields fs) → Result (l ++ (p ++ b)) (fields fs)
-p-fields-pad l p b k fs e pd ih zero lt = absurd (omega arith)
-p-fields-pad l p b k fs e pd ih (suc f) lt =
+complete-fields-pad : (l p b : List ℕ) (k : ℕ) (fs : Fields Scalar) → VarUInt l k → Result p padding → Result b (fields fs) → Result (l ++ (p ++ b)) (fields fs)
+complete-fields-pad l p b k fs e pd ih zero lt = absurd (omega arith)
+complete-fields-pad l p b k fs e pd ih (suc f) lt =
     step-fields-pad f (l ++ (p ++ b)) (p ++ b) b k fs (varUInt-append l k [] (p ++ b) e) (pd .1 b) (ih f (omega (arith, length-append l (p ++ b), length-append p b, pd .0)))
 
-p-fields-next : (l p b : List ℕ) (k : ℕ) (v : Value) (fs : Fields Scalar) → VarUInt l k → Result p (one v) → Result b (fields fs) → Result (l ++ (p ++ b)) (fields (field k v fs))
-p-fields-next l p b k v fs e x ih zero lt = absurd (omega arith)
-p-fields-next l p b k v fs e x ih (suc f) lt =
+complete-fields-next : (l p b : List ℕ) (k : ℕ) (v : Value) (fs : Fields Scalar) → VarUInt l k → Result p (one v) → Result b (fields fs) → Result (l ++ (p ++ b)) (fields (field k v fs))
+complete-fields-next l p b k v fs e x ih zero lt = absurd (omega arith)
+complete-fields-next l p b k v fs e x ih (suc f) lt =
     let r = x .1 f (omega (arith, length-append l (p ++ b), length-append p b)) in
     step-fields f (l ++ (p ++ b)) (p ++ b) b k (r .sh) v fs (varUInt-append l k [] (p ++ b) e) (r .at b) (r .kind) (r .gives) (ih f (omega (arith, length-append l (p ++ b), length-append p b, x .0)))
 
@@ -308,75 +307,75 @@ marker-shape : (r : List ℕ) → shape (0xE0 ∷ r) ≡ some (wrapperShape [], 
 unfolding shapeOf plainCode
 marker-shape r = shape-header annotationCode [] r (wrapperShape []) refl (short (omega arith)) refl
 
-p-marker : (b : List ℕ) (is : List (Item Scalar)) → Result b (stream is) → Result (0xE0 ∷ 0x01 ∷ 0x00 ∷ 0xEA ∷ b) (stream (marker ∷ is))
+complete-marker : (b : List ℕ) (is : List (Item Scalar)) → Result b (stream is) → Result (0xE0 ∷ 0x01 ∷ 0x00 ∷ 0xEA ∷ b) (stream (marker ∷ is))
 unfolding readStream nextItem orElse afterMarker valueOf wrapperOf varUInt groups isPad
-p-marker b is ih zero lt = absurd (omega arith)
-p-marker b is ih (suc f) lt = rw (marker-shape (0x01 ∷ 0x00 ∷ 0xEA ∷ b), ih f (omega arith))
+complete-marker b is ih zero lt = absurd (omega arith)
+complete-marker b is ih (suc f) lt = rw (marker-shape (0x01 ∷ 0x00 ∷ 0xEA ∷ b), ih f (omega arith))
 
-p-stream-pad : (p b : List ℕ) (is : List (Item Scalar)) → Result p padding → Result b (stream is) → Result (p ++ b) (stream is)
-p-stream-pad p b is pd ih zero lt = absurd (omega arith)
-p-stream-pad p b is pd ih (suc f) lt = step-stream-pad f (p ++ b) b is (pd .1 b) (ih f (omega (arith, length-append p b, pd .0)))
+complete-stream-pad : (p b : List ℕ) (is : List (Item Scalar)) → Result p padding → Result b (stream is) → Result (p ++ b) (stream is)
+complete-stream-pad p b is pd ih zero lt = absurd (omega arith)
+complete-stream-pad p b is pd ih (suc f) lt = step-stream-pad f (p ++ b) b is (pd .1 b) (ih f (omega (arith, length-append p b, pd .0)))
 
-p-stream-next : (p b : List ℕ) (v : Value) (is : List (Item Scalar)) → Result p (one v) → Result b (stream is) → Result (p ++ b) (stream (value v ∷ is))
-p-stream-next p b v is x ih zero lt = absurd (omega arith)
-p-stream-next p b v is x ih (suc f) lt =
+complete-stream-next : (p b : List ℕ) (v : Value) (is : List (Item Scalar)) → Result p (one v) → Result b (stream is) → Result (p ++ b) (stream (value v ∷ is))
+complete-stream-next p b v is x ih zero lt = absurd (omega arith)
+complete-stream-next p b v is x ih (suc f) lt =
     let r = x .1 (suc f) (omega (arith, length-append p b)) in
     step-stream f (p ++ b) b (r .sh) v is (r .at b) (r .kind) (r .gives) (ih f (omega (arith, length-append p b, x .0)))
 
-p-sids-end : Result [] (sids [])
+complete-sids-end : Result [] (sids [])
 unfolding sidsOf
-p-sids-end zero lt = absurd (omega arith)
-p-sids-end (suc f) lt = refl
+complete-sids-end zero lt = absurd (omega arith)
+complete-sids-end (suc f) lt = refl
 
-p-members-end : Result [] (members noMembers)
+complete-members-end : Result [] (members noMembers)
 unfolding readMembers
-p-members-end zero lt = absurd (omega arith)
-p-members-end (suc f) lt = refl
+complete-members-end zero lt = absurd (omega arith)
+complete-members-end (suc f) lt = refl
 
-p-fields-end : Result [] (fields noFields)
+complete-fields-end : Result [] (fields noFields)
 unfolding readFields
-p-fields-end zero lt = absurd (omega arith)
-p-fields-end (suc f) lt = refl
+complete-fields-end zero lt = absurd (omega arith)
+complete-fields-end (suc f) lt = refl
 
-p-stream-end : Result [] (stream [])
+complete-stream-end : Result [] (stream [])
 unfolding readStream
-p-stream-end zero lt = absurd (omega arith)
-p-stream-end (suc f) lt = refl
+complete-stream-end zero lt = absurd (omega arith)
+complete-stream-end (suc f) lt = refl
 
-p-false : (an : List ℕ) → Result (0x10 ∷ []) (bare an (scalar an (bool false)))
+complete-false : (an : List ℕ) → Result (0x10 ∷ []) (bare an (scalar an (bool false)))
 unfolding boolAt
-p-false an = p-bool an 0 false (omega arith) (λ r. refl)
+complete-false an = complete-bool an 0 false (omega arith) (λ r. refl)
 
-p-true : (an : List ℕ) → Result (0x11 ∷ []) (bare an (scalar an (bool true)))
+complete-true : (an : List ℕ) → Result (0x11 ∷ []) (bare an (scalar an (bool true)))
 unfolding boolAt
-p-true an = p-bool an 1 true (omega arith) (λ r. refl)
+complete-true an = complete-bool an 1 true (omega arith) (λ r. refl)
 
 pub complete : {b : List ℕ} {t : Phrase} → b ⟶ t → Result b t
-complete (pad body hd) = p-pad body hd
-complete sids-end = p-sids-end
-complete (sids-next l {b} {an} {a} e r) = p-sids l b an a e (complete r)
-complete (is-null {an} {t} c e) = p-null an t c e
-complete (is-false {an}) = p-false an
-complete (is-true {an}) = p-true an
-complete (is-zero {an}) = p-zero an
-complete (is-float32 {an} b e) = p-float32 an b e
-complete (is-float64 {an} b e) = p-float64 an b e
-complete (is-scalar {an} c {h} {s} body hd e) = p-scalar an h c s body hd e
-complete (is-sequence {an} k {h} {body} {vs} hd bs) = p-sequence an h body k vs hd (complete bs)
-complete (is-struct {an} {h} {body} {fs} hd bs) = p-struct an h body fs hd (complete bs)
-complete (is-sorted {an} {body} {fs} l e pos bs up) = p-sorted an l body fs e pos up (complete bs)
-complete (is-bare {b} {v} r) = p-one b v (complete r)
-complete (is-annotated {h} {s} {b} {an} {a} {v} l hd e ss r) = p-wrapped h l s b an a v hd e (complete ss) (complete r)
-complete members-end = p-members-end
-complete (members-pad {p} {b} {vs} pd r) = p-members-pad p b vs (complete pd) (complete r)
-complete (members-next {p} {b} {v} {vs} x r) = p-members-next p b v vs (complete x) (complete r)
-complete fields-end = p-fields-end
-complete (fields-pad {p} {b} {k} {fs} l e pd r) = p-fields-pad l p b k fs e (complete pd) (complete r)
-complete (fields-next {p} {b} {k} {v} {fs} l e x r) = p-fields-next l p b k v fs e (complete x) (complete r)
-complete stream-end = p-stream-end
-complete (stream-pad {p} {b} {is} pd r) = p-stream-pad p b is (complete pd) (complete r)
-complete (stream-marker {b} {is} r) = p-marker b is (complete r)
-complete (stream-next {p} {b} {v} {is} x r) = p-stream-next p b v is (complete x) (complete r)
+complete (pad body hd) = complete-pad body hd
+complete sids-end = complete-sids-end
+complete (sids-next l {b} {an} {a} e r) = complete-sids l b an a e (complete r)
+complete (is-null {an} {t} c e) = complete-null an t c e
+complete (is-false {an}) = complete-false an
+complete (is-true {an}) = complete-true an
+complete (is-zero {an}) = complete-zero an
+complete (is-float32 {an} b e) = complete-float32 an b e
+complete (is-float64 {an} b e) = complete-float64 an b e
+complete (is-scalar {an} c {h} {s} body hd e) = complete-scalar an h c s body hd e
+complete (is-sequence {an} k {h} {body} {vs} hd bs) = complete-sequence an h body k vs hd (complete bs)
+complete (is-struct {an} {h} {body} {fs} hd bs) = complete-struct an h body fs hd (complete bs)
+complete (is-sorted {an} {body} {fs} l e pos bs up) = complete-sorted an l body fs e pos up (complete bs)
+complete (is-bare {b} {v} r) = complete-one b v (complete r)
+complete (is-annotated {h} {s} {b} {an} {a} {v} l hd e ss r) = complete-wrapped h l s b an a v hd e (complete ss) (complete r)
+complete members-end = complete-members-end
+complete (members-pad {p} {b} {vs} pd r) = complete-members-pad p b vs (complete pd) (complete r)
+complete (members-next {p} {b} {v} {vs} x r) = complete-members-next p b v vs (complete x) (complete r)
+complete fields-end = complete-fields-end
+complete (fields-pad {p} {b} {k} {fs} l e pd r) = complete-fields-pad l p b k fs e (complete pd) (complete r)
+complete (fields-next {p} {b} {k} {v} {fs} l e x r) = complete-fields-next l p b k v fs e (complete x) (complete r)
+complete stream-end = complete-stream-end
+complete (stream-pad {p} {b} {is} pd r) = complete-stream-pad p b is (complete pd) (complete r)
+complete (stream-marker {b} {is} r) = complete-marker b is (complete r)
+complete (stream-next {p} {b} {v} {is} x r) = complete-stream-next p b v is (complete x) (complete r)
 
 -- ---- two readings of the same bytes are equal
 

@@ -1,9 +1,9 @@
 -- The Gregorian calendar, and the days and minutes counted through it.
 -- Assumes nothing.
 use Prim.Native.Nat.{ℕ, zero, suc, _+_, _*_, _%_}
-use mathlib.Core.Bool.{Bool, true, false, cond, _&&_, _||_, not}
-use mathlib.Core.List.{List, [], _∷_}
-use lib.Dec.{ltb, leb, eqb}
+use mathlib.Core.Bool.{Bool, cond, _&&_, _||_, not}
+use mathlib.Core.List.{[], _∷_}
+use lib.Dec.{leb, eqb}
 use lib.ListN.{getD}
 
 abbrev pub isLeapYear : ℕ → Bool

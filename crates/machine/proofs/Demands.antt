@@ -1,14 +1,13 @@
 -- Demands 2 and 3: by induction over the list of calls, the invariant and the writable model go through every call, refused ones included.
 -- Assumes nothing.
-use Prim.Native.Nat.{ℕ, zero, suc, _+_, _<_, _≤_}
+use Prim.Native.Nat.{ℕ, _≤_}
 use native.Mathlib.Omega.{arith}
-use mathlib.Core.Path.{_≡_, refl, sym, _∙_, ap}
+use mathlib.Core.Path.{_≡_, refl}
 use mathlib.Core.Bool.{Bool, true, false, _&&_}
 use mathlib.Core.List.{List, [], _∷_, _++_, append-assoc, append-nil}
 use lib.Dec.{ltb}
-use lib.ListN.{length, replicate}
+use lib.ListN.{length}
 use borrow.Author.Tests.{ltb-false}
-use Rattle.ion.specs.Value.{Item, marker}
 use Rattle.ion.specs.Grammar.{Reads}
 use Rattle.ion.proofs.Unique.{reads-unique}
 use Rattle.encoding.specs.Headers.{markerBytes}
@@ -16,9 +15,9 @@ use Rattle.encoding.specs.Argument.{Argument}
 use Rattle.encoding.specs.Stream.{streamBytes, WritableItems}
 use Rattle.encoding.proofs.Stream.{streamBytes-reads}
 use Rattle.machine.specs.Call.{Call, TypedCall, AllTyped}
-use Rattle.machine.specs.Machine.{Config, innermostFirst, openContainers, isOpen, effect, longestBuffer, checks, Answer, accepted, refused, answer, isAccepted, ifAccepted, after, emptyState, startAnswer, started, splice, partOf, taken}
+use Rattle.machine.specs.Machine.{Config, openContainers, isOpen, effect, longestBuffer, checks, Answer, accepted, refused, answer, isAccepted, ifAccepted, after, startAnswer, started, splice, partOf, taken}
 use Rattle.machine.specs.Model.{Model, modelStep, startedModel}
-use Rattle.machine.specs.Demands.{afterAll, isEmptying, flushed, joined, modelAfter, spelled, written, Run, Demand2, ReadsOnlyAs, Demand3}
+use Rattle.machine.specs.Demands.{afterAll, isEmptying, flushed, joined, modelAfter, spelled, written, Demand2, Demand3}
 use Rattle.machine.proofs.Invariant.{WritableOf}
 use Rattle.machine.proofs.Splice.{take-splice, length-splice}
 use Rattle.machine.proofs.Steps.{none-failing, Invariant, taken-whole, accepted-keeps, accepted-writable}

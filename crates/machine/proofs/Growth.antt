@@ -1,7 +1,7 @@
 -- What one value more, at the end of a container or of the items, does to the bytes, and that it stays writable.
 -- Assumes nothing.
 use Prim.Native.Nat.{ℕ, _^_, _<_}
-use mathlib.Core.Path.{_≡_, refl}
+use mathlib.Core.Path.{_≡_, sym, _∙_, ap}
 use mathlib.Core.List.{List, [], _∷_, _++_, append-assoc, append-nil}
 use Rattle.ion.specs.Value.{Tree, Members, noMembers, member, Fields, noFields, field, Item}
 use Rattle.encoding.specs.Fields.{varUIntBytes}
@@ -12,7 +12,7 @@ use Rattle.machine.specs.Model.{addMember, addField}
 pub membersBytes-add : (vs : Members Argument) (t : Tree Argument) → membersBytes (addMember vs t) ≡ membersBytes vs ++ treeBytes t
 unfolding treeBytes
 membersBytes-add noMembers t = append-nil (treeBytes t)
-membersBytes-add (member x xs) t = rw (membersBytes-add xs t, append-assoc)
+membersBytes-add (member x xs) t = ap (λ (l : List ℕ). treeBytes x ++ l) (membersBytes-add xs t) ∙ sym (append-assoc (treeBytes x) (membersBytes xs) (treeBytes t))
 
 pub fieldsBytes-add : (fs : Fields Argument) (k : ℕ) (t : Tree Argument) → fieldsBytes (addField fs k t) ≡ fieldsBytes fs ++ (varUIntBytes k ++ treeBytes t)
 unfolding treeBytes

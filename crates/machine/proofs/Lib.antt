@@ -4,3 +4,4 @@ pub mod Splice
 pub mod Steps
 pub mod Meaning
 pub mod Demands
+pub mod Examples

@@ -1,11 +1,11 @@
 -- What a splice leaves in the buffer, and what a set leaves among the open containers.
 -- Assumes nothing.
-use Prim.Native.Nat.{ℕ, zero, suc, _+_, _-_, _<_, _≤_, max, min}
+use Prim.Native.Nat.{ℕ, zero, suc, _+_, _-_, _<_, _≤_, max}
 use native.Mathlib.Omega.{arith}
 use native.Mathlib.Numerals.{add-one}
-use mathlib.Core.Path.{_≡_, refl, ap}
+use mathlib.Core.Path.{_≡_, refl}
 use mathlib.Core.List.{List, [], _∷_, _++_, cons≢nil}
-use lib.ListN.{length, take, drop, replicate, getD, set, length-append, length-take, length-drop, length-replicate}
+use lib.ListN.{length, take, drop, replicate, set, length-append, length-take, length-drop, length-replicate}
 use lib.Seq.{take-at, getD-set-same, getD-set-other}
 use Rattle.machine.specs.declared.Container.{Container}
 use Rattle.machine.specs.Machine.{noContainer, innermostFirst, outer, splice}

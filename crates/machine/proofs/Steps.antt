@@ -1,13 +1,12 @@
 -- Every accepted call keeps the invariant between the machine and the model.
 -- Assumes nothing.
-use Prim.Native.Nat.{ℕ, zero, suc, _+_, _-_, _^_, _<_, _≤_}
+use Prim.Native.Nat.{ℕ, _+_, _<_, _≤_}
 use native.Mathlib.Omega.{arith}
-use native.Mathlib.Nat.{add-zero}
 use mathlib.Core.Path.{_≡_, refl, sym, _∙_, ap}
-use mathlib.Core.Bool.{Bool, true, false, false≢true, _&&_, _||_, not}
+use mathlib.Core.Bool.{Bool, true, false, false≢true, _||_, not}
 use mathlib.Core.List.{List, [], _∷_, _++_, append-nil}
 use lib.Dec.{ltb, leb}
-use lib.ListN.{length, take, set, length-set, length-take}
+use lib.ListN.{length, take, length-set, length-take}
 use lib.Seq.{take-take}
 use borrow.Author.Tests.{ltb-false, leb-false, le-leb, not-false}
 use Rattle.ion.specs.Value.{scalar, marker}

@@ -12,7 +12,7 @@ use Rattle.machine.specs.declared.Container.{Container}
 use Rattle.ion.specs.Value.{listCode, sexpCode, structCode, annotationCode, list, sexp}
 use Rattle.encoding.specs.Fields.{varUIntBytes}
 use Rattle.encoding.specs.Headers.{typeByte, framedBytes, annotationBytes, annotatedBytes, markerBytes}
-use Rattle.encoding.specs.Argument.{Argument, argumentBytes, argumentChecks}
+use Rattle.encoding.specs.Argument.{argumentBytes, argumentChecks}
 use Rattle.machine.specs.Call.{ContainerType, sequenceType, structType, Call, write, name, opening, closing, abandonment, versionMarker, taking, emptying}
 
 -- a state, and the buffer that is lent with it

@@ -1,0 +1,68 @@
+-- Runs of calls, computed by the definitions: bytes, refusals and their order.
+-- Assumes nothing.
+use Prim.Native.Nat.{ℕ, zero, suc}
+use mathlib.Core.Path.{_≡_, refl}
+use mathlib.Core.Bool.{true, false}
+use mathlib.Core.List.{List, [], _∷_, _++_, map}
+use mathlib.Core.Option.{none, some}
+use lib.ListN.{take, replicate}
+use lib.IntN.{pos, negsuc}
+use Rattle.ion.specs.Value.{noFraction, list}
+use Rattle.ion.specs.Fields.{bigEndian}
+use Rattle.ion.specs.Text.{begun, utf8From, utf8}
+use Rattle.ion.specs.Scalars.{areFields}
+use Rattle.encoding.specs.Digits.{lowDigits, countDigits, digitCount, digits}
+use Rattle.encoding.specs.Fields.{varUIntBytes, varUIntsBytes, varIntGroups, varIntBytes, uintBytes, trimmed, intBytes}
+use Rattle.encoding.specs.Headers.{headerBytes, framedBytes, annotationBytes, annotatedBytes}
+use Rattle.encoding.specs.Decimal.{decimalBody}
+use Rattle.encoding.specs.Timestamp.{dayBefore, dayAfter, isTimestamp, timestampBody}
+use Rattle.encoding.specs.Argument.{writeBool, writeI64, writeInt, writeDecimal, writeTimestamp, writeString, argumentBytes}
+use Rattle.machine.specs.Call.{sequenceType, structType, Call, write, name, opening, closing, abandonment, versionMarker, taking, emptying}
+use Rattle.machine.specs.Machine.{Config, closedBytes, splice, containersFit, fits, Answer, accepted, refused, answer, after, emptyState, startAnswer, started, taken}
+use Rattle.machine.specs.Demands.{joined}
+
+-- the answers to a list of calls
+answers : List Call → Config → List Answer
+answers [] w = []
+answers (c ∷ cs) w = answer c w ∷ answers cs (after c w)
+
+-- a struct with an annotation, a value without a name, which is refused, an emptying; an abandoned list, and an int; over a buffer that holds nines
+calls : List Call
+calls =
+    opening (10 ∷ []) structType ∷ name 4 ∷ write [] (writeBool true) ∷ write [] (writeBool true) ∷ closing ∷ emptying
+    ∷ opening [] (sequenceType list) ∷ write [] (writeBool false) ∷ abandonment ∷ write [] (writeI64 (pos 7)) ∷ versionMarker ∷ taking ∷ []
+
+nines : List ℕ
+nines = replicate 40 9
+
+calls-joined : joined calls (started nines) ≡ 0xE0 ∷ 0x01 ∷ 0x00 ∷ 0xEA ∷ 0xE5 ∷ 0x81 ∷ 0x8A ∷ 0xD2 ∷ 0x84 ∷ 0x11 ∷ 0x21 ∷ 0x07 ∷ 0xE0 ∷ 0x01 ∷ 0x00 ∷ 0xEA ∷ []
+unfolding calls nines joined answer startAnswer taken fits containersFit splice closedBytes argumentBytes annotatedBytes annotationBytes framedBytes headerBytes uintBytes varUIntsBytes varUIntBytes digits digitCount countDigits lowDigits
+calls-joined = refl
+
+calls-answers : answers calls (started nines) ≡ accepted ∷ accepted ∷ accepted ∷ refused 3 ∷ accepted ∷ accepted ∷ accepted ∷ accepted ∷ accepted ∷ accepted ∷ accepted ∷ accepted ∷ []
+unfolding answers calls nines answer startAnswer fits containersFit splice closedBytes argumentBytes annotatedBytes annotationBytes framedBytes headerBytes uintBytes varUIntsBytes varUIntBytes digits digitCount countDigits lowDigits
+calls-answers = refl
+
+-- a list of 128 bytes: its header grows by one byte over the reserve
+long : List Call
+long = opening [] (sequenceType list) ∷ (replicate 128 (write [] (writeBool true)) ++ (closing ∷ []))
+
+long-joined : take 8 (joined long (started (replicate 135 9))) ≡ 0xE0 ∷ 0x01 ∷ 0x00 ∷ 0xEA ∷ 0xBE ∷ 0x01 ∷ 0x80 ∷ 0x11 ∷ []
+unfolding long joined answer startAnswer taken fits containersFit splice closedBytes argumentBytes annotatedBytes framedBytes headerBytes varUIntBytes digits digitCount countDigits lowDigits
+long-joined = refl
+
+-- in a struct with no name waiting every fault is 3; outside, each argument's own number; with no room, 10 last
+refusals : answers (opening [] structType ∷ write [] (writeInt true []) ∷ write [] (writeString (0xFF ∷ [])) ∷ closing ∷ write [] (writeInt true (0 ∷ [])) ∷ write [] (writeString (0xFF ∷ [])) ∷ write [] (writeTimestamp (some (pos 0)) (2000 ∷ []) noFraction) ∷ write [] (writeDecimal false (replicate 32 1) (pos 0)) ∷ write [] (writeDecimal false (replicate 31 1) (pos 0)) ∷ closing ∷ abandonment ∷ name 4 ∷ []) (started (replicate 6 9))
+    ≡ accepted ∷ refused 3 ∷ refused 3 ∷ accepted ∷ refused 5 ∷ refused 6 ∷ refused 7 ∷ refused 8 ∷ refused 10 ∷ refused 3 ∷ refused 3 ∷ refused 3 ∷ []
+unfolding answers answer startAnswer fits containersFit splice closedBytes bigEndian begun utf8From utf8 areFields isTimestamp timestampBody decimalBody argumentBytes annotatedBytes framedBytes headerBytes trimmed intBytes uintBytes varUIntsBytes varIntBytes varIntGroups varUIntBytes digits digitCount countDigits lowDigits
+refusals = refl
+
+-- 32 may be open
+deep : answers (replicate 33 (opening [] (sequenceType list))) (started (replicate 100 9)) ≡ replicate 32 accepted ++ (refused 4 ∷ [])
+unfolding answers answer startAnswer fits containersFit splice
+deep = refl
+
+-- starts: too small a buffer
+starts : startAnswer (9 ∷ 9 ∷ 9 ∷ []) ∷ startAnswer (9 ∷ 9 ∷ 9 ∷ 9 ∷ []) ∷ [] ≡ refused 10 ∷ accepted ∷ []
+unfolding startAnswer
+starts = refl
