@@ -52,7 +52,7 @@ call-writable done w x c inv t o = by-answer (answer c w) refl
 
 -- ---- a list of calls
 
-none-left : (w : Config) → w .state .depth ≡ 0 → isOpen (openContainers w) ≡ false
+none-left : (w : Config) → w .state .depth ≡ 0 → isOpen (openContainers (w .state)) ≡ false
 none-left w e = rw e
 
 joined-is : (cs : List Call) (done : List ℕ) (w : Config) (x : Model Argument) → Invariant done w x → afterAll cs w .state .depth ≡ 0 → done ++ joined cs w ≡ streamBytes ((modelAfter (λ a. a) cs w x) .items)

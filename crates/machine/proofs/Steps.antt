@@ -38,7 +38,7 @@ split-holds (x ∷ l) r h = let s = split-holds l r (h .1) in ((h .0, s .0), s .
 
 -- the lines of a call, by name
 record Passed (w : Config) (misplaced : Bool) (lines : List (Bool × ℕ)) (used : ℕ) : Type 0 where
-  fit : fits w ≡ true
+  fit : fits (w .state) (length (w .buffer)) ≡ true
   place : misplaced ≡ false
   own : NoneHolds lines
   room : used ≤ length (w .buffer)
@@ -46,7 +46,7 @@ record Passed (w : Config) (misplaced : Bool) (lines : List (Bool × ℕ)) (used
 passed : (w : Config) (misplaced : Bool) (own : List (Bool × ℕ)) (used : ℕ) → NoneHolds (lines w misplaced own used) → Passed w misplaced own used
 passed w misplaced own used h =
     let s = split-holds own ((ltb (length (w .buffer)) used, 10) ∷ []) (h .1 .1 .1) in
-    record { fit = not-false (fits w) (h .1 .0); place = h .1 .1 .0; own = s .0; room = ltb-false (length (w .buffer)) used (s .1 .0) }
+    record { fit = not-false (fits (w .state) (length (w .buffer))) (h .1 .0); place = h .1 .1 .0; own = s .0; room = ltb-false (length (w .buffer)) used (s .1 .0) }
 
 -- ---- the invariant: the state fits its buffer, and the live bytes are laid out as the model says
 
@@ -55,9 +55,9 @@ pub record Invariant (done : List ℕ) (w : Config) (x : Model Argument) : Type 
   pub short : length (w .buffer) ≤ longestBuffer
   pub flag : w .state .waiting ≡ isSome (x .waiting)
   pub records : length (w .state .containers) ≡ 32
-  pub layout : LayoutOf done (live w) (openContainers w) x
+  pub layout : LayoutOf done (live w) (openContainers (w .state)) x
 
-fits-outside : (w : Config) → w .state .used ≤ length (w .buffer) → openContainers w ≡ [] → w .state .waiting ≡ false → fits w ≡ true
+fits-outside : (w : Config) → w .state .used ≤ length (w .buffer) → openContainers (w .state) ≡ [] → w .state .waiting ≡ false → fits (w .state) (length (w .buffer)) ≡ true
 unfolding fits containersFit
 fits-outside w h f n = rw (f, n, le-leb (w .state .used) (length (w .buffer)) h, none-open (w .state .containers) (w .state .depth) f)
 
@@ -65,7 +65,7 @@ fits-outside w h f n = rw (f, n, le-leb (w .state .used) (length (w .buffer)) h,
 put-keeps : (done out pre : List ℕ) (w : Config) (x : Model Argument) (y : Config) (z : Model Argument) (inv : Invariant done w x)
     → (p : ℕ) → p ≤ w .state .used → p + length out ≤ length (w .buffer) → take p (w .buffer) ≡ pre
     → y .state .used ≡ p + length out → y .buffer ≡ splice (w .state .used) p out (w .buffer) → y .state .waiting ≡ isSome (z .waiting)
-    → length (y .state .containers) ≡ 32 → LayoutOf done (pre ++ out) (openContainers y) z → Invariant done y z
+    → length (y .state .containers) ≡ 32 → LayoutOf done (pre ++ out) (openContainers (y .state)) z → Invariant done y z
 put-keeps done out pre w x y z inv p hp room front eu eb ef es c =
     let lp : p ≤ length (w .buffer) = omega (arith, inv .fit) in
     let l : length (y .buffer) ≡ length (w .buffer) = ap length eb ∙ length-splice (w .state .used) p out (w .buffer) lp (inv .fit) room in
@@ -85,52 +85,52 @@ module _ (done : List ℕ) (w : Config) (x : Model Argument) (inv : Invariant do
   length-live = simp length-take (omega (arith, inv .fit))
 
   -- line 3 of a value
-  can : lacksName w ≡ false → isSome (x .waiting) ≡ insideStruct (x .stack)
-  can e = ready done (live w) (openContainers w) (x .items) (x .stack) (x .waiting) (inv .layout) (rw (inv .flag) at e)
+  can : lacksName (w .state) ≡ false → isSome (x .waiting) ≡ insideStruct (x .stack)
+  can e = ready done (live w) (openContainers (w .state)) (x .items) (x .stack) (x .waiting) (inv .layout) (rw (inv .flag) at e)
 
   -- what `out` at the end of the used bytes needs
   at-end : (out : List ℕ) (y : Config) (z : Model Argument) → w .state .used + length out ≤ length (w .buffer) → y .state .used ≡ w .state .used + length out
-      → y .buffer ≡ splice (w .state .used) (w .state .used) out (w .buffer) → y .state .waiting ≡ isSome (z .waiting) → length (y .state .containers) ≡ 32 → LayoutOf done (live w ++ out) (openContainers y) z → Invariant done y z
+      → y .buffer ≡ splice (w .state .used) (w .state .used) out (w .buffer) → y .state .waiting ≡ isSome (z .waiting) → length (y .state .containers) ≡ 32 → LayoutOf done (live w ++ out) (openContainers (y .state)) z → Invariant done y z
   at-end out y z room eu eb ef es c = put-keeps done out (live w) w x y z inv (w .state .used) (omega arith) room refl eu eb ef es c
 
   write-keeps : (an : List ℕ) (a : Argument) → NoneHolds (checks (write an a) w) → Invariant done (effect (write an a) w) (spellArguments (write an a) x)
   unfolding treeBytes
   write-keeps an a h =
-      let k = passed w (lacksName w) (argumentChecks a) (effect (write an a) w .state .used) h in
+      let k = passed w (lacksName (w .state)) (argumentChecks a) (effect (write an a) w .state .used) h in
       let r = can (k .place) in
       at-end (annotatedBytes an (argumentBytes a)) (effect (write an a) w) (spellArguments (write an a) x) (k .room) refl refl (sym (add-quiet (x .items) (x .stack) (x .waiting) (scalar an a) r)) (inv .records)
-      (add-layout done (live w) (openContainers w) (x .items) (x .stack) (x .waiting) (scalar an a) (inv .layout) r)
+      (add-layout done (live w) (openContainers (w .state)) (x .items) (x .stack) (x .waiting) (scalar an a) (inv .layout) r)
 
   write-writable : (an : List ℕ) (a : Argument) → NoneHolds (checks (write an a) w) → TypedCall (write an a) → WritableOf x → WritableOf (spellArguments (write an a) x)
   unfolding treeBytes Writable
   write-writable an a h t o =
-      let k = passed w (lacksName w) (argumentChecks a) (effect (write an a) w .state .used) h in
+      let k = passed w (lacksName (w .state)) (argumentChecks a) (effect (write an a) w .state .used) h in
       add-writable (x .items) (x .stack) (x .waiting) (scalar an a) o (t .0, t .1, k .own) (omega (arith, k .room, inv .short))
 
   name-keeps : (n : ℕ) → NoneHolds (checks (name n) w) → Invariant done (effect (name n) w) (spellArguments (name n) x)
   name-keeps n h =
-      let k = passed w (not (inStruct (openContainers w)) || w .state .waiting) [] (effect (name n) w .state .used) h in
+      let k = passed w (not (inStruct (openContainers (w .state))) || w .state .waiting) [] (effect (name n) w .state .used) h in
       at-end (varUIntBytes n) (effect (name n) w) (spellArguments (name n) x) (k .room) refl refl refl (inv .records)
-      (name-layout done (live w) (openContainers w) (x .items) (x .stack) (x .waiting) (inv .layout) n (rw (inv .flag) at (k .place)))
+      (name-layout done (live w) (openContainers (w .state)) (x .items) (x .stack) (x .waiting) (inv .layout) n (rw (inv .flag) at (k .place)))
 
   opening-keeps : (an : List ℕ) (t : ContainerType) → NoneHolds (checks (opening an t) w) → Invariant done (effect (opening an t) w) (spellArguments (opening an t) x)
   opening-keeps an t h =
-      let k = passed w (lacksName w) ((leb 32 (w .state .depth), 4) ∷ []) (effect (opening an t) w .state .used) h in
+      let k = passed w (lacksName (w .state)) ((leb 32 (w .state .depth), 4) ∷ []) (effect (opening an t) w .state .used) h in
       let c = containerAt (w .state .used) an t in
       let d : w .state .depth < length (w .state .containers) = omega (arith, leb-false 32 (w .state .depth) (k .own .0), inv .records) in
       at-end (reserve an) (effect (opening an t) w) (spellArguments (opening an t) x) (k .room) refl refl refl (length-set (w .state .containers) (w .state .depth) c ∙ inv .records)
-      (rw (opened-containers (w .state .containers) (w .state .depth) c d) (rw length-live at (opening-layout done (live w) (openContainers w) (x .items) (x .stack) (x .waiting) (inv .layout) an t (can (k .place)))))
+      (rw (opened-containers (w .state .containers) (w .state .depth) c d) (rw length-live at (opening-layout done (live w) (openContainers (w .state)) (x .items) (x .stack) (x .waiting) (inv .layout) an t (can (k .place)))))
 
   -- the innermost container, for a closing and an abandonment
-  inner : isOpen (openContainers w) ≡ true → Innermost done (live w) (openContainers w) (x .items) (x .stack) (x .waiting)
-  inner e = innermost done (live w) (openContainers w) (x .items) (x .stack) (x .waiting) (inv .layout) e
+  inner : isOpen (openContainers (w .state)) ≡ true → Innermost done (live w) (openContainers (w .state)) (x .items) (x .stack) (x .waiting)
+  inner e = innermost done (live w) (openContainers (w .state)) (x .items) (x .stack) (x .waiting) (inv .layout) e
 
   -- what `out` in the place of the innermost container needs
-  in-place : (out : List ℕ) (y : Config) (z : Model Argument) (d : Innermost done (live w) (openContainers w) (x .items) (x .stack) (x .waiting)) → innermostStart (openContainers w) (w .state .used) + length out ≤ length (w .buffer)
-      → y .state .used ≡ innermostStart (openContainers w) (w .state .used) + length out → y .buffer ≡ splice (w .state .used) (innermostStart (openContainers w) (w .state .used)) out (w .buffer)
-      → y .state .waiting ≡ isSome (z .waiting) → length (y .state .containers) ≡ 32 → LayoutOf done (d .pre ++ out) (openContainers y) z → Invariant done y z
+  in-place : (out : List ℕ) (y : Config) (z : Model Argument) (d : Innermost done (live w) (openContainers (w .state)) (x .items) (x .stack) (x .waiting)) → innermostStart (openContainers (w .state)) (w .state .used) + length out ≤ length (w .buffer)
+      → y .state .used ≡ innermostStart (openContainers (w .state)) (w .state .used) + length out → y .buffer ≡ splice (w .state .used) (innermostStart (openContainers (w .state)) (w .state .used)) out (w .buffer)
+      → y .state .waiting ≡ isSome (z .waiting) → length (y .state .containers) ≡ 32 → LayoutOf done (d .pre ++ out) (openContainers (y .state)) z → Invariant done y z
   in-place out y z d room eu eb ef es c =
-      let p = innermostStart (openContainers w) (w .state .used) in
+      let p = innermostStart (openContainers (w .state)) (w .state .used) in
       let at : p ≡ length (d .pre) = d .starts (w .state .used) in
       let le : p ≤ w .state .used = omega (arith, d .within, length-live) in
       let front : take p (w .buffer) ≡ d .pre = sym (take-take p (w .state .used) (w .buffer) le) ∙ rw at (d .front) in
@@ -138,56 +138,56 @@ module _ (done : List ℕ) (w : Config) (x : Model Argument) (inv : Invariant do
 
   closing-keeps : NoneHolds (checks closing w) → Invariant done (effect closing w) (spellArguments closing x)
   closing-keeps h =
-      let k = passed w (not (isOpen (openContainers w)) || w .state .waiting) [] (effect closing w .state .used) h in
-      let b = or-false (isOpen (openContainers w)) (w .state .waiting) (k .place) in
+      let k = passed w (not (isOpen (openContainers (w .state))) || w .state .waiting) [] (effect closing w .state .used) h in
+      let b = or-false (isOpen (openContainers (w .state))) (w .state .waiting) (k .place) in
       let d = inner (b .0) in
-      in-place (closedInnermost (openContainers w) (live w)) (effect closing w) (spellArguments closing x) d (k .room) refl refl (sym (d .quiet)) (inv .records)
+      in-place (closedInnermost (openContainers (w .state)) (live w)) (effect closing w) (spellArguments closing x) d (k .room) refl refl (sym (d .quiet)) (inv .records)
       (rw (closed-containers (w .state .containers) (w .state .depth)) (d .closes (sym (inv .flag) ∙ b .1)))
 
   closing-writable : NoneHolds (checks closing w) → WritableOf x → WritableOf (spellArguments closing x)
   closing-writable h o =
-      let k = passed w (not (isOpen (openContainers w)) || w .state .waiting) [] (effect closing w .state .used) h in
-      let b = or-false (isOpen (openContainers w)) (w .state .waiting) (k .place) in
+      let k = passed w (not (isOpen (openContainers (w .state))) || w .state .waiting) [] (effect closing w .state .used) h in
+      let b = or-false (isOpen (openContainers (w .state))) (w .state .waiting) (k .place) in
       inner (b .0) .writable o (sym (inv .flag) ∙ b .1) (omega (arith, k .room, inv .short))
 
   abandonment-keeps : NoneHolds (checks abandonment w) → Invariant done (effect abandonment w) (spellArguments abandonment x)
   abandonment-keeps h =
-      let k = passed w (not (isOpen (openContainers w))) [] (effect abandonment w .state .used) h in
-      let d = inner (not-false (isOpen (openContainers w)) (k .place)) in
+      let k = passed w (not (isOpen (openContainers (w .state)))) [] (effect abandonment w .state .used) h in
+      let d = inner (not-false (isOpen (openContainers (w .state))) (k .place)) in
       in-place [] (effect abandonment w) (spellArguments abandonment x) d (k .room) refl refl (d .again) (inv .records)
       (rw (append-nil, closed-containers (w .state .containers) (w .state .depth)) (d .abandoned))
 
   marker-keeps : NoneHolds (checks versionMarker w) → Invariant done (effect versionMarker w) (spellArguments versionMarker x)
   marker-keeps h =
-      let k = passed w (isOpen (openContainers w)) [] (effect versionMarker w .state .used) h in
+      let k = passed w (isOpen (openContainers (w .state))) [] (effect versionMarker w .state .used) h in
       at-end markerBytes (effect versionMarker w) (spellArguments versionMarker x) (k .room) refl refl (inv .flag) (inv .records)
-      (marker-layout done (live w) (openContainers w) (x .items) (x .stack) (x .waiting) (inv .layout) (k .place))
+      (marker-layout done (live w) (openContainers (w .state)) (x .items) (x .stack) (x .waiting) (inv .layout) (k .place))
 
   -- ---- takings and emptyings
 
-  outside-now : isOpen (openContainers w) ≡ false → w .state .waiting ≡ false
-  outside-now o = inv .flag ∙ ap isSome (outside done (live w) (openContainers w) (x .items) (x .stack) (x .waiting) (inv .layout) o .2)
+  outside-now : isOpen (openContainers (w .state)) ≡ false → w .state .waiting ≡ false
+  outside-now o = inv .flag ∙ ap isSome (outside done (live w) (openContainers (w .state)) (x .items) (x .stack) (x .waiting) (inv .layout) o .2)
 
   -- with no container open a taking hands back the live bytes
-  pub taken-live : isOpen (openContainers w) ≡ false → taken w ≡ live w
+  pub taken-live : isOpen (openContainers (w .state)) ≡ false → taken w ≡ live w
   unfolding taken
   taken-live o =
-      let r = outside done (live w) (openContainers w) (x .items) (x .stack) (x .waiting) (inv .layout) o in
+      let r = outside done (live w) (openContainers (w .state)) (x .items) (x .stack) (x .waiting) (inv .layout) o in
       rw (le-leb (length (w .buffer)) longestBuffer (inv .short), fits-outside w (inv .fit) (r .0) (outside-now o), o, outside-now o)
 
   -- and they end the encoding of what was written
-  pub taken-whole : isOpen (openContainers w) ≡ false → done ++ taken w ≡ streamBytes (x .items)
-  taken-whole o = rw (taken-live o) (outside done (live w) (openContainers w) (x .items) (x .stack) (x .waiting) (inv .layout) o .3)
+  pub taken-whole : isOpen (openContainers (w .state)) ≡ false → done ++ taken w ≡ streamBytes (x .items)
+  taken-whole o = rw (taken-live o) (outside done (live w) (openContainers (w .state)) (x .items) (x .stack) (x .waiting) (inv .layout) o .3)
 
   emptying-keeps : NoneHolds (checks emptying w) → Invariant (done ++ taken w) (effect emptying w) (spellArguments emptying x)
   emptying-keeps h =
-      let k = passed w (isOpen (openContainers w)) [] (effect emptying w .state .used) h in
+      let k = passed w (isOpen (openContainers (w .state))) [] (effect emptying w .state .used) h in
       record {
         fit = omega arith;
         short = inv .short;
         flag = inv .flag;
         records = inv .records;
-        layout = rw (taken-live (k .place)) (emptying-layout done (live w) (openContainers w) (x .items) (x .stack) (x .waiting) (inv .layout) (k .place));
+        layout = rw (taken-live (k .place)) (emptying-layout done (live w) (openContainers (w .state)) (x .items) (x .stack) (x .waiting) (inv .layout) (k .place));
       }
 
 -- ---- every call

@@ -30,8 +30,8 @@ abbrev pub innermostFirst : List Container → ℕ → List Container
 innermostFirst l zero = []
 innermostFirst l (suc n) = getD l n noContainer ∷ innermostFirst l n
 
-abbrev pub openContainers : Config → List Container
-openContainers w = innermostFirst (w .state .containers) (w .state .depth)
+abbrev pub openContainers : State → List Container
+openContainers s = innermostFirst (s .containers) (s .depth)
 
 abbrev pub isOpen : List Container → Bool
 isOpen [] = false
@@ -105,8 +105,8 @@ effect (name n) w = put w (w .state .used) (varUIntBytes n) (w .state .depth) tr
 effect (opening an k) w =
     put w (w .state .used) (reserve an) (w .state .depth + 1) false
     (set (w .state .containers) (w .state .depth) (record { start = w .state .used; header = headerPlace (w .state .used) an; code = containerCode k }))
-effect closing w = put w (innermostStart (openContainers w) (w .state .used)) (closedInnermost (openContainers w) (live w)) (w .state .depth - 1) false (w .state .containers)
-effect abandonment w = put w (innermostStart (openContainers w) (w .state .used)) [] (w .state .depth - 1) (inStruct (outer (openContainers w))) (w .state .containers)
+effect closing w = put w (innermostStart (openContainers (w .state)) (w .state .used)) (closedInnermost (openContainers (w .state)) (live w)) (w .state .depth - 1) false (w .state .containers)
+effect abandonment w = put w (innermostStart (openContainers (w .state)) (w .state .used)) [] (w .state .depth - 1) (inStruct (outer (openContainers (w .state)))) (w .state .containers)
 effect versionMarker w = put w (w .state .used) markerBytes (w .state .depth) (w .state .waiting) (w .state .containers)
 effect taking w = w
 effect emptying w = record { state = record { used = 0; depth = w .state .depth; waiting = w .state .waiting; containers = w .state .containers }; buffer = w .buffer }
@@ -123,35 +123,35 @@ containersFit limit (c ∷ cs) =
     (eqb (c .code) (typeByte listCode) || (eqb (c .code) (typeByte sexpCode) || eqb (c .code) (typeByte structCode)))
     && ((eqb (c .header) (c .start) || leb (c .start + 4) (c .header)) && (leb (c .header + 2) limit && containersFit (c .start) cs))
 
--- "State fits": used at most the buffer's length; at most 32 containers, and they fit; a name waits only in an innermost struct
-unfoldable pub fits : Config → Bool
-fits w =
-    leb (w .state .used) (length (w .buffer))
-    && (leb (w .state .depth) 32 && (containersFit (w .state .used) (openContainers w) && (not (w .state .waiting) || inStruct (openContainers w))))
+-- "State fits", `room` being the buffer's length: used at most that; at most 32 containers, and they fit; a name waits only in an innermost struct
+unfoldable pub fits : State → ℕ → Bool
+fits s room =
+    leb (s .used) room
+    && (leb (s .depth) 32 && (containersFit (s .used) (openContainers s) && (not (s .waiting) || inStruct (openContainers s))))
 
 -- a value in a struct with no name waiting
-abbrev pub lacksName : Config → Bool
-lacksName w = inStruct (openContainers w) && not (w .state .waiting)
+abbrev pub lacksName : State → Bool
+lacksName s = inStruct (openContainers s) && not (s .waiting)
 
 -- The lines 1, 2, 3, those that only some calls have, and 10: each test that refuses, with its number.
 -- `misplaced` is line 3 of the call, `own` its lines of 4 to 9, `used` its used length on return.
 abbrev pub lines : Config → Bool → List (Bool × ℕ) → ℕ → List (Bool × ℕ)
 lines w misplaced own used =
     (ltb longestBuffer (length (w .buffer)), 1)
-    ∷ (not (fits w), 2)
+    ∷ (not (fits (w .state) (length (w .buffer))), 2)
     ∷ (misplaced, 3)
     ∷ (own ++ ((ltb (length (w .buffer)) used, 10) ∷ []))
 
 -- A taking has no number: it hands back a part, which may be empty.
 abbrev pub checks : Call → Config → List (Bool × ℕ)
-checks (write an a) w = lines w (lacksName w) (argumentChecks a) (effect (write an a) w .state .used)
-checks (name n) w = lines w (not (inStruct (openContainers w)) || w .state .waiting) [] (effect (name n) w .state .used)
-checks (opening an k) w = lines w (lacksName w) ((leb 32 (w .state .depth), 4) ∷ []) (effect (opening an k) w .state .used)
-checks closing w = lines w (not (isOpen (openContainers w)) || w .state .waiting) [] (effect closing w .state .used)
-checks abandonment w = lines w (not (isOpen (openContainers w))) [] (effect abandonment w .state .used)
-checks versionMarker w = lines w (isOpen (openContainers w)) [] (effect versionMarker w .state .used)
+checks (write an a) w = lines w (lacksName (w .state)) (argumentChecks a) (effect (write an a) w .state .used)
+checks (name n) w = lines w (not (inStruct (openContainers (w .state))) || w .state .waiting) [] (effect (name n) w .state .used)
+checks (opening an k) w = lines w (lacksName (w .state)) ((leb 32 (w .state .depth), 4) ∷ []) (effect (opening an k) w .state .used)
+checks closing w = lines w (not (isOpen (openContainers (w .state))) || w .state .waiting) [] (effect closing w .state .used)
+checks abandonment w = lines w (not (isOpen (openContainers (w .state)))) [] (effect abandonment w .state .used)
+checks versionMarker w = lines w (isOpen (openContainers (w .state))) [] (effect versionMarker w .state .used)
 checks taking w = []
-checks emptying w = lines w (isOpen (openContainers w)) [] (effect emptying w .state .used)
+checks emptying w = lines w (isOpen (openContainers (w .state))) [] (effect emptying w .state .used)
 
 pub data Answer : Type 0 where
   accepted : Answer
@@ -198,4 +198,4 @@ partOf false x = []
 
 -- empty if a container is open, a field name waits, or the state or buffer would be refused by 1 or 2
 unfoldable pub taken : Config → List ℕ
-taken w = partOf (leb (length (w .buffer)) longestBuffer && (fits w && (not (isOpen (openContainers w)) && not (w .state .waiting)))) (live w)
+taken w = partOf (leb (length (w .buffer)) longestBuffer && (fits (w .state) (length (w .buffer)) && (not (isOpen (openContainers (w .state))) && not (w .state .waiting)))) (live w)
