@@ -15,7 +15,7 @@ use Rattle.encoding.specs.Argument.{Argument}
 use Rattle.encoding.specs.Stream.{streamBytes, WritableItems}
 use Rattle.encoding.proofs.Stream.{streamBytes-reads}
 use Rattle.machine.specs.Call.{Call, TypedCall, AllTyped}
-use Rattle.machine.specs.Machine.{Config, openContainers, isOpen, effect, longestBuffer, checks, Answer, accepted, refused, answer, isAccepted, ifAccepted, after, startAnswer, started, splice, partOf, taken}
+use Rattle.machine.specs.Machine.{Config, openContainers, isOpen, effect, longestBuffer, checks, Verdict, accepted, refused, verdict, isAccepted, ifAccepted, after, startVerdict, started, splice, partOf, taken}
 use Rattle.machine.specs.Model.{Model, modelStep, startedModel}
 use Rattle.machine.specs.Demands.{afterAll, isEmptying, flushed, joined, modelAfter, spelled, written, Demand2, Demand3}
 use Rattle.machine.proofs.Invariant.{WritableOf}
@@ -24,7 +24,7 @@ use Rattle.machine.proofs.Steps.{none-failing, Invariant, taken-whole, 
 use Rattle.machine.proofs.Meaning.{spelled-is}
 
 abbrev stepArguments : Call → Config → Model Argument → Model Argument
-stepArguments c w x = modelStep (λ a. a) c (isAccepted (answer c w)) x
+stepArguments c w x = modelStep (λ a. a) c (isAccepted (verdict c w)) x
 
 and-yes : (b : Bool) → (b && true) ≡ b
 and-yes true = refl
@@ -37,18 +37,18 @@ and-no false = refl
 -- ---- one call, accepted or refused
 
 call-keeps : (done : List ℕ) (w : Config) (x : Model Argument) (c : Call) → Invariant done w x → Invariant (done ++ flushed c w) (after c w) (stepArguments c w x)
-call-keeps done w x c inv = by-answer (answer c w) refl
+call-keeps done w x c inv = by-verdict (verdict c w) refl
   where
-    by-answer : (a : Answer) → answer c w ≡ a → Invariant (done ++ partOf (isEmptying c && isAccepted a) (taken w)) (ifAccepted a (effect c w) w) (modelStep (λ a. a) c (isAccepted a) x)
-    by-answer accepted e = rw and-yes (accepted-keeps done w x c inv (none-failing (checks c w) (unfold answer in e)))
-    by-answer (refused n) e = rw (and-no, append-nil) inv
+    by-verdict : (a : Verdict) → verdict c w ≡ a → Invariant (done ++ partOf (isEmptying c && isAccepted a) (taken w)) (ifAccepted a (effect c w) w) (modelStep (λ a. a) c (isAccepted a) x)
+    by-verdict accepted e = rw and-yes (accepted-keeps done w x c inv (none-failing (checks c w) (unfold verdict in e)))
+    by-verdict (refused n) e = rw (and-no, append-nil) inv
 
 call-writable : (done : List ℕ) (w : Config) (x : Model Argument) (c : Call) → Invariant done w x → TypedCall c → WritableOf x → WritableOf (stepArguments c w x)
-call-writable done w x c inv t o = by-answer (answer c w) refl
+call-writable done w x c inv t o = by-verdict (verdict c w) refl
   where
-    by-answer : (a : Answer) → answer c w ≡ a → WritableOf (modelStep (λ a. a) c (isAccepted a) x)
-    by-answer accepted e = accepted-writable done w x c inv (none-failing (checks c w) (unfold answer in e)) t o
-    by-answer (refused n) e = o
+    by-verdict : (a : Verdict) → verdict c w ≡ a → WritableOf (modelStep (λ a. a) c (isAccepted a) x)
+    by-verdict accepted e = accepted-writable done w x c inv (none-failing (checks c w) (unfold verdict in e)) t o
+    by-verdict (refused n) e = o
 
 -- ---- a list of calls
 
@@ -67,10 +67,10 @@ all-writable (c ∷ cs) done w x inv t o = all-writable cs (done ++ flushed c w)
 
 -- ---- the start
 
-start-keeps : (b : List ℕ) → startAnswer b ≡ accepted → Invariant [] (started b) startedModel
+start-keeps : (b : List ℕ) → startVerdict b ≡ accepted → Invariant [] (started b) startedModel
 unfolding streamBytes
 start-keeps b e =
-    let h = none-failing ((ltb longestBuffer (length b), 1) ∷ (ltb (length b) 4, 10) ∷ []) (unfold startAnswer in e) in
+    let h = none-failing ((ltb longestBuffer (length b), 1) ∷ (ltb (length b) 4, 10) ∷ []) (unfold startVerdict in e) in
     let short : length b ≤ longestBuffer = ltb-false longestBuffer (length b) (h .0) in
     let room : 4 ≤ length b = ltb-false (length b) 4 (h .1 .0) in
     let l : length (splice 0 0 markerBytes b) ≡ length b = length-splice 0 0 markerBytes b (omega arith) (omega arith) (omega arith) in

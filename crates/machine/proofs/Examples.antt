@@ -18,13 +18,13 @@ use Rattle.encoding.specs.Decimal.{decimalBody}
 use Rattle.encoding.specs.Timestamp.{dayBefore, dayAfter, isTimestamp, timestampBody}
 use Rattle.encoding.specs.Argument.{writeBool, writeI64, writeInt, writeDecimal, writeTimestamp, writeString, argumentBytes}
 use Rattle.machine.specs.Call.{sequenceType, structType, Call, write, name, opening, closing, abandonment, versionMarker, taking, emptying}
-use Rattle.machine.specs.Machine.{Config, closedBytes, splice, containersFit, fits, Answer, accepted, refused, answer, after, emptyState, startAnswer, started, taken}
+use Rattle.machine.specs.Machine.{Config, closedBytes, splice, containerFits, containersFit, fits, Verdict, accepted, refused, verdict, after, emptyState, startVerdict, started, taken}
 use Rattle.machine.specs.Demands.{joined}
 
 -- the answers to a list of calls
-answers : List Call → Config → List Answer
-answers [] w = []
-answers (c ∷ cs) w = answer c w ∷ answers cs (after c w)
+verdicts : List Call → Config → List Verdict
+verdicts [] w = []
+verdicts (c ∷ cs) w = verdict c w ∷ verdicts cs (after c w)
 
 -- a struct with an annotation, a value without a name, which is refused, an emptying; an abandoned list, and an int; over a buffer that holds nines
 calls : List Call
@@ -36,33 +36,33 @@ nines : List ℕ
 nines = replicate 40 9
 
 calls-joined : joined calls (started nines) ≡ 0xE0 ∷ 0x01 ∷ 0x00 ∷ 0xEA ∷ 0xE5 ∷ 0x81 ∷ 0x8A ∷ 0xD2 ∷ 0x84 ∷ 0x11 ∷ 0x21 ∷ 0x07 ∷ 0xE0 ∷ 0x01 ∷ 0x00 ∷ 0xEA ∷ []
-unfolding calls nines joined answer startAnswer taken fits containersFit splice closedBytes argumentBytes annotatedBytes annotationBytes framedBytes headerBytes uintBytes varUIntsBytes varUIntBytes digits digitCount countDigits lowDigits
+unfolding calls nines joined verdict startVerdict taken fits containerFits containersFit splice closedBytes argumentBytes annotatedBytes annotationBytes framedBytes headerBytes uintBytes varUIntsBytes varUIntBytes digits digitCount countDigits lowDigits
 calls-joined = refl
 
-calls-answers : answers calls (started nines) ≡ accepted ∷ accepted ∷ accepted ∷ refused 3 ∷ accepted ∷ accepted ∷ accepted ∷ accepted ∷ accepted ∷ accepted ∷ accepted ∷ accepted ∷ []
-unfolding answers calls nines answer startAnswer fits containersFit splice closedBytes argumentBytes annotatedBytes annotationBytes framedBytes headerBytes uintBytes varUIntsBytes varUIntBytes digits digitCount countDigits lowDigits
-calls-answers = refl
+calls-verdicts : verdicts calls (started nines) ≡ accepted ∷ accepted ∷ accepted ∷ refused 3 ∷ accepted ∷ accepted ∷ accepted ∷ accepted ∷ accepted ∷ accepted ∷ accepted ∷ accepted ∷ []
+unfolding verdicts calls nines verdict startVerdict fits containerFits containersFit splice closedBytes argumentBytes annotatedBytes annotationBytes framedBytes headerBytes uintBytes varUIntsBytes varUIntBytes digits digitCount countDigits lowDigits
+calls-verdicts = refl
 
 -- a list of 128 bytes: its header grows by one byte over the reserve
 long : List Call
 long = opening [] (sequenceType list) ∷ (replicate 128 (write [] (writeBool true)) ++ (closing ∷ []))
 
 long-joined : take 8 (joined long (started (replicate 135 9))) ≡ 0xE0 ∷ 0x01 ∷ 0x00 ∷ 0xEA ∷ 0xBE ∷ 0x01 ∷ 0x80 ∷ 0x11 ∷ []
-unfolding long joined answer startAnswer taken fits containersFit splice closedBytes argumentBytes annotatedBytes framedBytes headerBytes varUIntBytes digits digitCount countDigits lowDigits
+unfolding long joined verdict startVerdict taken fits containerFits containersFit splice closedBytes argumentBytes annotatedBytes framedBytes headerBytes varUIntBytes digits digitCount countDigits lowDigits
 long-joined = refl
 
 -- in a struct with no name waiting every fault is 3; outside, each argument's own number; with no room, 10 last
-refusals : answers (opening [] structType ∷ write [] (writeInt true []) ∷ write [] (writeString (0xFF ∷ [])) ∷ closing ∷ write [] (writeInt true (0 ∷ [])) ∷ write [] (writeString (0xFF ∷ [])) ∷ write [] (writeTimestamp (some (pos 0)) (2000 ∷ []) noFraction) ∷ write [] (writeDecimal false (replicate 32 1) (pos 0)) ∷ write [] (writeDecimal false (replicate 31 1) (pos 0)) ∷ closing ∷ abandonment ∷ name 4 ∷ []) (started (replicate 6 9))
+refusals : verdicts (opening [] structType ∷ write [] (writeInt true []) ∷ write [] (writeString (0xFF ∷ [])) ∷ closing ∷ write [] (writeInt true (0 ∷ [])) ∷ write [] (writeString (0xFF ∷ [])) ∷ write [] (writeTimestamp (some (pos 0)) (2000 ∷ []) noFraction) ∷ write [] (writeDecimal false (replicate 32 1) (pos 0)) ∷ write [] (writeDecimal false (replicate 31 1) (pos 0)) ∷ closing ∷ abandonment ∷ name 4 ∷ []) (started (replicate 6 9))
     ≡ accepted ∷ refused 3 ∷ refused 3 ∷ accepted ∷ refused 5 ∷ refused 6 ∷ refused 7 ∷ refused 8 ∷ refused 10 ∷ refused 3 ∷ refused 3 ∷ refused 3 ∷ []
-unfolding answers answer startAnswer fits containersFit splice closedBytes bigEndian begun utf8From utf8 areFields isTimestamp timestampBody decimalBody argumentBytes annotatedBytes framedBytes headerBytes trimmed intBytes uintBytes varUIntsBytes varIntBytes varIntGroups varUIntBytes digits digitCount countDigits lowDigits
+unfolding verdicts verdict startVerdict fits containerFits containersFit splice closedBytes bigEndian begun utf8From utf8 areFields isTimestamp timestampBody decimalBody argumentBytes annotatedBytes framedBytes headerBytes trimmed intBytes uintBytes varUIntsBytes varIntBytes varIntGroups varUIntBytes digits digitCount countDigits lowDigits
 refusals = refl
 
 -- 32 may be open
-deep : answers (replicate 33 (opening [] (sequenceType list))) (started (replicate 100 9)) ≡ replicate 32 accepted ++ (refused 4 ∷ [])
-unfolding answers answer startAnswer fits containersFit splice
+deep : verdicts (replicate 33 (opening [] (sequenceType list))) (started (replicate 100 9)) ≡ replicate 32 accepted ++ (refused 4 ∷ [])
+unfolding verdicts verdict startVerdict fits containerFits containersFit splice
 deep = refl
 
 -- starts: too small a buffer
-starts : startAnswer (9 ∷ 9 ∷ 9 ∷ []) ∷ startAnswer (9 ∷ 9 ∷ 9 ∷ 9 ∷ []) ∷ [] ≡ refused 10 ∷ accepted ∷ []
-unfolding startAnswer
+starts : startVerdict (9 ∷ 9 ∷ 9 ∷ []) ∷ startVerdict (9 ∷ 9 ∷ 9 ∷ 9 ∷ []) ∷ [] ≡ refused 10 ∷ accepted ∷ []
+unfolding startVerdict
 starts = refl

@@ -8,7 +8,7 @@ use mathlib.Core.Option.{Option, none, some}
 use Rattle.ion.specs.Value.{Tree, scalar, Members, noMembers, member, Fields, noFields, field, Item, marker, value, mapTree, mapMembers, mapFields, mapItems}
 use Rattle.encoding.specs.Argument.{Argument, meaning}
 use Rattle.machine.specs.Call.{sequenceType, structType, Call, write, name, opening, closing, abandonment, versionMarker, taking, emptying}
-use Rattle.machine.specs.Machine.{Config, answer, isAccepted, after, started}
+use Rattle.machine.specs.Machine.{Config, verdict, isAccepted, after, started}
 use Rattle.machine.specs.Model.{Open, openSequence, openStruct, Model, closed, addMember, addField, add, close, abandon, spell, modelStep, startedModel}
 use Rattle.machine.specs.Demands.{modelAfter, spelled, written}
 
@@ -82,7 +82,7 @@ module _ {S T : Type 0} (f : S → T) (g : Argument → S) where
   map-after : (cs : List Call) (w : Config) (x : Model S) → modelAfter (λ a. f (g a)) cs w (mapModel f x) ≡ mapModel f (modelAfter g cs w x)
   unfolding modelAfter
   map-after [] w x = refl
-  map-after (c ∷ cs) w x = rw (map-step c (isAccepted (answer c w)) x) (map-after cs (after c w) (modelStep g c (isAccepted (answer c w)) x))
+  map-after (c ∷ cs) w x = rw (map-step c (isAccepted (verdict c w)) x) (map-after cs (after c w) (modelStep g c (isAccepted (verdict c w)) x))
 
 -- what a list spells is the meaning of what it has written
 pub spelled-is : (cs : List Call) (b : List ℕ) → spelled cs b ≡ mapItems meaning (written cs b)

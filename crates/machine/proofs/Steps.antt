@@ -16,7 +16,7 @@ use Rattle.encoding.specs.Headers.{annotatedBytes, markerBytes}
 use Rattle.encoding.specs.Argument.{Argument, argumentBytes, argumentChecks, NoneHolds}
 use Rattle.encoding.specs.Stream.{treeBytes, streamBytes, Writable}
 use Rattle.machine.specs.Call.{ContainerType, Call, write, name, opening, closing, abandonment, versionMarker, taking, emptying, TypedCall}
-use Rattle.machine.specs.Machine.{Config, openContainers, isOpen, inStruct, closedInnermost, innermostStart, reserve, live, splice, effect, longestBuffer, containersFit, fits, lacksName, lines, checks, accepted, refused, firstFailing, isAccepted, partOf, taken}
+use Rattle.machine.specs.Machine.{Config, openContainers, isOpen, inStruct, closedInnermost, innermostStart, reserve, live, splice, effect, longestBuffer, containerFits, containersFit, fits, lacksName, lines, checks, accepted, refused, firstFailing, isAccepted, partOf, taken}
 use Rattle.machine.specs.Model.{Open, Model, abandon, spell}
 use Rattle.machine.specs.Demands.{isEmptying}
 use Rattle.machine.proofs.Growth.{writable-addItem}
@@ -58,7 +58,7 @@ pub record Invariant (done : List ℕ) (w : Config) (x : Model Argument) : Type 
   pub layout : LayoutOf done (live w) (openContainers (w .state)) x
 
 fits-outside : (w : Config) → w .state .used ≤ length (w .buffer) → openContainers (w .state) ≡ [] → w .state .waiting ≡ false → fits (w .state) (length (w .buffer)) ≡ true
-unfolding fits containersFit
+unfolding fits containerFits containersFit
 fits-outside w h f n = rw (f, n, le-leb (w .state .used) (length (w .buffer)) h, none-open (w .state .containers) (w .state .depth) f)
 
 -- a call that puts `out` at p, behind the bytes pre

@@ -9,7 +9,7 @@ use Rattle.ion.specs.Grammar.{Reads}
 use Rattle.encoding.specs.Argument.{Argument, meaning}
 use Rattle.encoding.specs.Stream.{streamBytes}
 use Rattle.machine.specs.Call.{Call, write, name, opening, closing, abandonment, versionMarker, taking, emptying, AllTyped}
-use Rattle.machine.specs.Machine.{Config, accepted, answer, isAccepted, after, startAnswer, started, partOf, taken}
+use Rattle.machine.specs.Machine.{Config, accepted, verdict, isAccepted, after, startVerdict, started, partOf, taken}
 use Rattle.machine.specs.Model.{Model, modelStep, startedModel}
 
 -- Each call is given the state and the buffer as the last one left them.
@@ -31,7 +31,7 @@ isEmptying emptying = true
 
 -- what a taking would hand back just before the call, if the call is an accepted emptying
 abbrev pub flushed : Call → Config → List ℕ
-flushed c w = partOf (isEmptying c && isAccepted (answer c w)) (taken w)
+flushed c w = partOf (isEmptying c && isAccepted (verdict c w)) (taken w)
 
 -- The bytes that a taking would hand back just before each accepted emptying and at the end, joined.
 unfoldable pub joined : List Call → Config → List ℕ
@@ -42,7 +42,7 @@ joined (c ∷ cs) w = flushed c w ++ joined cs (after c w)
 
 unfoldable pub modelAfter : {S : Type 0} → (Argument → S) → List Call → Config → Model S → Model S
 modelAfter f [] w x = x
-modelAfter f (c ∷ cs) w x = modelAfter f cs (after c w) (modelStep f c (isAccepted (answer c w)) x)
+modelAfter f (c ∷ cs) w x = modelAfter f cs (after c w) (modelStep f c (isAccepted (verdict c w)) x)
 
 -- the items as values: what the list spells
 abbrev pub spelled : List Call → List ℕ → List (Item Scalar)
@@ -56,7 +56,7 @@ written cs buffer = modelAfter (λ a. a) cs (started buffer) startedModel .items
 
 -- An accepted start, and no container open at the end.
 pub record Run (cs : List Call) (buffer : List ℕ) : Type 0 where
-  pub starts : startAnswer buffer ≡ accepted
+  pub starts : startVerdict buffer ≡ accepted
   pub ends : afterAll cs (started buffer) .state .depth ≡ 0
 
 -- The joined bytes are those of what was written.

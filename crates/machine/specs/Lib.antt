@@ -1,4 +1,5 @@
 pub mod Call
 pub mod Machine
+pub mod Numbers
 pub mod Model
 pub mod Demands

@@ -116,12 +116,16 @@ effect emptying w = record { state = record { used = 0; depth = w .state .depth;
 abbrev pub longestBuffer : ℕ
 longestBuffer = 16777215
 
--- each type code B0, C0 or D0; header equals start or lies 4 or more beyond it; header plus 2 at most the next start, or used for the innermost
+-- each type code B0, C0 or D0; header equals start or lies 4 or more beyond it; header plus 2 at most `limit`
+unfoldable pub containerFits : ℕ → Container → Bool
+containerFits limit c =
+    (eqb (c .code) (typeByte listCode) || (eqb (c .code) (typeByte sexpCode) || eqb (c .code) (typeByte structCode)))
+    && ((eqb (c .header) (c .start) || leb (c .start + 4) (c .header)) && leb (c .header + 2) limit)
+
+-- the limit is the next start, or used for the innermost
 unfoldable pub containersFit : ℕ → List Container → Bool
 containersFit limit [] = true
-containersFit limit (c ∷ cs) =
-    (eqb (c .code) (typeByte listCode) || (eqb (c .code) (typeByte sexpCode) || eqb (c .code) (typeByte structCode)))
-    && ((eqb (c .header) (c .start) || leb (c .start + 4) (c .header)) && (leb (c .header + 2) limit && containersFit (c .start) cs))
+containersFit limit (c ∷ cs) = containerFits limit c && containersFit (c .start) cs
 
 -- "State fits", `room` being the buffer's length: used at most that; at most 32 containers, and they fit; a name waits only in an innermost struct
 unfoldable pub fits : State → ℕ → Bool
@@ -133,14 +137,13 @@ fits s room =
 abbrev pub lacksName : State → Bool
 lacksName s = inStruct (openContainers s) && not (s .waiting)
 
--- The lines 1, 2, 3, those that only some calls have, and 10: each test that refuses, with its number.
--- `misplaced` is line 3 of the call, `own` its lines of 4 to 9, `used` its used length on return.
+-- The lines 1, 2 and 3, `misplaced` being what line 3 says of the call: each test that refuses, with its number.
+abbrev pub placeLines : State → ℕ → Bool → List (Bool × ℕ)
+placeLines s room misplaced = (ltb longestBuffer room, 1) ∷ (not (fits s room), 2) ∷ (misplaced, 3) ∷ []
+
+-- All lines of a call: `own` are those of 4 to 9 that it has, `used` is its used length on return.
 abbrev pub lines : Config → Bool → List (Bool × ℕ) → ℕ → List (Bool × ℕ)
-lines w misplaced own used =
-    (ltb longestBuffer (length (w .buffer)), 1)
-    ∷ (not (fits (w .state) (length (w .buffer))), 2)
-    ∷ (misplaced, 3)
-    ∷ (own ++ ((ltb (length (w .buffer)) used, 10) ∷ []))
+lines w misplaced own used = placeLines (w .state) (length (w .buffer)) misplaced ++ (own ++ ((ltb (length (w .buffer)) used, 10) ∷ []))
 
 -- A taking has no number: it hands back a part, which may be empty.
 abbrev pub checks : Call → Config → List (Bool × ℕ)
@@ -153,29 +156,29 @@ checks versionMarker w = lines w (isOpen (openContainers (w .state))) [] (effect
 checks taking w = []
 checks emptying w = lines w (isOpen (openContainers (w .state))) [] (effect emptying w .state .used)
 
-pub data Answer : Type 0 where
-  accepted : Answer
-  refused : ℕ → Answer
+pub data Verdict : Type 0 where
+  accepted : Verdict
+  refused : ℕ → Verdict
 
 -- the first failing line answers
-abbrev pub firstFailing : List (Bool × ℕ) → Answer
+abbrev pub firstFailing : List (Bool × ℕ) → Verdict
 firstFailing [] = accepted
 firstFailing (x ∷ xs) = elim (x .0) [ true ↦ refused (x .1) | false ↦ firstFailing xs ]
 
-unfoldable pub answer : Call → Config → Answer
-answer c w = firstFailing (checks c w)
+unfoldable pub verdict : Call → Config → Verdict
+verdict c w = firstFailing (checks c w)
 
-abbrev pub isAccepted : Answer → Bool
+abbrev pub isAccepted : Verdict → Bool
 isAccepted accepted = true
 isAccepted (refused n) = false
 
-abbrev pub ifAccepted : Answer → Config → Config → Config
+abbrev pub ifAccepted : Verdict → Config → Config → Config
 ifAccepted accepted x y = x
 ifAccepted (refused n) x y = y
 
 -- A call: a refusal returns the state given, and an unaltered buffer.
 abbrev pub after : Call → Config → Config
-after c w = ifAccepted (answer c w) (effect c w) w
+after c w = ifAccepted (verdict c w) (effect c w) w
 
 -- ---- a start: it knows the lines 1 and 10 only
 
@@ -183,12 +186,12 @@ after c w = ifAccepted (answer c w) (effect c w) w
 abbrev pub emptyState : ℕ → State
 emptyState used = record { used = used; depth = 0; waiting = false; containers = replicate 32 noContainer }
 
-unfoldable pub startAnswer : List ℕ → Answer
-startAnswer b = firstFailing ((ltb longestBuffer (length b), 1) ∷ (ltb (length b) 4, 10) ∷ [])
+unfoldable pub startVerdict : List ℕ → Verdict
+startVerdict b = firstFailing ((ltb longestBuffer (length b), 1) ∷ (ltb (length b) 4, 10) ∷ [])
 
 -- a refused start answers the empty state with used length 0, and alters nothing
 abbrev pub started : List ℕ → Config
-started b = ifAccepted (startAnswer b) (record { state = emptyState 4; buffer = splice 0 0 markerBytes b }) (record { state = emptyState 0; buffer = b })
+started b = ifAccepted (startVerdict b) (record { state = emptyState 4; buffer = splice 0 0 markerBytes b }) (record { state = emptyState 0; buffer = b })
 
 -- ---- a taking hands back a part of the buffer
 

@@ -16,3 +16,28 @@ pub struct State {
     pub waiting: bool,
     pub containers: [Container; 32],
 }
+
+// Why a call is refused: the lines of the table "Checks by place". The definition `number` gives each its number.
+pub enum Refusal {
+    BufferTooLong,
+    StateUnfit,
+    Misplaced,
+    TooDeep,
+    NegativeZero,
+    NotUtf8,
+    BadTimestamp,
+    DecimalTooLong,
+    TimestampTooLong,
+    NoRoom,
+}
+
+pub enum Answer {
+    Accepted,
+    Refused(Refusal),
+}
+
+// What a call answers: whether it is accepted, and the state to hand to the next call.
+pub struct Written {
+    pub answer: Answer,
+    pub state: State,
+}

@@ -1,0 +1,27 @@
+-- `place::name_place` meets its contract: line 3 counts only of a state that fits, and there the innermost container is looked up.
+-- Assumes nothing.
+use mathlib.Core.Path.{_∙_, ap}
+use mathlib.Core.Bool.{Bool, not, _||_}
+use Rattle.machine.specs.Machine.{openContainers, inStruct}
+use Rattle.place.proofs.Laws.{fits-depth, judged-place}
+use borrow.Author.Needs.{needs}
+use Rattle.place.proofs.name_place.Statement.{statement}
+use Rattle.place.proofs.name_place.Tie as tie
+
+in-struct-requires : tie.Need-in-struct-requires
+in-struct-requires c κs = search needs
+
+state-fits-requires : tie.Need-state-fits-requires
+state-fits-requires c κs = search needs
+
+judged-requires : tie.Need-judged-requires
+judged-requires c κs = search needs
+
+returns : tie.Need-returns
+returns c =
+    let a = c .before .before .before .before .args in
+    c .judged .ensures ∙ (rw (c .before .state-fits .ensures) (judged-place (a .s) (a .room) _ (not (inStruct (openContainers (a .s))) || a .s .waiting) (λ f. ap (λ (x : Bool). not x || a .s .waiting) (c .before .before .before .in-struct .ensures (fits-depth (a .s) (a .room) f)))))
+
+pub name-place-spec : {M : Type 1} → statement M
+name-place-spec =
+    tie.close (tie.spec in-struct-requires state-fits-requires judged-requires returns)
