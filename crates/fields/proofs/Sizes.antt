@@ -44,6 +44,10 @@ pub length-fixed : (k n : ℕ) → length (fixedBytes k n) ≡ k
 unfolding fixedBytes
 length-fixed k n = length-lowDigits 256 k n
 
+pub uint-fixed : (n k : ℕ) → k ≡ length (uintBytes n) → uintBytes n ≡ fixedBytes k n
+unfolding uintBytes digits fixedBytes
+uint-fixed n k e = ap (λ (j : ℕ). lowDigits 256 j n) (sym (e ∙ length-uint n))
+
 -- ---- by the leading zeros
 
 pub varUInt-size-small : (n : ℕ) → n < 128 → length (varUIntBytes n) ≡ 1
