@@ -8,9 +8,9 @@ use Prim.Native.Nat.{ℕ, zero, suc, _+_, _-_, _≤_, _<_}
 use native.Mathlib.Omega.{arith}
 use native.Mathlib.Nat.{eq-zero-or-pos}
 use borrow.Author.Tests.{eq-eqb, ne-eqb}
-use lib.ListN.{length, drop, getD}
-use lib.Seq.{drop-cons, drop-nil}
-use Rattle.encoding.specs.Fields.{trimmed}
+use lib.ListN.{length, take, drop, getD, length-drop}
+use lib.Seq.{drop-cons, drop-nil, take-all}
+use Rattle.encoding.specs.Fields.{trimmed, orZero}
 
 pub trimmed-zero : (b : ℕ) (bs : List ℕ) → b ≡ 0 → trimmed (b ∷ bs) ≡ trimmed bs
 unfolding trimmed
@@ -43,6 +43,21 @@ trimmed-drop (b ∷ bs) r e = ⊎-elim (λ z. zeros (λ k q. trimmed-drop bs k q
   none : 0 < b → (r : ℕ) → r + length (trimmed (b ∷ bs)) ≡ suc (length bs) → trimmed (b ∷ bs) ≡ drop r (b ∷ bs)
   none p zero e = trimmed-first b bs p
   none p (suc r) e = absurd (omega (arith, ap length (trimmed-first b bs p)))
+
+-- the part of a slice from r on
+pub rest-part : (m : List ℕ) (r : ℕ) → take (length m - r) (drop r m) ≡ drop r m
+rest-part m r = take-all (length m - r) (drop r m) (rw (length-drop r m) (omega arith))
+
+pub trimmed-part : (m : List ℕ) (r : ℕ) → r + length (trimmed m) ≡ length m → take (length m - r) (drop r m) ≡ trimmed m
+trimmed-part m r e = rest-part m r ∙ sym (trimmed-drop m r e)
+
+pub orZero-none : (m : List ℕ) → length m ≡ 0 → orZero m ≡ 0 ∷ []
+orZero-none [] e = refl
+orZero-none (b ∷ bs) e = absurd (omega arith)
+
+pub orZero-some : (m : List ℕ) → 0 < length m → orZero m ≡ m
+orZero-some [] p = absurd (omega arith)
+orZero-some (b ∷ bs) p = refl
 
 -- ---- a search for the first byte that is not zero
 
