@@ -44,6 +44,9 @@ trimmed-drop (b ∷ bs) r e = ⊎-elim (λ z. zeros (λ k q. trimmed-drop bs k q
   none p zero e = trimmed-first b bs p
   none p (suc r) e = absurd (omega (arith, ap length (trimmed-first b bs p)))
 
+pub trimmed-cons : (m : List ℕ) (r : ℕ) → r < length m → r + length (trimmed m) ≡ length m → trimmed m ≡ getD m r 0 ∷ drop (suc r) m
+trimmed-cons m r h e = trimmed-drop m r e ∙ drop-cons m r 0 h
+
 -- the part of a slice from r on
 pub rest-part : (m : List ℕ) (r : ℕ) → take (length m - r) (drop r m) ≡ drop r m
 rest-part m r = take-all (length m - r) (drop r m) (rw (length-drop r m) (omega arith))
