@@ -5,13 +5,15 @@ use mathlib.Core.List.{List, [], _∷_, _++_}
 use mathlib.Core.Bool.{Bool, true, false}
 use Prim.Native.Nat.{ℕ, zero, suc, _+_, _-_, _*_, _/_, _%_, _^_, _≤_, _<_}
 use native.Mathlib.Omega.{arith}
-use native.Mathlib.Nat.{div-one}
+use native.Mathlib.Nat.{div-one, div-lt-iff-lt-mul, one-le-pow, mul-comm, pow-suc, mod-eq-of-lt, div-eq-of-lt, le-div-iff-mul-le, zero-add}
+use mathlib.Core.Logic.{⊎-elim}
 use lib.Count.{leadingZeros}
 use lib.ListN.{length, length-append}
 use Rattle.ion.specs.Value.{signed}
 use Rattle.encoding.specs.Digits.{lowDigits, digitCount, digits}
-use Rattle.encoding.specs.Fields.{varUIntBytes, varIntGroups, varIntBytes, uintBytes, fixedBytes}
-use Rattle.fields.proofs.Digits.{length-lowDigits, bitsUsed, bitsUsed-pos, digitCount-zero, digitCount-by-zeros}
+use Rattle.encoding.specs.Fields.{varUIntBytes, varIntGroups, varIntBytes, uintBytes, fixedBytes, intBytes}
+use Rattle.fields.proofs.Signs.{int-clear, int-taken, int-zero}
+use Rattle.fields.proofs.Digits.{Reaches, length-lowDigits, lowDigits-first, digitCount-is, digitCount-reaches, bitsUsed, bitsUsed-pos, digitCount-zero, digitCount-below, digitCount-by-zeros}
 
 -- digits and one byte behind them
 length-snoc : (k n v : ℕ) → length (lowDigits 128 k n ++ (v ∷ [])) ≡ suc k
@@ -36,6 +38,13 @@ length-varInt s n = length-groups s (digitCount 128 (n / 64)) n
 pub length-varInt-sign : (s : Bool) (n : ℕ) → length (varIntBytes (signed s n)) ≡ length (varIntBytes (signed false n))
 length-varInt-sign s n = length-varInt s n ∙ sym (length-varInt false n)
 
+-- what is left of n above k groups, six bits or fewer
+pub varInt-first : (k n : ℕ) → k ≡ digitCount 128 (n / 64) → n / 128 ^ k < 64
+varInt-first k n e =
+  let h : n / 64 < 128 ^ k = rw e (digitCount-below 128 (omega arith) (n / 64)) in
+  let u : n < 128 ^ k * 64 = div-lt-iff-lt-mul {k = 64} {x = n} {y = 128 ^ k} (omega arith) .0 h in
+  div-lt-iff-lt-mul {k = 128 ^ k} {x = n} {y = 64} (one-le-pow k 128 (omega arith)) .1 (rw (mul-comm 64 (128 ^ k)) u)
+
 pub length-uint : (n : ℕ) → length (uintBytes n) ≡ digitCount 256 n
 unfolding uintBytes digits
 length-uint n = length-lowDigits 256 (digitCount 256 n) n
@@ -47,6 +56,68 @@ length-fixed k n = length-lowDigits 256 k n
 pub uint-fixed : (n k : ℕ) → k ≡ length (uintBytes n) → uintBytes n ≡ fixedBytes k n
 unfolding uintBytes digits fixedBytes
 uint-fixed n k e = ap (λ (j : ℕ). lowDigits 256 j n) (sym (e ∙ length-uint n))
+
+-- ---- an Int of a number without sign is its bytes with the top bit clear
+
+module _ (n j : ℕ) (e : digitCount 256 n ≡ suc j) where
+  -- the first of its bytes, above j more
+  top : ℕ
+  top = n / 256 ^ j
+
+  power-pos : (k : ℕ) → 1 ≤ 256 ^ k
+  power-pos k = one-le-pow k 256 (omega arith)
+
+  below : n < 256 ^ j * 256
+  below = rw (← (pow-suc 256 j)) (rw e at (digitCount-below 256 (omega arith) n))
+
+  above : 256 ^ j ≤ n
+  above = rw e at (digitCount-reaches 256 (omega arith) n)
+
+  uint-top : uintBytes n ≡ top ∷ lowDigits 256 j n
+  unfolding uintBytes digits top
+  uint-top =
+    let h : n / 256 ^ j < 256 = div-lt-iff-lt-mul {k = 256 ^ j} {x = n} {y = 256} (power-pos j) .1 (rw (mul-comm 256 (256 ^ j)) below) in
+    ap (λ (k : ℕ). lowDigits 256 k n) e ∙ (lowDigits-first 256 j n ∙ ap (λ (t : ℕ). t ∷ lowDigits 256 j n) (mod-eq-of-lt h))
+
+  uint-low : uintBytes n ≡ lowDigits 256 (suc j) n
+  unfolding uintBytes digits
+  uint-low = ap (λ (k : ℕ). lowDigits 256 k n) e
+
+  int-top-clear : top < 128 → intBytes false (uintBytes n) ≡ fixedBytes (suc (digitCount 256 (n / 128))) n
+  unfolding top fixedBytes
+  int-top-clear h =
+    let u : n < 128 * 256 ^ j = div-lt-iff-lt-mul {k = 256 ^ j} {x = n} {y = 128} (power-pos j) .0 h in
+    let c : digitCount 256 (n / 128) ≡ j =
+      digitCount-is 256 (omega arith) j (n / 128) (div-lt-iff-lt-mul {k = 128} {x = n} {y = 256 ^ j} (omega arith) .1 (omega arith)) (reaches j above) in
+    ap (intBytes false) uint-top
+    ∙ (int-clear top (lowDigits 256 j n) false h
+    ∙ (ap (λ (t : ℕ). t ∷ lowDigits 256 j n) (zero-add top)
+    ∙ (sym uint-top ∙ (uint-low ∙ ap (λ (k : ℕ). lowDigits 256 (suc k) n) (sym c)))))
+    where
+    reaches : (k : ℕ) → 256 ^ k ≤ n → Reaches 256 k (n / 128)
+    reaches zero r = tt
+    reaches (suc k) r = let q = pow-suc 256 k in le-div-iff-mul-le {k = 128} {x = 256 ^ k} {y = n} (omega arith) .1 (omega arith)
+
+  int-top-taken : 128 ≤ top → intBytes false (uintBytes n) ≡ fixedBytes (suc (digitCount 256 (n / 128))) n
+  unfolding top fixedBytes
+  int-top-taken h =
+    let l : 128 * 256 ^ j ≤ n = le-div-iff-mul-le {k = 256 ^ j} {x = 128} {y = n} (power-pos j) .0 h in
+    let q : 256 ^ suc j ≡ 256 ^ j * 256 = pow-suc 256 j in
+    let b = below in
+    let c : digitCount 256 (n / 128) ≡ suc j =
+      digitCount-is 256 (omega arith) (suc j) (n / 128) (omega arith) (le-div-iff-mul-le {k = 128} {x = 256 ^ j} {y = n} (omega arith) .1 (omega arith)) in
+    let z : n / 256 ^ suc j % 256 ≡ 0 = rw (div-eq-of-lt {n = n} {m = 256 ^ suc j} (omega arith)) refl in
+    ap (intBytes false) uint-top
+    ∙ (int-taken top (lowDigits 256 j n) false h
+    ∙ (ap (λ (l : List ℕ). 0 ∷ l) (sym uint-top ∙ uint-low)
+    ∙ (ap (λ (t : ℕ). t ∷ lowDigits 256 (suc j) n) (sym z) ∙ (sym (lowDigits-first 256 (suc j) n) ∙ ap (λ (k : ℕ). lowDigits 256 (suc k) n) (sym c)))))
+
+pub int-fixed : (n : ℕ) → 0 < n → intBytes false (uintBytes n) ≡ fixedBytes (suc (digitCount 256 (n / 128))) n
+int-fixed n p = go (digitCount 256 n) refl
+  where
+  go : (k : ℕ) → digitCount 256 n ≡ k → intBytes false (uintBytes n) ≡ fixedBytes (suc (digitCount 256 (n / 128))) n
+  go zero e = let h : n < 256 ^ 0 = rw e at (digitCount-below 256 (omega arith) n) in absurd (omega arith)
+  go (suc j) e = ⊎-elim (int-top-clear n j e) (int-top-taken n j e) (lt-or-le (top n j e) 128)
 
 -- ---- by the leading zeros
 
