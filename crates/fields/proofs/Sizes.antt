@@ -5,8 +5,10 @@ use mathlib.Core.List.{List, [], _∷_, _++_}
 use mathlib.Core.Bool.{Bool, true, false}
 use Prim.Native.Nat.{ℕ, zero, suc, _+_, _-_, _*_, _/_, _%_, _^_, _≤_, _<_}
 use native.Mathlib.Omega.{arith}
-use native.Mathlib.Nat.{div-one, div-lt-iff-lt-mul, one-le-pow, mul-comm, pow-suc, mod-eq-of-lt, div-eq-of-lt, le-div-iff-mul-le, zero-add}
+use native.Mathlib.Nat.{div-one, div-lt-iff-lt-mul, one-le-pow, mul-comm, pow-suc, mod-eq-of-lt, div-eq-of-lt, le-div-iff-mul-le, zero-add, eq-zero-or-pos}
 use mathlib.Core.Logic.{⊎-elim}
+use lib.Dec.{ltb}
+use borrow.Author.Tests.{ltb-true, ltb-false}
 use lib.Count.{leadingZeros}
 use lib.ListN.{length, length-append}
 use Rattle.ion.specs.Value.{signed}
@@ -52,6 +54,10 @@ length-uint n = length-lowDigits 256 (digitCount 256 n) n
 pub length-fixed : (k n : ℕ) → length (fixedBytes k n) ≡ k
 unfolding fixedBytes
 length-fixed k n = length-lowDigits 256 k n
+
+fixed-none : (n : ℕ) → fixedBytes 0 n ≡ []
+unfolding fixedBytes lowDigits
+fixed-none n = refl
 
 pub uint-fixed : (n k : ℕ) → k ≡ length (uintBytes n) → uintBytes n ≡ fixedBytes k n
 unfolding uintBytes digits fixedBytes
@@ -117,7 +123,20 @@ int-fixed n p = go (digitCount 256 n) refl
   where
   go : (k : ℕ) → digitCount 256 n ≡ k → intBytes false (uintBytes n) ≡ fixedBytes (suc (digitCount 256 (n / 128))) n
   go zero e = let h : n < 256 ^ 0 = rw e at (digitCount-below 256 (omega arith) n) in absurd (omega arith)
-  go (suc j) e = ⊎-elim (int-top-clear n j e) (int-top-taken n j e) (lt-or-le (top n j e) 128)
+  go (suc j) e = side (ltb (top n j e) 128) refl
+    where
+    side : (t : Bool) → ltb (top n j e) 128 ≡ t → intBytes false (uintBytes n) ≡ fixedBytes (suc (digitCount 256 (n / 128))) n
+    side true h = int-top-clear n j e (ltb-true (top n j e) 128 h)
+    side false h = int-top-taken n j e (ltb-false (top n j e) 128 h)
+
+pub int-of-zero : (n : ℕ) → n ≡ 0 → intBytes false (uintBytes n) ≡ []
+int-of-zero n z = int-zero false (uintBytes n) refl (length-uint n ∙ digitCount-zero 256 n z)
+
+pub int-fixed-by : (n k : ℕ) → k ≡ length (intBytes false (uintBytes n)) → intBytes false (uintBytes n) ≡ fixedBytes k n
+int-fixed-by n k e = ⊎-elim
+  (λ z. let q = int-of-zero n z in q ∙ (sym (fixed-none n) ∙ ap (λ (j : ℕ). fixedBytes j n) (sym (e ∙ ap length q))))
+  (λ p. let q = int-fixed n p in q ∙ ap (λ (j : ℕ). fixedBytes j n) (sym (e ∙ (ap length q ∙ length-fixed _ n))))
+  (eq-zero-or-pos n)
 
 -- ---- by the leading zeros
 
@@ -136,6 +155,12 @@ module _ (n : ℕ) (h : n < 2 ^ 64) where
   pub uint-size : length (uintBytes n) ≡ (bitsUsed n + 7) / 8
   uint-size =
     length-uint n ∙ (ap (digitCount 256) (sym (div-one n)) ∙ digitCount-by-zeros 8 0 ((bitsUsed n + 7) / 8) n (omega arith) h (omega arith) (λ k. omega arith))
+
+  pub int-size : 0 < n → length (intBytes false (uintBytes n)) ≡ bitsUsed n / 8 + 1
+  int-size p =
+    ap length (int-fixed n p)
+    ∙ (length-fixed (suc (digitCount 256 (n / 128))) n
+    ∙ (ap suc (digitCount-by-zeros 8 7 (bitsUsed n / 8) n (omega arith) h (omega arith) (λ k. omega arith)) ∙ omega arith))
 
 -- ---- at least and at most
 

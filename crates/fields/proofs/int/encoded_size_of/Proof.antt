@@ -12,9 +12,6 @@ use Rattle.fields.proofs.Signs.{boolByte-most, int-size-none, int-size-
 use borrow.Author.Needs.{needs}
 use Rattle.fields.proofs.int.encoded_size_of.Statement.{statement}
 use Rattle.fields.proofs.int.encoded_size_of.Tie as tie
-use Rattle.fields.proofs.int.encoded_size_of.Reads as reads
-use Rattle.fields.proofs.int.encoded_size_of.Lts as lts
-use Rattle.fields.proofs.uint.leading_zero_bytes.Reads as leading-zero-bytes-reads
 
 leading-zero-bytes-requires : tie.Need-leading-zero-bytes-requires
 leading-zero-bytes-requires c κs = search needs

@@ -16,11 +16,6 @@ use Rattle.fields.proofs.Signs.{boolByte-most, topBit-is, int-zero, int
 use borrow.Author.Needs.{needs}
 use Rattle.fields.proofs.int.write.Statement.{statement}
 use Rattle.fields.proofs.int.write.Tie as tie
-use Rattle.fields.proofs.int.write.Reads as reads
-use Rattle.fields.proofs.int.write.Lts as lts
-use Rattle.buffer.proofs.put.Reads as put-reads
-use Rattle.fields.proofs.int.write_first.Reads as write-first-reads
-use Rattle.fields.proofs.uint.leading_zero_bytes.Reads as leading-zero-bytes-reads
 
 -- the bytes that are put, by the first byte of the trimmed magnitude
 module _ (s : Bool) (m : List ℕ) (r : ℕ) (h : r < length m) (e : r + length (trimmed m) ≡ length m) where

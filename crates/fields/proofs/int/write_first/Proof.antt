@@ -9,11 +9,6 @@ use Rattle.buffer.proofs.Laid.{placed-full, placed-most, placed-then, no-room, 
 use borrow.Author.Needs.{needs}
 use Rattle.fields.proofs.int.write_first.Statement.{statement}
 use Rattle.fields.proofs.int.write_first.Tie as tie
-use Rattle.fields.proofs.int.write_first.Reads as reads
-use Rattle.fields.proofs.int.write_first.Lts as lts
-use Rattle.buffer.proofs.copy.Reads as copy-reads
-use Rattle.buffer.proofs.has_room.Reads as has-room-reads
-use Rattle.buffer.proofs.put.Reads as put-reads
 
 add-has-room : tie.Need-add-has-room
 add-has-room c = search needs

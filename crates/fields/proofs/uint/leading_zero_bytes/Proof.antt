@@ -9,8 +9,6 @@ use Rattle.encoding.specs.Fields.{trimmed}
 use Rattle.fields.proofs.Trimmed.{trimmed-nil, trimmed-next, trimmed-found}
 use Rattle.fields.proofs.uint.leading_zero_bytes.Statement.{statement}
 use Rattle.fields.proofs.uint.leading_zero_bytes.Tie as tie
-use Rattle.fields.proofs.uint.leading_zero_bytes.Reads as reads
-use Rattle.fields.proofs.uint.leading_zero_bytes.Lts as lts
 
 abbrev Inv-loop : tie.InvT-loop
 Inv-loop magnitude i₀ i = (i ≤ length magnitude) × (trimmed magnitude ≡ trimmed (drop i magnitude))

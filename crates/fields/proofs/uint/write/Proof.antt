@@ -9,10 +9,6 @@ use Rattle.fields.proofs.Sizes.{uint-fixed}
 use borrow.Author.Needs.{needs}
 use Rattle.fields.proofs.uint.write.Statement.{statement}
 use Rattle.fields.proofs.uint.write.Tie as tie
-use Rattle.fields.proofs.uint.write.Reads as reads
-use Rattle.fields.proofs.uint.write.Lts as lts
-use Rattle.fields.proofs.uint.encoded_size_of.Reads as encoded-size-of-reads
-use Rattle.fields.proofs.uint.write_fixed.Reads as write-fixed-reads
 
 encoded-size-of-requires : tie.Need-encoded-size-of-requires
 encoded-size-of-requires c κs = search needs

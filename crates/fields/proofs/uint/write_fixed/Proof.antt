@@ -8,10 +8,6 @@ use Rattle.fields.proofs.Sizes.{length-fixed}
 use borrow.Author.Needs.{needs}
 use Rattle.fields.proofs.uint.write_fixed.Statement.{statement}
 use Rattle.fields.proofs.uint.write_fixed.Tie as tie
-use Rattle.fields.proofs.uint.write_fixed.Reads as reads
-use Rattle.fields.proofs.uint.write_fixed.Lts as lts
-use Rattle.buffer.proofs.has_room.Reads as has-room-reads
-use Rattle.fields.proofs.put_digits.Reads as put-digits-reads
 
 has-room-requires : tie.Need-has-room-requires
 has-room-requires c κs = search needs

@@ -11,11 +11,6 @@ use Rattle.fields.proofs.Trimmed.{trimmed-part, orZero-none, orZero-som
 use borrow.Author.Needs.{needs}
 use Rattle.fields.proofs.uint.write_magnitude.Statement.{statement}
 use Rattle.fields.proofs.uint.write_magnitude.Tie as tie
-use Rattle.fields.proofs.uint.write_magnitude.Reads as reads
-use Rattle.fields.proofs.uint.write_magnitude.Lts as lts
-use Rattle.buffer.proofs.copy.Reads as copy-reads
-use Rattle.buffer.proofs.put.Reads as put-reads
-use Rattle.fields.proofs.uint.leading_zero_bytes.Reads as leading-zero-bytes-reads
 
 leading-zero-bytes-requires : tie.Need-leading-zero-bytes-requires
 leading-zero-bytes-requires c κs = search needs

@@ -19,11 +19,6 @@ use Rattle.fields.proofs.Signs.{boolByte-most, signBit-is}
 use borrow.Author.Needs.{needs}
 use Rattle.fields.proofs.var_int.write.Statement.{statement}
 use Rattle.fields.proofs.var_int.write.Tie as tie
-use Rattle.fields.proofs.var_int.write.Reads as reads
-use Rattle.fields.proofs.var_int.write.Lts as lts
-use Rattle.buffer.proofs.has_room.Reads as has-room-reads
-use Rattle.fields.proofs.put_digits.Reads as put-digits-reads
-use Rattle.fields.proofs.var_int.encoded_size_of.Reads as encoded-size-of-reads
 
 -- what the size is, that there is room for it, and what the sign and the first byte can be
 record Known (c : tie.Else1) : Type 0 where
