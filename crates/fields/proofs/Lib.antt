@@ -1,0 +1,5 @@
+pub mod Digits
+pub mod Sizes
+pub mod Trimmed
+pub mod Signs
+pub mod Headers
