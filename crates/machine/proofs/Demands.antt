@@ -15,9 +15,9 @@ use Rattle.encoding.specs.Argument.{Argument}
 use Rattle.encoding.specs.Stream.{streamBytes, WritableItems}
 use Rattle.encoding.proofs.Stream.{streamBytes-reads}
 use Rattle.machine.specs.Call.{Call, TypedCall, AllTyped}
-use Rattle.machine.specs.Machine.{Config, openContainers, isOpen, effect, longestBuffer, checks, Verdict, accepted, refused, verdict, isAccepted, ifAccepted, after, startVerdict, started, splice, partOf, taken}
+use Rattle.machine.specs.Machine.{Config, openContainers, isOpen, effect, longestBuffer, checks, Verdict, accepted, refused, verdict, isAccepted, ifAccepted, after, startVerdict, started, splice, taken}
 use Rattle.machine.specs.Model.{Model, modelStep, startedModel}
-use Rattle.machine.specs.Demands.{afterAll, isEmptying, flushed, joined, modelAfter, spelled, written, Demand2, Demand3}
+use Rattle.machine.specs.Demands.{afterAll, isEmptying, partOf, flushed, joined, modelAfter, spelled, written, Demand2, Demand3}
 use Rattle.machine.proofs.Invariant.{WritableOf}
 use Rattle.machine.proofs.Splice.{take-splice, length-splice}
 use Rattle.machine.proofs.Steps.{none-failing, Invariant, taken-whole, accepted-keeps, accepted-writable}

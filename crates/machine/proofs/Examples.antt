@@ -18,7 +18,7 @@ use Rattle.encoding.specs.Decimal.{decimalBody}
 use Rattle.encoding.specs.Timestamp.{dayBefore, dayAfter, isTimestamp, timestampBody}
 use Rattle.encoding.specs.Argument.{writeBool, writeI64, writeInt, writeDecimal, writeTimestamp, writeString, argumentBytes}
 use Rattle.machine.specs.Call.{sequenceType, structType, Call, write, name, opening, closing, abandonment, versionMarker, taking, emptying}
-use Rattle.machine.specs.Machine.{Config, closedBytes, splice, containerFits, containersFit, fits, Verdict, accepted, refused, verdict, after, emptyState, startVerdict, started, taken}
+use Rattle.machine.specs.Machine.{Config, closedBytes, splice, containerFits, containersFit, fits, Verdict, accepted, refused, verdict, after, emptyState, startVerdict, started, finishedLength, taken}
 use Rattle.machine.specs.Demands.{joined}
 
 -- the answers to a list of calls
@@ -36,7 +36,7 @@ nines : List ℕ
 nines = replicate 40 9
 
 calls-joined : joined calls (started nines) ≡ 0xE0 ∷ 0x01 ∷ 0x00 ∷ 0xEA ∷ 0xE5 ∷ 0x81 ∷ 0x8A ∷ 0xD2 ∷ 0x84 ∷ 0x11 ∷ 0x21 ∷ 0x07 ∷ 0xE0 ∷ 0x01 ∷ 0x00 ∷ 0xEA ∷ []
-unfolding calls nines joined verdict startVerdict taken fits containerFits containersFit splice closedBytes argumentBytes annotatedBytes annotationBytes framedBytes headerBytes uintBytes varUIntsBytes varUIntBytes digits digitCount countDigits lowDigits
+unfolding calls nines joined verdict startVerdict finishedLength fits containerFits containersFit splice closedBytes argumentBytes annotatedBytes annotationBytes framedBytes headerBytes uintBytes varUIntsBytes varUIntBytes digits digitCount countDigits lowDigits
 calls-joined = refl
 
 calls-verdicts : verdicts calls (started nines) ≡ accepted ∷ accepted ∷ accepted ∷ refused 3 ∷ accepted ∷ accepted ∷ accepted ∷ accepted ∷ accepted ∷ accepted ∷ accepted ∷ accepted ∷ []
@@ -48,7 +48,7 @@ long : List Call
 long = opening [] (sequenceType list) ∷ (replicate 128 (write [] (writeBool true)) ++ (closing ∷ []))
 
 long-joined : take 8 (joined long (started (replicate 135 9))) ≡ 0xE0 ∷ 0x01 ∷ 0x00 ∷ 0xEA ∷ 0xBE ∷ 0x01 ∷ 0x80 ∷ 0x11 ∷ []
-unfolding long joined verdict startVerdict taken fits containerFits containersFit splice closedBytes argumentBytes annotatedBytes framedBytes headerBytes varUIntBytes digits digitCount countDigits lowDigits
+unfolding long joined verdict startVerdict finishedLength fits containerFits containersFit splice closedBytes argumentBytes annotatedBytes framedBytes headerBytes varUIntBytes digits digitCount countDigits lowDigits
 long-joined = refl
 
 -- in a struct with no name waiting every fault is 3; outside, each argument's own number; with no room, 10 last

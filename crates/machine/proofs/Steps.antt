@@ -16,9 +16,9 @@ use Rattle.encoding.specs.Headers.{annotatedBytes, markerBytes}
 use Rattle.encoding.specs.Argument.{Argument, argumentBytes, argumentChecks, NoneHolds}
 use Rattle.encoding.specs.Stream.{treeBytes, streamBytes, Writable}
 use Rattle.machine.specs.Call.{ContainerType, Call, write, name, opening, closing, abandonment, versionMarker, taking, emptying, TypedCall}
-use Rattle.machine.specs.Machine.{Config, openContainers, isOpen, inStruct, closedInnermost, innermostStart, reserve, live, splice, effect, longestBuffer, containerFits, containersFit, fits, lacksName, lines, checks, accepted, refused, firstFailing, isAccepted, partOf, taken}
+use Rattle.machine.specs.Machine.{Config, openContainers, isOpen, inStruct, closedInnermost, innermostStart, reserve, live, splice, effect, longestBuffer, containerFits, containersFit, fits, lacksName, lines, checks, accepted, refused, firstFailing, isAccepted, finishedLength, taken}
 use Rattle.machine.specs.Model.{Open, Model, abandon, spell}
-use Rattle.machine.specs.Demands.{isEmptying}
+use Rattle.machine.specs.Demands.{isEmptying, partOf}
 use Rattle.machine.proofs.Growth.{writable-addItem}
 use Rattle.machine.proofs.Invariant.{isSome, containerAt, insideStruct, LayoutOf, WritableOf, WritableModel, add-layout, add-quiet, add-writable, or-false, ready, name-layout, opening-layout, opening-writable, under-writable, Innermost, innermost, outside, marker-layout, emptying-layout}
 use Rattle.machine.proofs.Splice.{take-splice, length-splice, opened-containers, closed-containers, none-open}
@@ -170,10 +170,11 @@ module _ (done : List ℕ) (w : Config) (x : Model Argument) (inv : Invariant do
 
   -- with no container open a taking hands back the live bytes
   pub taken-live : isOpen (openContainers (w .state)) ≡ false → taken w ≡ live w
-  unfolding taken
+  unfolding finishedLength
   taken-live o =
       let r = outside done (live w) (openContainers (w .state)) (x .items) (x .stack) (x .waiting) (inv .layout) o in
-      rw (le-leb (length (w .buffer)) longestBuffer (inv .short), fits-outside w (inv .fit) (r .0) (outside-now o), o, outside-now o)
+      let n : finishedLength (w .state) (length (w .buffer)) ≡ w .state .used = rw (le-leb (length (w .buffer)) longestBuffer (inv .short), finishedLength, fits-outside w (inv .fit) (r .0) (outside-now o), o, outside-now o) in
+      ap (λ (k : ℕ). take k (w .buffer)) n
 
   -- and they end the encoding of what was written
   pub taken-whole : isOpen (openContainers (w .state)) ≡ false → done ++ taken w ≡ streamBytes (x .items)

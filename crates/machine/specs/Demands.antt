@@ -9,7 +9,7 @@ use Rattle.ion.specs.Grammar.{Reads}
 use Rattle.encoding.specs.Argument.{Argument, meaning}
 use Rattle.encoding.specs.Stream.{streamBytes}
 use Rattle.machine.specs.Call.{Call, write, name, opening, closing, abandonment, versionMarker, taking, emptying, AllTyped}
-use Rattle.machine.specs.Machine.{Config, accepted, verdict, isAccepted, after, startVerdict, started, partOf, taken}
+use Rattle.machine.specs.Machine.{Config, accepted, verdict, isAccepted, after, startVerdict, started, taken}
 use Rattle.machine.specs.Model.{Model, modelStep, startedModel}
 
 -- Each call is given the state and the buffer as the last one left them.
@@ -28,6 +28,10 @@ isEmptying abandonment = false
 isEmptying versionMarker = false
 isEmptying taking = false
 isEmptying emptying = true
+
+abbrev pub partOf : Bool → List ℕ → List ℕ
+partOf true x = x
+partOf false x = []
 
 -- what a taking would hand back just before the call, if the call is an accepted emptying
 abbrev pub flushed : Call → Config → List ℕ

@@ -193,12 +193,11 @@ startVerdict b = firstFailing ((ltb longestBuffer (length b), 1) ∷ (ltb (lengt
 abbrev pub started : List ℕ → Config
 started b = ifAccepted (startVerdict b) (record { state = emptyState 4; buffer = splice 0 0 markerBytes b }) (record { state = emptyState 0; buffer = b })
 
--- ---- a taking hands back a part of the buffer
+-- ---- a taking hands back a part of the buffer: the slice from 0 to the used length, or an empty part
 
-abbrev pub partOf : Bool → List ℕ → List ℕ
-partOf true x = x
-partOf false x = []
+-- nothing is finished if a container is open, a field name waits, or the state or buffer would be refused by 1 or 2
+unfoldable pub finishedLength : State → ℕ → ℕ
+finishedLength s room = elim (leb room longestBuffer && (fits s room && (not (isOpen (openContainers s)) && not (s .waiting)))) [ true ↦ s .used | false ↦ 0 ]
 
--- empty if a container is open, a field name waits, or the state or buffer would be refused by 1 or 2
-unfoldable pub taken : Config → List ℕ
-taken w = partOf (leb (length (w .buffer)) longestBuffer && (fits (w .state) (length (w .buffer)) && (not (isOpen (openContainers (w .state))) && not (w .state .waiting)))) (live w)
+abbrev pub taken : Config → List ℕ
+taken w = take (finishedLength (w .state) (length (w .buffer))) (w .buffer)

@@ -1,0 +1,110 @@
+-- A writer's state as 296 lent bytes: used in four bytes, least significant first; how many containers are open; whether a name waits, zero for no;
+-- two bytes that mean nothing; and 32 containers of nine bytes: start and header in four bytes each, least significant first, and the type code.
+-- Assumes nothing.
+use Prim.Native.Nat.{ℕ, zero, suc, _+_, _-_, _*_, _/_, _%_}
+use mathlib.Core.Bool.{Bool, true, false, not, _&&_}
+use mathlib.Core.List.{List, [], _∷_, _++_}
+use lib.Dec.{ltb, leb, eqb}
+use lib.ListN.{length, getD, replicate}
+use Rattle.buffer.specs.Laid.{laid}
+use Rattle.machine.specs.declared.State.{State}
+use Rattle.machine.specs.declared.Container.{Container}
+use Rattle.machine.specs.Call.{Call, write, name, opening, closing, abandonment, versionMarker, taking, emptying}
+use Rattle.machine.specs.Machine.{noContainer, fits, longestBuffer, emptyState, Verdict, accepted, refused, firstFailing}
+use Rattle.machine.specs.Numbers.{Outcome, run}
+
+abbrev pub stateSize : ℕ
+stateSize = 296
+
+-- ---- the state that bytes spell
+
+abbrev pub four : List ℕ → ℕ → ℕ
+four b at = getD b at 0 + 256 * getD b (at + 1) 0 + 65536 * getD b (at + 2) 0 + 16777216 * getD b (at + 3) 0
+
+-- where the container i lies
+abbrev pub placeOf : ℕ → ℕ
+placeOf i = 8 + 9 * i
+
+abbrev pub containerAt : List ℕ → ℕ → Container
+containerAt b at = record { start = four b at; header = four b (at + 4); code = getD b (at + 8) 0 }
+
+-- n containers, from the i-th on
+unfoldable pub containersFrom : List ℕ → ℕ → ℕ → List Container
+containersFrom b i zero = []
+containersFrom b i (suc n) = containerAt b (placeOf i) ∷ containersFrom b (suc i) n
+
+-- a slice of another length spells the empty state, and no call takes it
+unfoldable pub stateOf : List ℕ → State
+stateOf b =
+    elim (eqb (length b) stateSize) [
+      | true ↦ record { used = four b 0; depth = getD b 4 0; waiting = not (eqb (getD b 5 0) 0); containers = containersFrom b 0 32 }
+      | false ↦ emptyState 0
+    ]
+
+-- "State fits", of a slice: it has the right length, and the state that it spells fits
+abbrev pub lentFits : List ℕ → ℕ → Bool
+lentFits b room = eqb (length b) stateSize && fits (stateOf b) room
+
+-- the first of the lines 1 to 3 that fails
+unfoldable pub lentPlace : List ℕ → ℕ → Bool → Verdict
+lentPlace b room misplaced = firstFailing ((ltb longestBuffer room, 1) ∷ (not (lentFits b room), 2) ∷ (misplaced, 3) ∷ [])
+
+-- ---- the bytes of a state
+
+abbrev pub fourBytes : ℕ → List ℕ
+fourBytes n = n % 256 ∷ n / 256 % 256 ∷ n / 65536 % 256 ∷ n / 16777216 % 256 ∷ []
+
+abbrev pub flag : Bool → ℕ
+flag true = 1
+flag false = 0
+
+abbrev pub headBytes : ℕ → ℕ → Bool → List ℕ
+headBytes used depth waiting = fourBytes used ++ (depth % 256 ∷ flag waiting ∷ [])
+
+abbrev pub containerBytes : Container → List ℕ
+containerBytes c = fourBytes (c .start) ++ (fourBytes (c .header) ++ (c .code ∷ []))
+
+-- used, depth and waiting stored; a slice of another length stays as it is
+unfoldable pub storedHead : ℕ → ℕ → Bool → List ℕ → List ℕ
+storedHead used depth waiting b = elim (eqb (length b) stateSize) [ true ↦ laid b 0 (headBytes used depth waiting) | false ↦ b ]
+
+-- the container i stored
+unfoldable pub storedContainer : ℕ → Container → List ℕ → List ℕ
+storedContainer i c b = elim (eqb (length b) stateSize && ltb i 32) [ true ↦ laid b (placeOf i) (containerBytes c) | false ↦ b ]
+
+-- ---- a call over lent bytes
+
+abbrev pub numberOf : Verdict → ℕ
+numberOf accepted = 0
+numberOf (refused n) = n
+
+-- an opening sets one container; no call alters another
+abbrev pub storedBy : Call → State → List ℕ → List ℕ
+storedBy (write an a) s b = b
+storedBy (name n) s b = b
+storedBy (opening an k) s b = storedContainer (s .depth - 1) (getD (s .containers) (s .depth - 1) noContainer) b
+storedBy closing s b = b
+storedBy abandonment s b = b
+storedBy versionMarker s b = b
+storedBy taking s b = b
+storedBy emptying s b = b
+
+abbrev pub storedIf : Verdict → Call → State → List ℕ → List ℕ
+storedIf accepted c s b = storedHead (s .used) (s .depth) (s .waiting) (storedBy c s b)
+storedIf (refused n) c s b = b
+
+-- What an entry point answers, and leaves in the state slice and in the buffer: 1, then 2 for a slice of another length, then as the machine does.
+pub record Entered : Type 0 where
+  pub number : ℕ
+  pub state : List ℕ
+  pub buffer : List ℕ
+
+abbrev pub enteredBy : Call → List ℕ → Outcome → Entered
+enteredBy c st o = record { number = numberOf (o .verdict); state = storedIf (o .verdict) c (o .state) st; buffer = o .buffer }
+
+unfoldable pub entered : Call → List ℕ → List ℕ → Entered
+entered c st b =
+    elim (ltb longestBuffer (length b)) [
+      | true ↦ record { number = 1; state = st; buffer = b }
+      | false ↦ elim (eqb (length st) stateSize) [ true ↦ enteredBy c st (run c (stateOf st) b) | false ↦ record { number = 2; state = st; buffer = b } ]
+    ]
