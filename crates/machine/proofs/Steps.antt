@@ -173,7 +173,7 @@ module _ (done : List ℕ) (w : Config) (x : Model Argument) (inv : Invariant do
   unfolding finishedLength
   taken-live o =
       let r = outside done (live w) (openContainers (w .state)) (x .items) (x .stack) (x .waiting) (inv .layout) o in
-      let n : finishedLength (w .state) (length (w .buffer)) ≡ w .state .used = rw (le-leb (length (w .buffer)) longestBuffer (inv .short), finishedLength, fits-outside w (inv .fit) (r .0) (outside-now o), o, outside-now o) in
+      let n : finishedLength (w .state) (length (w .buffer)) ≡ w .state .used = rw (le-leb (length (w .buffer)) longestBuffer (inv .short), fits-outside w (inv .fit) (r .0) (outside-now o), o, outside-now o) in
       ap (λ (k : ℕ). take k (w .buffer)) n
 
   -- and they end the encoding of what was written

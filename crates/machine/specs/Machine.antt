@@ -195,9 +195,13 @@ started b = ifAccepted (startVerdict b) (record { state = emptyState 4; buffer =
 
 -- ---- a taking hands back a part of the buffer: the slice from 0 to the used length, or an empty part
 
+abbrev pub usedIf : Bool → ℕ → ℕ
+usedIf true used = used
+usedIf false used = 0
+
 -- nothing is finished if a container is open, a field name waits, or the state or buffer would be refused by 1 or 2
 unfoldable pub finishedLength : State → ℕ → ℕ
-finishedLength s room = elim (leb room longestBuffer && (fits s room && (not (isOpen (openContainers s)) && not (s .waiting)))) [ true ↦ s .used | false ↦ 0 ]
+finishedLength s room = usedIf (leb room longestBuffer && (fits s room && (not (isOpen (openContainers s)) && not (s .waiting)))) (s .used)
 
 abbrev pub taken : Config → List ℕ
 taken w = take (finishedLength (w .state) (length (w .buffer))) (w .buffer)

@@ -12,7 +12,7 @@ use borrow.Author.Tests.{leb-true, eqb-true, le-leb, lt-leb, eq-eqb}
 use Rattle.ion.proofs.Tests.{by-cases, both}
 use Rattle.machine.specs.declared.Container.{Container}
 use Rattle.machine.specs.declared.State.{State}
-use Rattle.machine.specs.Machine.{noContainer, innermostFirst, openContainers, isOpen, inStruct, containersFit, fits}
+use Rattle.machine.specs.Machine.{noContainer, innermostFirst, openContainers, isOpen, inStruct, containerFits, containersFit, fits}
 use Rattle.place.specs.Place.{judgedLines, placeVerdict}
 
 -- ---- tests
@@ -84,6 +84,16 @@ fits-nameless s room h d n = rw (le-leb (s .used) room h, le-leb (s .depth) 32 d
 pub fits-containers : (s : State) (room : ℕ) → s .used ≤ room → s .depth ≤ 32 → (s .waiting && not (inStruct (openContainers s))) ≡ false → fits s room ≡ containersFit (s .used) (openContainers s)
 unfolding fits
 fits-containers s room h d n = rw (le-leb (s .used) room h, le-leb (s .depth) 32 d, names-fit (s .waiting) (inStruct (openContainers s)), n) (and-true (containersFit (s .used) (openContainers s)))
+
+-- ---- the containers, from the innermost outwards
+
+pub chain-step : (l : List Container) (i limit : ℕ) → 0 < i → containersFit limit (innermostFirst l i) ≡ (containerFits limit (getD l (i - 1) noContainer) && containersFit (getD l (i - 1) noContainer .start) (innermostFirst l (i - 1)))
+unfolding containersFit
+chain-step l i limit h = rw (innermost-step l i h)
+
+pub chain-none : (l : List Container) (i limit : ℕ) → i ≤ 0 → containersFit limit (innermostFirst l i) ≡ true
+unfolding containersFit
+chain-none l i limit h = rw (innermost-none l i h)
 
 -- ---- the answers
 

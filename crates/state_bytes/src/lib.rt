@@ -1,12 +1,12 @@
 // A writer's state as lent bytes, and the checks by place on them. No State is made: what lies in an array at a computed place would be copied at every call.
 ghost use mathlib.Core.Path.{_≡_};
 ghost use mathlib.Core.Bool.{not, _||_};
+ghost use mathlib.Core.List.{[], _∷_};
 ghost use Prim.Native.Nat.{_+_, _-_, _*_, _≤_, _<_};
 ghost use lib.ListN.{length, getD};
 ghost use Rattle.buffer.specs.Laid.{laid};
-ghost use Rattle.machine.specs.Machine.{noContainer, openContainers, isOpen, inStruct, outer, fits, lacksName};
+ghost use Rattle.machine.specs.Machine.{noContainer, innermostFirst, openContainers, isOpen, inStruct, outer, containersFit, lacksName, finishedLength};
 ghost use Rattle.machine.specs.Numbers.{verdictOf};
-ghost use Rattle.place.specs.Place.{judgedLines};
 ghost use Rattle.state_bytes.specs.StateBytes.{four, placeOf, containerAt, stateOf, lentFits, lentPlace, fourBytes, storedHead, storedContainer};
 use machine::Answer;
 use machine::Container;
@@ -79,7 +79,14 @@ pub fn waiting(st: &[u8]) -> bool
 pub fn container(st: &[u8], i: usize) -> Container
     ensures { λ r. ⌜ r ≡ getD (stateOf (now (st .entry)) .containers) i noContainer ⌝ }
 {
-    if (st.len() != STATE_SIZE) | (MOST_OPEN <= i) {
+    if st.len() != STATE_SIZE {
+        return Container {
+            start: 0,
+            header: 0,
+            code: 0,
+        };
+    }
+    if MOST_OPEN <= i {
         return Container {
             start: 0,
             header: 0,
@@ -87,4 +94,186 @@ pub fn container(st: &[u8], i: usize) -> Container
         };
     }
     get_container(st, i)
+}
+
+// Whether the container below `depth` is a struct.
+fn in_struct(st: &[u8], depth: usize) -> bool
+    ensures { λ r. ⌜ r ≡ inStruct (innermostFirst (stateOf (now (st .entry)) .containers) depth) ⌝ }
+{
+    if depth == 0 {
+        return false;
+    }
+    let c = container(st, depth - 1);
+    c.code == STRUCT
+}
+
+// Whether the innermost container lies in a struct.
+pub fn outer_is_struct(st: &[u8]) -> bool
+    ensures { λ r. ⌜ r ≡ inStruct (outer (openContainers (stateOf (now (st .entry))))) ⌝ }
+{
+    let depth = depth(st);
+    if depth == 0 {
+        return false;
+    }
+    in_struct(st, depth - 1)
+}
+
+// From the innermost container outwards: each has to end before the next begins.
+fn containers_fit(st: &[u8], used: usize, depth: usize) -> bool
+    requires { ⌜ (depth ≤ 32) × (length (now st) ≡ 296) ⌝ }
+    ensures { λ r. ⌜ r ≡ containersFit used (innermostFirst (stateOf (now (st .entry)) .containers) depth) ⌝ }
+{
+    let mut i = depth;
+    let mut limit = used;
+    while 0 < i {
+        i -= 1;
+        let c = get_container(st, i);
+        if !place::container_fits(c, limit) {
+            return false;
+        }
+        limit = c.start;
+    }
+    true
+}
+
+// Whether the slice spells a state, and it fits.
+pub fn fits(st: &[u8], room: usize) -> bool
+    ensures { λ r. ⌜ r ≡ lentFits (now (st .entry)) room ⌝ }
+{
+    if st.len() != STATE_SIZE {
+        return false;
+    }
+    let used = used(st);
+    let depth = depth(st);
+    if room < used {
+        return false;
+    }
+    if MOST_OPEN < depth {
+        return false;
+    }
+    if waiting(st) & !in_struct(st, depth) {
+        return false;
+    }
+    containers_fit(st, used, depth)
+}
+
+// The first of the lines 1 to 3 that fails.
+fn judged(st: &[u8], room: usize, misplaced: bool) -> Answer
+    ensures { λ r. ⌜ verdictOf r ≡ lentPlace (now (st .entry)) room misplaced ⌝ }
+{
+    if LONGEST_BUFFER < room {
+        return Answer::Refused(Refusal::BufferTooLong);
+    }
+    if !fits(st, room) {
+        return Answer::Refused(Refusal::StateUnfit);
+    }
+    if misplaced {
+        return Answer::Refused(Refusal::Misplaced);
+    }
+    Answer::Accepted
+}
+
+// Where a scalar or an opening may stand: in a struct only behind a name.
+pub fn value_place(st: &[u8], room: usize) -> Answer
+    ensures { λ r. ⌜ verdictOf r ≡ lentPlace (now (st .entry)) room (lacksName (stateOf (now (st .entry)))) ⌝ }
+{
+    let depth = depth(st);
+    let misplaced = in_struct(st, depth) & !waiting(st);
+    judged(st, room, misplaced)
+}
+
+// Where a field name may stand: in a struct, with none waiting.
+pub fn name_place(st: &[u8], room: usize) -> Answer
+    ensures { λ r. ⌜ verdictOf r ≡ lentPlace (now (st .entry)) room (not (inStruct (openContainers (stateOf (now (st .entry))))) || stateOf (now (st .entry)) .waiting) ⌝ }
+{
+    let depth = depth(st);
+    let misplaced = !in_struct(st, depth) | waiting(st);
+    judged(st, room, misplaced)
+}
+
+// Where a closing may stand: in a container, with no name waiting.
+pub fn close_place(st: &[u8], room: usize) -> Answer
+    ensures { λ r. ⌜ verdictOf r ≡ lentPlace (now (st .entry)) room (not (isOpen (openContainers (stateOf (now (st .entry))))) || stateOf (now (st .entry)) .waiting) ⌝ }
+{
+    let depth = depth(st);
+    let misplaced = (depth == 0) | waiting(st);
+    judged(st, room, misplaced)
+}
+
+// Where an abandonment may stand: in a container.
+pub fn abandon_place(st: &[u8], room: usize) -> Answer
+    ensures { λ r. ⌜ verdictOf r ≡ lentPlace (now (st .entry)) room (not (isOpen (openContainers (stateOf (now (st .entry)))))) ⌝ }
+{
+    let depth = depth(st);
+    judged(st, room, depth == 0)
+}
+
+// Where a version marker or an emptying may stand: outside all containers.
+pub fn top_place(st: &[u8], room: usize) -> Answer
+    ensures { λ r. ⌜ verdictOf r ≡ lentPlace (now (st .entry)) room (isOpen (openContainers (stateOf (now (st .entry))))) ⌝ }
+{
+    let depth = depth(st);
+    judged(st, room, depth != 0)
+}
+
+// How many bytes from the buffer's front are finished.
+pub fn finished_length(st: &[u8], room: usize) -> usize
+    ensures { λ r. ⌜ r ≡ finishedLength (stateOf (now (st .entry))) room ⌝ }
+{
+    if LONGEST_BUFFER < room {
+        return 0;
+    }
+    if !fits(st, room) {
+        return 0;
+    }
+    let depth = depth(st);
+    if (depth != 0) | waiting(st) {
+        return 0;
+    }
+    used(st)
+}
+
+fn put_four(st: &mut [u8], at: usize, n: usize)
+    requires { ⌜ at + 4 ≤ length (now st) ⌝ }
+    ensures { λ r. ⌜ now (st .exit) ≡ laid (now (st .entry)) at (fourBytes n) ⌝ }
+{
+    st[at] = (n % 256) as u8;
+    st[at + 1] = (n / 256 % 256) as u8;
+    st[at + 2] = (n / 65536 % 256) as u8;
+    st[at + 3] = (n / 16777216 % 256) as u8;
+}
+
+fn put_one(st: &mut [u8], at: usize, byte: u8)
+    requires { ⌜ at < length (now st) ⌝ }
+    ensures { λ r. ⌜ now (st .exit) ≡ laid (now (st .entry)) at (byte ∷ []) ⌝ }
+{
+    st[at] = byte;
+}
+
+// Used, depth and waiting are stored.
+pub fn store(st: &mut [u8], used: usize, depth: usize, waiting: bool)
+    ensures { λ r. ⌜ now (st .exit) ≡ storedHead used depth waiting (now (st .entry)) ⌝ }
+{
+    if st.len() != STATE_SIZE {
+        return;
+    }
+    put_four(st, 0, used);
+    put_one(st, 4, (depth % 256) as u8);
+    put_one(st, 5, waiting as u8);
+}
+
+// The container i is stored.
+pub fn store_container(st: &mut [u8], i: usize, c: Container)
+    ensures { λ r. ⌜ now (st .exit) ≡ storedContainer i c (now (st .entry)) ⌝ }
+{
+    if st.len() != STATE_SIZE {
+        return;
+    }
+    if MOST_OPEN <= i {
+        return;
+    }
+    let at = 8 + 9 * i;
+    put_four(st, at, c.start);
+    put_four(st, at + 4, c.header);
+    put_one(st, at + 8, c.code);
 }

@@ -1,30 +1,18 @@
 -- `place::state_fits` meets its contract. The loop's invariant: the state fits exactly if the first i containers do, before the limit.
 -- Assumes nothing.
-use Prim.Native.Nat.{ℕ, _-_, _≤_, _<_}
+use Prim.Native.Nat.{_≤_}
 use native.Mathlib.Omega.{arith}
 use mathlib.Core.Path.{_≡_, refl, sym, _∙_}
-use mathlib.Core.Bool.{true, _&&_}
-use mathlib.Core.List.{List}
-use lib.ListN.{getD}
 use borrow.Author.Needs.{needs}
 use borrow.Author.Tests.{not-true, not-false}
-use Rattle.machine.specs.declared.Container.{Container}
-use Rattle.machine.specs.Machine.{noContainer, innermostFirst, containerFits, containersFit, fits}
-use Rattle.place.proofs.Laws.{innermost-step, innermost-none, fits-overused, fits-overopen, fits-nameless, fits-containers}
+use Rattle.machine.specs.Machine.{innermostFirst, containersFit, fits}
+use Rattle.place.proofs.Laws.{chain-step, chain-none, fits-overused, fits-overopen, fits-nameless, fits-containers}
 use Rattle.place.proofs.state_fits.Statement.{statement}
 use Rattle.place.proofs.state_fits.Tie as tie
 use Rattle.place.proofs.state_fits.Reads as reads
 use Rattle.place.proofs.state_fits.Lts as lts
 use Rattle.place.proofs.container_fits.Reads as container-fits-reads
 use Rattle.place.proofs.in_struct.Reads as in-struct-reads
-
-chain-step : (l : List Container) (i limit : ℕ) → 0 < i → containersFit limit (innermostFirst l i) ≡ (containerFits limit (getD l (i - 1) noContainer) && containersFit (getD l (i - 1) noContainer .start) (innermostFirst l (i - 1)))
-unfolding containersFit
-chain-step l i limit h = rw (innermost-step l i h)
-
-chain-none : (l : List Container) (i limit : ℕ) → i ≤ 0 → containersFit limit (innermostFirst l i) ≡ true
-unfolding containersFit
-chain-none l i limit h = rw (innermost-none l i h)
 
 abbrev Inv-loop : tie.InvT-loop
 Inv-loop room s used depth i₀ limit₀ i limit = (i ≤ 32) × (fits s room ≡ containersFit limit (innermostFirst (s .containers) i))

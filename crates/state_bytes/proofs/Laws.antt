@@ -1,0 +1,187 @@
+-- The state that bytes spell, part by part, and the answers of a check by place over them.
+-- Assumes nothing.
+use Prim.Native.Nat.{ℕ, zero, suc, _+_, _-_, _%_, _<_, _≤_}
+use native.Mathlib.Omega.{arith}
+use native.Mathlib.Nat.{add-zero, add-suc, suc-add, zero-add}
+use mathlib.Core.Path.{_≡_, refl, sym, _∙_, ap}
+use mathlib.Core.Bool.{Bool, true, false, true≢false, false≢true, not, _&&_, _||_, and-false}
+use mathlib.Core.List.{List, [], _∷_, _++_}
+use lib.Dec.{eqb, leb}
+use lib.ListN.{length, getD, set, List·getD-eq-default, replicate}
+use mir.Val.{boolByte}
+use borrow.Author.Tests.{eq-eqb, ne-eqb, eqb-false, lt-ltb, le-ltb, lt-leb, le-leb}
+use Rattle.ion.proofs.Tests.{by-cases, both}
+use Rattle.buffer.specs.Laid.{laid}
+use Rattle.buffer.proofs.Laid.{laid-one, laid-snoc, laid-more}
+use Rattle.machine.specs.declared.Container.{Container}
+use Rattle.machine.specs.declared.State.{State}
+use Rattle.machine.specs.Machine.{noContainer, innermostFirst, openContainers, isOpen, inStruct, outer, fits, emptyState, accepted, refused, usedIf, finishedLength}
+use Rattle.place.proofs.Laws.{innermost-step, innermost-none, open-of}
+use Rattle.state_bytes.specs.StateBytes.{four, placeOf, containerAt, containersFrom, stateOf, lentFits, lentPlace, fourBytes, flag, storedHead, storedContainer}
+
+-- ---- the state
+
+abbrev pub spelled : List ℕ → State
+spelled b = record { used = four b 0; depth = getD b 4 0; waiting = not (eqb (getD b 5 0) 0); containers = containersFrom b 0 32 }
+
+pub state-is : (b : List ℕ) → length b ≡ 296 → stateOf b ≡ spelled b
+unfolding stateOf
+state-is b h = rw (eq-eqb (length b) 296 h, stateOf)
+
+pub state-none : (b : List ℕ) → (length b ≡ 296 → ⊥) → stateOf b ≡ emptyState 0
+unfolding stateOf
+state-none b h = rw (ne-eqb (length b) 296 h, stateOf)
+
+container-of : (b : List ℕ) (i n j : ℕ) → j < n → getD (containersFrom b i n) j noContainer ≡ containerAt b (placeOf (i + j))
+unfolding containersFrom
+container-of b i zero j h = absurd (none j h)
+  where
+    none : (k : ℕ) → k < 0 → ⊥
+    none k q = omega arith
+container-of b i (suc n) zero h = rw (add-zero i)
+container-of b i (suc n) (suc j) h = container-of b (suc i) n j (omega arith) ∙ rw (add-suc i j, suc-add i j)
+
+pub container-is : (b : List ℕ) (j : ℕ) → j < 32 → getD (containersFrom b 0 32) j noContainer ≡ containerAt b (placeOf j)
+container-is b j h = container-of b 0 32 j h ∙ rw (zero-add j)
+
+pub length-containers : (b : List ℕ) (i n : ℕ) → length (containersFrom b i n) ≡ n
+unfolding containersFrom
+length-containers b i zero = refl
+length-containers b i (suc n) = ap suc (length-containers b (suc i) n)
+
+pub container-past : (b : List ℕ) (j : ℕ) → 32 ≤ j → noContainer ≡ getD (containersFrom b 0 32) j noContainer
+container-past b j h = sym (List·getD-eq-default (containersFrom b 0 32) noContainer (omega (arith, length-containers b 0 32)))
+
+-- the container that is read before the place i
+pub container-at : (b : List ℕ) (i : ℕ) (c : Container) → length b ≡ 296 → 0 < i → i ≤ 32 → c ≡ containerAt b (placeOf (i - 1)) → c ≡ getD (stateOf b .containers) (i - 1) noContainer
+container-at b i c h p q e = e ∙ (rw (state-is b h) (sym (container-is b (i - 1) (omega arith))))
+
+-- each container of the empty state is one of zeros
+pub container-empty : (j : ℕ) → noContainer ≡ getD (emptyState 0 .containers) j noContainer
+container-empty j = of-zeros 32 j
+  where
+    of-zeros : (n k : ℕ) → noContainer ≡ getD (replicate n noContainer) k noContainer
+    of-zeros zero k = refl
+    of-zeros (suc n) zero = refl
+    of-zeros (suc n) (suc k) = of-zeros n k
+
+-- ---- the innermost container
+
+pub inStruct-step : (l : List Container) (n : ℕ) → 0 < n → eqb (getD l (n - 1) noContainer .code) 0xD0 ≡ inStruct (innermostFirst l n)
+inStruct-step l n h = rw (innermost-step l n h)
+
+pub inStruct-none : (l : List Container) (n : ℕ) → n ≤ 0 → false ≡ inStruct (innermostFirst l n)
+inStruct-none l n h = rw (innermost-none l n h)
+
+pub outer-step : (l : List Container) (n : ℕ) → 0 < n → inStruct (innermostFirst l (n - 1)) ≡ inStruct (outer (innermostFirst l n))
+outer-step l n h = rw (innermost-step l n h)
+
+pub outer-none : (l : List Container) (n : ℕ) → n ≤ 0 → false ≡ inStruct (outer (innermostFirst l n))
+outer-none l n h = rw (innermost-none l n h)
+
+-- ---- whether it fits
+
+pub fits-of : (b : List ℕ) (room : ℕ) (f : Bool) → length b ≡ 296 → f ≡ fits (stateOf b) room → f ≡ lentFits b room
+fits-of b room f h e = rw (eq-eqb (length b) 296 h) e
+
+pub fits-lent : (b : List ℕ) (room : ℕ) → lentFits b room ≡ true → fits (stateOf b) room ≡ true
+fits-lent b room e = both {a = eqb (length b) 296} e .1
+
+pub unfit : (b : List ℕ) (room : ℕ) → (length b ≡ 296 → ⊥) → false ≡ lentFits b room
+unfit b room h = rw (ne-eqb (length b) 296 h)
+
+-- ---- the answers
+
+pub lent-long : (b : List ℕ) (room : ℕ) (m : Bool) → 16777215 < room → refused 1 ≡ lentPlace b room m
+unfolding lentPlace
+lent-long b room m h = rw (lt-ltb 16777215 room h)
+
+pub lent-unfit : (b : List ℕ) (room : ℕ) (m : Bool) → room ≤ 16777215 → lentFits b room ≡ false → refused 2 ≡ lentPlace b room m
+unfolding lentPlace
+lent-unfit b room m h f = rw (le-ltb 16777215 room h, f)
+
+pub lent-placed : (b : List ℕ) (room : ℕ) (m : Bool) → room ≤ 16777215 → lentFits b room ≡ true → m ≡ true → refused 3 ≡ lentPlace b room m
+unfolding lentPlace
+lent-placed b room m h f e = rw (le-ltb 16777215 room h, f, e)
+
+pub lent-accepted : (b : List ℕ) (room : ℕ) (m : Bool) → room ≤ 16777215 → lentFits b room ≡ true → m ≡ false → accepted ≡ lentPlace b room m
+unfolding lentPlace
+lent-accepted b room m h f e = rw (le-ltb 16777215 room h, f, e)
+
+-- ---- stores
+
+pub flag-is : (w : Bool) → boolByte w ≡ flag w
+flag-is true = refl
+flag-is false = refl
+
+-- four stores in a row
+pub laid-four : (b : List ℕ) (at v w x y : ℕ) → at + 4 ≤ length b → set (set (set (set b at v) (at + 1) w) (at + 2) x) (at + 3) y ≡ laid b at (v ∷ w ∷ x ∷ y ∷ [])
+laid-four b at v w x y h =
+    rw (laid-one b at v (omega arith), laid-snoc b at (v ∷ []) (at + 1) w refl (omega arith), laid-snoc b at (v ∷ w ∷ []) (at + 2) x refl (omega arith), laid-snoc b at (v ∷ w ∷ x ∷ []) (at + 3) y refl (omega arith))
+
+pub stored-head : (b l m n : List ℕ) (used depth f : ℕ) (waiting : Bool) → length b ≡ 296 → l ≡ laid b 0 (fourBytes used) → m ≡ laid l 4 (depth % 256 ∷ []) → n ≡ laid m 5 (f ∷ []) → f ≡ flag waiting → n ≡ storedHead used depth waiting b
+unfolding storedHead
+stored-head b l m n used depth f waiting h p q r e =
+    let a : m ≡ laid b 0 (fourBytes used ++ (depth % 256 ∷ [])) = q ∙ ap (λ (x : List ℕ). laid x 4 (depth % 256 ∷ [])) p ∙ laid-more b 0 (fourBytes used) (omega arith) (depth % 256 ∷ []) in
+    rw (eq-eqb (length b) 296 h, storedHead, ← e) (r ∙ ap (λ (x : List ℕ). laid x 5 (f ∷ [])) a ∙ laid-more b 0 (fourBytes used ++ (depth % 256 ∷ [])) (omega arith) (f ∷ []))
+
+pub stored-container : (b l m n : List ℕ) (i : ℕ) (c : Container) → length b ≡ 296 → i < 32 → l ≡ laid b (placeOf i) (fourBytes (c .start)) → m ≡ laid l (placeOf i + 4) (fourBytes (c .header)) → n ≡ laid m (placeOf i + 8) (c .code ∷ []) → n ≡ storedContainer i c b
+unfolding storedContainer
+stored-container b l m n i c h k p q r =
+    let a : m ≡ laid b (placeOf i) (fourBytes (c .start) ++ fourBytes (c .header)) = q ∙ ap (λ (x : List ℕ). laid x (placeOf i + 4) (fourBytes (c .header))) p ∙ laid-more b (placeOf i) (fourBytes (c .start)) (omega arith) (fourBytes (c .header)) in
+    rw (eq-eqb (length b) 296 h, lt-ltb i 32 k, storedContainer)
+    (r ∙ ap (λ (x : List ℕ). laid x (placeOf i + 8) (c .code ∷ [])) a ∙ laid-more b (placeOf i) (fourBytes (c .start) ++ fourBytes (c .header)) (omega arith) (c .code ∷ []))
+
+pub unstored-head : (b : List ℕ) (used depth : ℕ) (waiting : Bool) → (length b ≡ 296 → ⊥) → b ≡ storedHead used depth waiting b
+unfolding storedHead
+unstored-head b used depth waiting h = rw (ne-eqb (length b) 296 h, storedHead)
+
+pub unstored-short : (b : List ℕ) (i : ℕ) (c : Container) → (length b ≡ 296 → ⊥) → b ≡ storedContainer i c b
+unfolding storedContainer
+unstored-short b i c h = rw (ne-eqb (length b) 296 h, storedContainer)
+
+pub unstored-past : (b : List ℕ) (i : ℕ) (c : Container) → length b ≡ 296 → 32 ≤ i → b ≡ storedContainer i c b
+unfolding storedContainer
+unstored-past b i c h k = rw (eq-eqb (length b) 296 h, le-ltb i 32 k, storedContainer)
+
+-- ---- the finished length
+
+pub unfinished-long : (s : State) (room : ℕ) → 16777215 < room → 0 ≡ finishedLength s room
+unfolding finishedLength
+unfinished-long s room h = rw (lt-leb room 16777215 h)
+
+empty-finished : (room : ℕ) → 0 ≡ finishedLength (emptyState 0) room
+unfolding finishedLength
+empty-finished room = of-test (leb room 16777215 && (fits (emptyState 0) room && true))
+  where
+    of-test : (t : Bool) → _≡_ {A = ℕ} 0 (usedIf t 0)
+    of-test true = refl
+    of-test false = refl
+
+pub unfinished-unfit : (b : List ℕ) (room : ℕ) → lentFits b room ≡ false → 0 ≡ finishedLength (stateOf b) room
+unfolding finishedLength
+unfinished-unfit b room e =
+    by-cases (eqb (length b) 296)
+    (λ p. let f : fits (stateOf b) room ≡ false = rw p at e in rw (f, and-false))
+    (λ p. rw (state-none b (λ q. eqb-false (length b) 296 p q)) (unfold finishedLength in (empty-finished room)))
+
+-- a container is open, or a name waits
+pub unfinished-open : (s : State) (room : ℕ) → (not (eqb (s .depth) 0) || s .waiting) ≡ true → 0 ≡ finishedLength s room
+unfolding finishedLength
+unfinished-open s room e = of-tests (leb room 16777215) (fits s room) (isOpen (openContainers s)) (s .waiting) (rw (open-of (s .containers) (s .depth)) at e)
+  where
+    of-tests : (a b o w : Bool) → (o || w) ≡ true → _≡_ {A = ℕ} 0 (usedIf (a && (b && (not o && not w))) (s .used))
+    of-tests true true true w h = refl
+    of-tests true true false true h = refl
+    of-tests true true false false h = absurd (false≢true h)
+    of-tests true false o w h = refl
+    of-tests false b o w h = refl
+
+pub finished-all : (s : State) (room : ℕ) → room ≤ 16777215 → fits s room ≡ true → (not (eqb (s .depth) 0) || s .waiting) ≡ false → s .used ≡ finishedLength s room
+unfolding finishedLength
+finished-all s room h f e = rw (le-leb room 16777215 h, f) (of-tests (isOpen (openContainers s)) (s .waiting) (rw (open-of (s .containers) (s .depth)) at e))
+  where
+    of-tests : (o w : Bool) → (o || w) ≡ false → s .used ≡ usedIf (not o && not w) (s .used)
+    of-tests true w h = absurd (true≢false h)
+    of-tests false true h = absurd (true≢false h)
+    of-tests false false h = refl
