@@ -5,17 +5,25 @@ use native.Mathlib.Omega.{arith}
 use mathlib.Core.Path.{_≡_, refl, sym, _∙_, ap}
 use mathlib.Core.Bool.{Bool, true, false, false≢true, not, _&&_, _||_}
 use mathlib.Core.List.{List, [], _∷_, _++_, append-assoc, append-nil}
-use lib.Dec.{ltb, leb}
+use lib.Dec.{ltb, eqb}
 use lib.ListN.{length, take, drop, replicate, length-append}
-use borrow.Author.Tests.{le-ltb, lt-ltb, leb-true, leb-false}
+use borrow.Author.Tests.{le-ltb, lt-ltb, eq-eqb, ne-eqb, eqb-true, eqb-false}
 use Rattle.ion.proofs.Tests.{by-cases}
 use Rattle.encoding.specs.Argument.{Argument, argumentChecks, anyHolds}
+use mathlib.Core.Logic.{⊎-elim}
 use Rattle.buffer.specs.Laid.{laid, placed}
+use Rattle.buffer.proofs.Laid.{placed-or}
 use Rattle.machine.specs.declared.State.{State}
 use Rattle.machine.specs.declared.Container.{Container}
 use Rattle.machine.specs.Call.{Call}
 use Rattle.machine.specs.Machine.{Config, splice, put, effect, placeLines, lines, checks, Verdict, accepted, refused, firstFailing, isAccepted, verdict, after}
-use Rattle.machine.specs.Numbers.{Outcome, run}
+use Rattle.machine.specs.declared.Refusal.{Refusal}
+use Rattle.machine.specs.declared.Refusal.the-variants.{NoRoom}
+use Rattle.machine.specs.declared.Written.{Written}
+use Rattle.writer.specs.Ended.{endedBy}
+use Rattle.machine.specs.declared.Answer.{Answer}
+use Rattle.machine.specs.declared.Answer.the-variants.{Accepted, Refused}
+use Rattle.machine.specs.Numbers.{number, verdictOf, Outcome, outcomeOf, run}
 use Rattle.place.specs.Place.{placeVerdict}
 use Rattle.writer.specs.Refused.{ownRefusal}
 
@@ -82,6 +90,74 @@ own-refusal a used room h =
     (λ p. some-check (argumentChecks a) ((ltb room used, 10) ∷ []) ((true, 10) ∷ []) p)
     (λ p. rw (lt-ltb room used (h p)))
 
--- where none fails, and there is room
-pub own-passed : (a : Argument) (used room : ℕ) → anyHolds (argumentChecks a) ≡ false → used ≤ room → firstFailing (argumentChecks a ++ ((ltb room used, 10) ∷ [])) ≡ accepted
-own-passed a used room p h = first-of-right (argumentChecks a) ((ltb room used, 10) ∷ []) (no-check (argumentChecks a) p) ∙ rw (le-ltb room used h)
+-- where none fails, what follows decides
+pub own-only : (a : Argument) (rest : List (Bool × ℕ)) → anyHolds (argumentChecks a) ≡ false → firstFailing (argumentChecks a ++ rest) ≡ firstFailing rest
+own-only a rest p = first-of-right (argumentChecks a) rest (no-check (argumentChecks a) p)
+
+-- ---- the answer of a check by place
+
+-- the first four parameters of each law below: what line 3 says, and the lines behind it
+module _ (c : Call) (s : State) (b : List ℕ) (m : Bool) (rest : List (Bool × ℕ)) (q : checks c (config s b) ≡ placeLines s (length b) m ++ rest) (p : Answer) (e : verdictOf p ≡ placeVerdict s (length b) m) where
+  pub refused-place : (why : Refusal) → p ≡ Refused why → outcome (verdictOf p) s b ≡ run c s b
+  refused-place why h =
+      let v : verdictOf p ≡ refused (number why) = ap verdictOf h in
+      ap (λ (x : Verdict). outcome x s b) v ∙ sym (run-misplaced c s b m rest (number why) q (sym e ∙ v))
+
+  pub passed-place : p ≡ Accepted → firstFailing (checks c (config s b)) ≡ firstFailing rest
+  passed-place h = past-place c s b m rest q (sym e ∙ ap verdictOf h)
+
+-- ---- a call that puts bytes at the end of the used ones
+
+-- all of them fit, or none was put
+placed-some : (b : List ℕ) (at : ℕ) (out : List ℕ) (n : ℕ) (l : List ℕ) → _≡_ {A = ℕ × List ℕ} (n, l) (placed b at out) → (n ≡ 0 → ⊥) → (at + length out ≤ length b) × (n ≡ length out) × (l ≡ laid b at out)
+placed-some b at out n l e h =
+    ⊎-elim
+    (λ w. let q : _≡_ {A = ℕ × List ℕ} (n, l) (length out, laid b at out) = e ∙ w .1 in (w .0, ap (λ (x : ℕ × List ℕ). x .0) q, ap (λ (x : ℕ × List ℕ). x .1) q))
+    (λ w. let q : _≡_ {A = ℕ × List ℕ} (n, l) (0, b) = e ∙ w .1 in absurd (h (ap (λ (x : ℕ × List ℕ). x .0) q)))
+    (placed-or b at out)
+
+pub placed-none : (b : List ℕ) (at : ℕ) (out : List ℕ) (n : ℕ) (l : List ℕ) → _≡_ {A = ℕ × List ℕ} (n, l) (placed b at out) → n ≡ 0 → 0 < length out → (length b < at + length out) × (l ≡ b)
+placed-none b at out n l e z pos =
+    ⊎-elim
+    (λ w. let q : n ≡ length out = ap (λ (x : ℕ × List ℕ). x .0) (e ∙ w .1) in absurd (never q))
+    (λ w. (w .0, ap (λ (x : ℕ × List ℕ). x .1) (e ∙ w .1)))
+    (placed-or b at out)
+  where
+    never : n ≡ length out → ⊥
+    never q = omega arith
+
+-- no sum of a used length and what was put wraps
+pub put-fits : (b : List ℕ) (at : ℕ) (out : List ℕ) (n : ℕ) (l : List ℕ) → _≡_ {A = ℕ × List ℕ} (n, l) (placed b at out) → (n ≡ 0 → ⊥) → at + n ≤ length b
+put-fits b at out n l e h = let w = placed-some b at out n l e h in omega (arith, w .0, w .1)
+
+module _ (c : Call) (s : State) (b out : List ℕ) (n : ℕ) (l : List ℕ) (e : _≡_ {A = ℕ × List ℕ} (n, l) (placed b (s .used) out)) (past : firstFailing (checks c (config s b)) ≡ firstFailing ((ltb (length b) (s .used + length out), 10) ∷ [])) where
+  pub end-refused : n ≡ 0 → 0 < length out → outcome (refused 10) s l ≡ run c s b
+  end-refused z pos =
+      let w = placed-none b (s .used) out n l e z pos in
+      ap (λ (x : List ℕ). outcome (refused 10) s x) (w .1) ∙ sym (run-refused c s b 10 (past ∙ rw (lt-ltb (length b) (s .used + length out) (w .0))))
+
+  pub end-accepted : (d : ℕ) (waits : Bool) (cs : List Container) → effect c (config s b) ≡ put (config s b) (s .used) out d waits cs → (n ≡ 0 → ⊥)
+      → outcome accepted (record { used = s .used + n; depth = d; waiting = waits; containers = cs }) l ≡ run c s b
+  end-accepted d waits cs f h =
+      let w = placed-some b (s .used) out n l e h in
+      rw (w .1, w .2, ← (splice-end (s .used) out b))
+      (sym (run-accepted c s b (past ∙ rw (le-ltb (length b) (s .used + length out) (w .0))) ∙ ap (λ (y : Config). outcome accepted (y .state) (y .buffer)) f))
+
+-- ---- what `ended` answers
+
+pub ended-none : (s : State) (n : ℕ) (waits : Bool) (why : Refusal) → n ≡ 0 → record { answer = Refused why; state = s } ≡ endedBy s n waits why
+unfolding endedBy
+ended-none s n waits why z = rw (eq-eqb n 0 z, endedBy)
+
+pub ended-some : (s : State) (n : ℕ) (waits : Bool) (why : Refusal) → (n ≡ 0 → ⊥)
+    → record { answer = Accepted; state = record { used = s .used + n; depth = s .depth; waiting = waits; containers = s .containers } } ≡ endedBy s n waits why
+unfolding endedBy
+ended-some s n waits why z = rw (ne-eqb n 0 z, endedBy)
+
+-- bytes that are never none, with no check of their own but 10
+pub end-run : (c : Call) (s : State) (b out : List ℕ) (n : ℕ) (l : List ℕ) (waits : Bool) → _≡_ {A = ℕ × List ℕ} (n, l) (placed b (s .used) out) → firstFailing (checks c (config s b)) ≡ firstFailing ((ltb (length b) (s .used + length out), 10) ∷ [])
+    → 0 < length out → effect c (config s b) ≡ put (config s b) (s .used) out (s .depth) waits (s .containers) → outcomeOf (endedBy s n waits NoRoom) l ≡ run c s b
+end-run c s b out n l waits e past pos f =
+    by-cases (eqb n 0)
+    (λ p. rw (← (ended-none s n waits NoRoom (eqb-true n 0 p))) (end-refused c s b out n l e past (eqb-true n 0 p) pos))
+    (λ p. rw (← (ended-some s n waits NoRoom (eqb-false n 0 p))) (end-accepted c s b out n l e past (s .depth) waits (s .containers) f (eqb-false n 0 p)))

@@ -1,0 +1,44 @@
+-- `writer::empty` meets its contract: refused by place, or the used length alone alters.
+-- Assumes nothing.
+use Prim.Native.Nat.{_+_}
+use native.Mathlib.Omega.{arith}
+use mathlib.Core.Path.{_≡_, refl, sym, _∙_, ap}
+use mathlib.Core.Bool.{Bool, true, false, not, _||_}
+use mathlib.Core.List.{List, [], _∷_}
+use lib.Dec.{ltb}
+use lib.ListN.{length}
+use Rattle.encoding.specs.Fields.{varUIntBytes}
+use Rattle.encoding.specs.Headers.{markerBytes}
+use Rattle.fields.proofs.Sizes.{varUInt-least}
+use Rattle.machine.specs.Call.{name, versionMarker, emptying}
+use Rattle.machine.specs.Machine.{openContainers, isOpen, inStruct}
+use Rattle.machine.specs.Numbers.{outcomeOf}
+use Rattle.machine.specs.declared.Written.{Written}
+use Rattle.writer.proofs.Run.{refused-place, passed-place, put-fits, end-run, ended-none, ended-some, run-accepted, config}
+use borrow.Author.Tests.{le-ltb}
+use borrow.Author.Needs.{needs}
+use Rattle.writer.proofs.empty.Statement.{statement}
+use Rattle.writer.proofs.empty.Tie as tie
+
+top-place-requires : tie.Need-top-place-requires
+top-place-requires c κs = search needs
+
+enum-told : tie.Need-enum-told
+enum-told c = search needs
+
+enum-told-2 : tie.Need-enum-told-2
+enum-told-2 c = search needs
+
+returns : tie.Need-returns
+returns c =
+    let a = c .before .before .before .before .args in
+    refused-place emptying (a .s) (a .buf .now) (isOpen (openContainers (a .s))) ((ltb (length (a .buf .now)) 0, 10) ∷ []) refl (c .before .before .top-place .result) (c .before .before .top-place .ensures) _ (c .enum-told2 .given .1)
+
+returns-2 : tie.Need-returns-2
+returns-2 c =
+    let a = c .before .before .before .before .args in
+    let past = passed-place emptying (a .s) (a .buf .now) (isOpen (openContainers (a .s))) ((ltb (length (a .buf .now)) 0, 10) ∷ []) refl (c .before .before .top-place .result) (c .before .before .top-place .ensures) (c .enum-told .given .1) in
+    sym (run-accepted emptying (a .s) (a .buf .now) (past ∙ rw (le-ltb (length (a .buf .now)) 0 (omega arith))))
+
+pub empty-spec : {M : Type 1} → statement M
+empty-spec = tie.close (tie.spec top-place-requires enum-told enum-told-2 returns returns-2)

@@ -1,0 +1,64 @@
+-- `writer::field_name` meets its contract: refused by place, refused for room, or put at the end of the used bytes.
+-- Assumes nothing.
+use Prim.Native.Nat.{_+_}
+use native.Mathlib.Omega.{arith}
+use mathlib.Core.Path.{_≡_, refl, sym, _∙_, ap}
+use mathlib.Core.Bool.{Bool, true, false, not, _||_}
+use mathlib.Core.List.{List, [], _∷_}
+use lib.Dec.{ltb}
+use lib.ListN.{length}
+use Rattle.encoding.specs.Fields.{varUIntBytes}
+use Rattle.encoding.specs.Headers.{markerBytes}
+use Rattle.fields.proofs.Sizes.{varUInt-least}
+use Rattle.machine.specs.Call.{name, versionMarker, emptying}
+use Rattle.machine.specs.Machine.{openContainers, isOpen, inStruct}
+use Rattle.machine.specs.Numbers.{outcomeOf}
+use Rattle.machine.specs.declared.Written.{Written}
+use Rattle.writer.proofs.Run.{refused-place, passed-place, put-fits, end-run, ended-none, ended-some, run-accepted, config}
+use borrow.Author.Needs.{needs}
+use Rattle.writer.proofs.field_name.Statement.{statement}
+use Rattle.writer.proofs.field_name.Tie as tie
+
+name-place-requires : tie.Need-name-place-requires
+name-place-requires c κs = search needs
+
+enum-told : tie.Need-enum-told
+enum-told c = search needs
+
+enum-told-2 : tie.Need-enum-told-2
+enum-told-2 c = search needs
+
+returns : tie.Need-returns
+returns c =
+    let a = c .before .before .before .before .args in
+    refused-place (name (a .sid)) (a .s) (a .buf .now) (not (inStruct (openContainers (a .s))) || a .s .waiting) ((ltb (length (a .buf .now)) (a .s .used + length (varUIntBytes (a .sid))), 10) ∷ []) refl (c .before .before .name-place .result) (c .before .before .name-place .ensures) _ (c .enum-told2 .given .1)
+
+write-requires : tie.Need-write-requires
+write-requires c κs = search needs
+
+ended-requires : tie.Need-ended-requires
+ended-requires c κs = λ h. let a = c .before .before .before .before .before .before .before .before .args in omega (arith, put-fits (a .buf .now) (a .s .used) (varUIntBytes (a .sid)) (c .before .before .write .result) (c .before .before .write .last .0) (c .before .before .write .ensures) h)
+
+same-length : tie.Need-same-length
+same-length c = search needs
+
+returns-2 : tie.Need-returns-2
+returns-2 c =
+    let a = c .before .before .before .before .before .before .before .before .before .args in
+    let p = c .before .before .before .before .before .before .before in
+    let past = passed-place (name (a .sid)) (a .s) (a .buf .now) (not (inStruct (openContainers (a .s))) || a .s .waiting) ((ltb (length (a .buf .now)) (a .s .used + length (varUIntBytes (a .sid))), 10) ∷ []) refl (p .name-place .result) (p .name-place .ensures) (c .before .before .before .before .before .enum-told .given .1) in
+    ap (λ (r : Written). outcomeOf r (c .before .before .before .write .last .0)) (c .ended .ensures)
+    ∙ end-run (name (a .sid)) (a .s) (a .buf .now) (varUIntBytes (a .sid)) (c .before .before .before .write .result) (c .before .before .before .write .last .0) true (c .before .before .before .write .ensures) past (varUInt-least (a .sid)) refl
+
+pub field-name-spec : {M : Type 1} → statement M
+field-name-spec =
+    tie.close
+    (tie.spec
+    name-place-requires
+    enum-told
+    enum-told-2
+    returns
+    write-requires
+    ended-requires
+    same-length
+    returns-2)
