@@ -1,0 +1,61 @@
+-- `goatminute::ended` meets its contract: the two cases of the definition.
+-- Assumes nothing.
+use Prim.Native.Nat.{_+_}
+use native.Mathlib.Omega.{arith}
+use mathlib.Core.Path.{_≡_, refl, sym, _∙_, ap}
+use mathlib.Core.Bool.{Bool, true, false, not, _||_}
+use mathlib.Core.List.{List, [], _∷_}
+use lib.Dec.{ltb}
+use lib.ListN.{length}
+use Rattle.encoding.specs.Fields.{varUIntBytes}
+use Rattle.encoding.specs.Headers.{markerBytes}
+use Rattle.fields.proofs.Sizes.{varUInt-least}
+use Rattle.machine.specs.Call.{name, versionMarker, emptying}
+use Rattle.machine.specs.Machine.{openContainers, isOpen, inStruct}
+use Rattle.state_bytes.specs.StateBytes.{stateOf, entered}
+use Rattle.writer.proofs.Run.{config, past-place, put-fits, end-run}
+use Rattle.goatminute.specs.Entries.{enteredAs, endedNumber, endedState}
+use Rattle.goatminute.proofs.Entered.{refused-entry, accepted-entry, passed-entry, ended-nothing, ended-bytes, entered-ended}
+use borrow.Author.Needs.{needs}
+use Rattle.goatminute.proofs.ended.Statement.{statement}
+use Rattle.goatminute.proofs.ended.Tie as tie
+
+number-of-requires : tie.Need-number-of-requires
+number-of-requires c κs = search needs
+
+returns : tie.Need-returns
+returns c = let a = c .before .before .before .args in let e = ended-nothing (a .state .now) (a .put) (a .waiting) (a .why) (c .before .if1 .taken) in (c .number-of .ensures ∙ e .0, e .1)
+
+used-requires : tie.Need-used-requires
+used-requires c κs = search needs
+
+depth-requires : tie.Need-depth-requires
+depth-requires c κs = search needs
+
+add-store : tie.Need-add-store
+add-store c = omega (arith, c .before .before .before .before .before .before .before .pre (c .before .before .before .before .before .if1 .left), c .before .before .before .used .ensures)
+
+store-requires : tie.Need-store-requires
+store-requires c κs = search needs
+
+same-length : tie.Need-same-length
+same-length c = search needs
+
+returns-2 : tie.Need-returns-2
+returns-2 c =
+    let a = c .before .before .before .before .before .before .before .before .before .before .args in
+    let e = ended-bytes (a .state .now) (a .put) (a .waiting) (a .why) (c .before .before .before .before .before .before .before .before .if1 .left) in
+    (e .0, c .before .before .store .ensures ∙ rw (c .before .before .before .before .before .before .used .ensures, c .before .before .before .before .depth .ensures) (e .1))
+
+pub ended-spec : {M : Type 1} → statement M
+ended-spec =
+    tie.close
+    (tie.spec
+    number-of-requires
+    returns
+    used-requires
+    depth-requires
+    add-store
+    store-requires
+    same-length
+    returns-2)
