@@ -1,9 +1,9 @@
 -- The signs of VarInt and Int: the bit that a bool gives, and the bytes of an Int by its first byte.
 -- By cases on the sign. Assumes nothing.
 use mathlib.Core.Path.{_≡_, refl, sym, _∙_, ap, subst}
-use mathlib.Core.List.{List, [], _∷_, _++_}
+use mathlib.Core.List.{List, [], _∷_}
 use mathlib.Core.Bool.{Bool, true, false, not}
-use Prim.Native.Nat.{ℕ, zero, suc, _+_, _-_, _*_, _/_, _≤_, _<_}
+use Prim.Native.Nat.{ℕ, _+_, _*_, _/_, _≤_, _<_}
 use native.Mathlib.Omega.{arith}
 use lib.IntN.{ℤ, pos, negsuc, natAbs}
 use lib.Signed.{ltZ, nonNeg}
@@ -12,7 +12,8 @@ use lib.Dec.{T, ltb}
 use lib.ListN.{length}
 use borrow.Author.Tests.{lt-ltb, le-ltb, ltb-true, ltb-false}
 use Rattle.ion.specs.Value.{signed}
-use Rattle.encoding.specs.Fields.{signBit, signedOf, topBit, intBytes}
+use Rattle.encoding.specs.Fields.{signBit, signedOf, trimmed, topBit, intBytes}
+use Rattle.fields.proofs.Trimmed.{length-trimmed}
 
 pub signBit-is : (s : Bool) → 0x40 * boolByte s ≡ signBit s
 signBit-is true = refl
@@ -83,3 +84,7 @@ int-most s (b ∷ bs) = go (ltb b 0x80) refl
     go : (t : Bool) → ltb b 0x80 ≡ t → length (intBytes s (b ∷ bs)) ≤ length (b ∷ bs) + 1
     go true e = rw (int-clear b bs s (ltb-true b 0x80 e)) (omega arith)
     go false e = rw (int-taken b bs s (ltb-false b 0x80 e)) (omega arith)
+
+-- of a lent magnitude: no sum with a few bytes more can wrap, since a slice is shorter than 2 ^ 63
+pub int-trimmed-most : (s : Bool) (m : List ℕ) → length (intBytes s (trimmed m)) ≤ length m + 1
+int-trimmed-most s m = omega (arith, int-most s (trimmed m), length-trimmed m)

@@ -1,7 +1,7 @@
 // Int: a UInt with the sign in the top bit of the first byte; where the magnitude takes that bit, a byte with the sign alone goes before it.
 ghost use mathlib.Core.Path.{_≡_};
 ghost use mathlib.Core.Bool.{false};
-ghost use mathlib.Core.List.{List, [], _∷_};
+ghost use mathlib.Core.List.{List, _∷_};
 ghost use Prim.Native.Nat.{ℕ};
 ghost use lib.ListN.{length};
 ghost use Rattle.encoding.specs.Fields.{uintBytes, trimmed, intBytes};

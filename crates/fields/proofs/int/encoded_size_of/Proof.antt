@@ -1,11 +1,10 @@
 -- `fields::int::encoded_size_of` meets its contract: the bytes behind the leading zeros, and one more where the first of them has its top bit set.
 -- By the first byte of the trimmed magnitude. Assumes nothing.
-use mathlib.Core.Path.{_≡_, sym, _∙_, ap}
-use mathlib.Core.List.{_∷_}
-use Prim.Native.Nat.{ℕ, suc, _<_}
+use mathlib.Core.Path.{sym, ap}
+use Prim.Native.Nat.{suc, _<_}
 use native.Mathlib.Omega.{arith}
 use lib.ListN.{length, drop, getD}
-use Rattle.encoding.specs.Fields.{trimmed, intBytes}
+use Rattle.encoding.specs.Fields.{trimmed}
 use Rattle.fields.proofs.Trimmed.{trimmed-cons}
 use Rattle.fields.proofs.Signs.{int-size-none, int-size-some}
 use borrow.Author.Needs.{needs}

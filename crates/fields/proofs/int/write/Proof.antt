@@ -1,6 +1,6 @@
 -- `fields::int::write` meets its contract: by the trimmed magnitude, which has no byte, or a first byte whose top bit is free or taken.
 -- By the laws of an Int's bytes. Assumes nothing.
-use mathlib.Core.Path.{_≡_, refl, sym, _∙_, ap}
+use mathlib.Core.Path.{_≡_, sym, _∙_, ap}
 use mathlib.Core.List.{List, _∷_}
 use Prim.Native.Nat.{ℕ, suc, _+_, _-_, _*_, _≤_, _<_}
 use native.Mathlib.Omega.{arith}
@@ -8,7 +8,7 @@ use native.Mathlib.Numerals.{add-one}
 use mathlib.Core.Bool.{Bool}
 use mir.Val.{boolByte}
 use lib.ListN.{length, take, drop, getD}
-use Rattle.encoding.specs.Fields.{trimmed, topBit, intBytes}
+use Rattle.encoding.specs.Fields.{trimmed, intBytes}
 use Rattle.buffer.specs.Laid.{placed}
 use Rattle.buffer.proofs.Laid.{placed-nil}
 use Rattle.fields.proofs.Trimmed.{trimmed-cons, trimmed-part, rest-part}
