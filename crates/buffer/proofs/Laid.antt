@@ -1,9 +1,9 @@
 -- The laws of laid and placed bytes, by which a function that puts bytes in several steps is proved: each step is a run, and runs side by side are one run.
 -- By splitting the buffer before and behind the run. Assumes nothing.
 use mathlib.Core.Path.{_≡_, refl, sym, _∙_, ap}
-use mathlib.Core.List.{List, [], _∷_, _++_, append-assoc, append-nil}
+use mathlib.Core.List.{List, [], _∷_, _++_, append-assoc}
 use mathlib.Core.Bool.{Bool, true, false, not}
-use Prim.Native.Nat.{ℕ, zero, suc, _+_, _-_, _≤_, _<_}
+use Prim.Native.Nat.{ℕ, _+_, _≤_, _<_}
 use native.Mathlib.Omega.{arith}
 use native.Mathlib.Numerals.{add-one}
 use native.Mathlib.Nat.{add-assoc, add-zero}
@@ -11,7 +11,7 @@ use mathlib.Core.Logic.{_⊎_, inl, inr, ⊎-elim}
 use lib.Dec.{leb}
 use borrow.Author.Tests.{le-leb, lt-leb, leb-true, leb-false, not-true, not-false}
 use lib.ListN.{length, take, drop, set, length-append, length-drop, take-append-drop}
-use lib.Seq.{take-at, drop-at, drop-drop, length-take-le, set-split, take-take, take-append-le, drop-append-le, take-append-add}
+use lib.Seq.{take-at, drop-at, drop-drop, length-take-le, set-split, take-take, take-append-le}
 use Rattle.buffer.specs.Laid.{laid, placed}
 
 pub laid-nil : (b : List ℕ) (at : ℕ) → laid b at [] ≡ b

@@ -1,6 +1,6 @@
 -- Digits of a number in any base: how many there are, which is the first, and how the count of leading zero bits finds how many.
 -- By the powers of the base between which the number lies. Assumes nothing.
-use mathlib.Core.Path.{_≡_, refl, sym, _∙_, ap, subst}
+use mathlib.Core.Path.{_≡_, refl, sym, _∙_, ap}
 use mathlib.Core.List.{List, [], _∷_, _++_, append-assoc}
 use Prim.Native.Nat.{ℕ, zero, suc, _+_, _-_, _*_, _/_, _%_, _^_, _≤_, _<_}
 use native.Mathlib.Omega.{arith}
@@ -10,7 +10,7 @@ use borrow.Author.Tests.{eq-eqb, ne-eqb}
 use lib.Pow.{pow-add, pow-mono, pow-pos, shr-lt}
 use lib.Count.{leadingZeros, leading-length}
 use lib.ListN.{length, length-append}
-use Rattle.encoding.specs.Digits.{lowDigits, countDigits, digitCount, digits}
+use Rattle.encoding.specs.Digits.{lowDigits, countDigits, digitCount}
 
 -- ---- the lowest digits
 

@@ -1,9 +1,9 @@
 -- Headers by the length of the body, and how many bytes they take.
 -- By the two sides of the length 14. Assumes nothing.
 use mathlib.Core.Path.{_≡_, refl, sym, _∙_, ap}
-use mathlib.Core.List.{List, [], _∷_}
+use mathlib.Core.List.{[], _∷_}
 use mathlib.Core.Bool.{Bool, true, false}
-use Prim.Native.Nat.{ℕ, suc, _+_, _*_, _/_, _^_, _≤_, _<_}
+use Prim.Native.Nat.{ℕ, _+_, _*_, _/_, _^_, _≤_, _<_}
 use native.Mathlib.Omega.{arith}
 use lib.Dec.{ltb}
 use borrow.Author.Tests.{lt-ltb, le-ltb, ltb-true, ltb-false}

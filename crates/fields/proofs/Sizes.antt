@@ -9,7 +9,6 @@ use native.Mathlib.Nat.{div-one, div-lt-iff-lt-mul, one-le-pow, mul-comm, pow-su
 use mathlib.Core.Logic.{⊎-elim}
 use lib.Dec.{ltb}
 use borrow.Author.Tests.{ltb-true, ltb-false}
-use lib.Count.{leadingZeros}
 use lib.ListN.{length, length-append}
 use Rattle.ion.specs.Value.{signed}
 use Rattle.encoding.specs.Digits.{lowDigits, digitCount, digits}

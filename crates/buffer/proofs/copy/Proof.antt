@@ -1,8 +1,7 @@
 -- `buffer::copy` meets its contract. The loop's invariant: the first `i` bytes of `src` are laid at `at`.
 -- Each turn lays one byte more behind them. Assumes nothing.
 use mathlib.Core.Path.{_≡_, refl, sym, _∙_, ap}
-use mathlib.Core.List.{List}
-use Prim.Native.Nat.{ℕ, _+_, _-_, _≤_}
+use Prim.Native.Nat.{_+_, _-_, _≤_}
 use native.Mathlib.Omega.{arith}
 use native.Mathlib.Numerals.{add-one}
 use lib.ListN.{length, take, getD, length-set}

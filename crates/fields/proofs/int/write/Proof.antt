@@ -1,14 +1,14 @@
 -- `fields::int::write` meets its contract: by the trimmed magnitude, which has no byte, or a first byte whose top bit is free or taken.
 -- By the laws of an Int's bytes. Assumes nothing.
-use mathlib.Core.Path.{_≡_, refl, sym, _∙_, ap}
-use mathlib.Core.List.{List, _∷_}
+use mathlib.Core.Path.{_≡_, sym, _∙_, ap}
+use mathlib.Core.List.{List, [], _∷_}
 use Prim.Native.Nat.{ℕ, suc, _+_, _-_, _*_, _≤_, _<_}
 use native.Mathlib.Omega.{arith}
 use native.Mathlib.Numerals.{add-one}
 use mathlib.Core.Bool.{Bool}
 use mir.Val.{boolByte}
 use lib.ListN.{length, take, drop, getD}
-use Rattle.encoding.specs.Fields.{trimmed, topBit, intBytes}
+use Rattle.encoding.specs.Fields.{trimmed, intBytes}
 use Rattle.buffer.specs.Laid.{placed}
 use Rattle.buffer.proofs.Laid.{placed-nil}
 use Rattle.fields.proofs.Trimmed.{trimmed-cons, trimmed-part, rest-part}
@@ -49,7 +49,7 @@ returns c =
     let t = c .before .before .before .before in
     let a = t .before .before .before .before .before .args in
     c .before .before .put .ensures
-    ∙ ap (placed (a .buf .now) (a .at)) (rw (topBit-is (a .negative)) (sym (int-negative-zero (a .negative) (trimmed (a .magnitude .now)) (t .if2 .taken) (omega arith))))
+    ∙ ap (placed (a .buf .now) (a .at)) (ap (λ (b : ℕ). b ∷ []) (topBit-is (a .negative)) ∙ sym (int-negative-zero (a .negative) (trimmed (a .magnitude .now)) (t .if2 .taken) (omega arith)))
 
 returns-2 : tie.Need-returns-2
 returns-2 c =

@@ -1,10 +1,8 @@
 -- `fields::int::write_first` meets its contract: a byte, and a run behind it.
 -- By the law of two placed runs. Assumes nothing.
-use mathlib.Core.Path.{_≡_, refl, sym, _∙_, ap}
+use mathlib.Core.Path.{sym}
 use mathlib.Core.List.{[], _∷_}
-use Prim.Native.Nat.{ℕ, _+_, _≤_}
 use native.Mathlib.Omega.{arith}
-use lib.ListN.{length}
 use Rattle.buffer.proofs.Laid.{placed-full, placed-most, placed-then, no-room, room}
 use borrow.Author.Needs.{needs}
 use Rattle.fields.proofs.int.write_first.Statement.{statement}

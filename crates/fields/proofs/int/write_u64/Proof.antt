@@ -1,6 +1,6 @@
 -- `fields::int::write_u64` meets its contract: an Int without sign is as many fixed bytes as it takes.
 -- Assumes nothing.
-use mathlib.Core.Path.{_≡_, sym, _∙_, ap}
+use mathlib.Core.Path.{sym, _∙_, ap}
 use Rattle.buffer.specs.Laid.{placed}
 use Rattle.fields.proofs.Sizes.{int-fixed-by}
 use borrow.Author.Needs.{needs}

@@ -1,8 +1,8 @@
 -- `fields::sign::magnitude` meets its contract: below zero, -(v + 1) fits an i64, and is one less than the magnitude.
 -- By the constructors of the number; each operation reads its operand back from its bits, which is the operand. Assumes nothing.
-use mathlib.Core.Path.{_≡_, refl, sym, _∙_, ap, subst}
+use mathlib.Core.Path.{_≡_, refl, subst}
 use mathlib.Core.Bool.{true, false}
-use Prim.Native.Nat.{ℕ, zero, suc, _+_, _^_, _<_}
+use Prim.Native.Nat.{zero, suc, _+_, _^_, _<_}
 use native.Mathlib.Omega.{arith}
 use borrow.Author.Tests.{ltb-true}
 use lib.Dec.{T}

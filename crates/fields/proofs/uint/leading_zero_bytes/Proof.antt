@@ -1,7 +1,7 @@
 -- `fields::uint::leading_zero_bytes` meets its contract. The loop's invariant: what is trimmed of the bytes from `i` on is what is trimmed of all.
 -- At a byte that is not zero nothing more is trimmed. Assumes nothing.
-use mathlib.Core.Path.{_≡_, refl, sym, _∙_, ap}
-use Prim.Native.Nat.{ℕ, _+_, _-_, _≤_}
+use mathlib.Core.Path.{_≡_, refl, _∙_}
+use Prim.Native.Nat.{_-_, _≤_}
 use native.Mathlib.Omega.{arith}
 use native.Mathlib.Numerals.{add-one}
 use lib.ListN.{length, drop, length-drop, drop-of-length-le}

@@ -1,9 +1,6 @@
 -- `fields::uint::write` meets its contract: a UInt is as many fixed bytes as it has digits.
 -- Assumes nothing.
-use mathlib.Core.Path.{_≡_, sym, _∙_, ap}
-use Prim.Native.Nat.{ℕ}
-use Rattle.encoding.specs.Digits.{digits}
-use Rattle.encoding.specs.Fields.{uintBytes, fixedBytes}
+use mathlib.Core.Path.{sym, _∙_, ap}
 use Rattle.buffer.specs.Laid.{placed}
 use Rattle.fields.proofs.Sizes.{uint-fixed}
 use borrow.Author.Needs.{needs}

@@ -1,6 +1,6 @@
 -- `fields::uint::write_fixed` meets its contract: the bytes are digits of base 256.
 -- Assumes nothing.
-use mathlib.Core.Path.{_≡_, sym, _∙_}
+use mathlib.Core.Path.{sym}
 use native.Mathlib.Omega.{arith}
 use Rattle.encoding.specs.Fields.{fixedBytes}
 use Rattle.buffer.proofs.Laid.{placed-full, placed-by, no-room, room}

@@ -1,11 +1,8 @@
 -- `fields::uint::write_magnitude` meets its contract: the bytes behind the leading zeros are the trimmed magnitude, and zero has none.
 -- Assumes nothing.
-use mathlib.Core.Path.{_≡_, refl, sym, _∙_, ap}
-use mathlib.Core.List.{List}
-use Prim.Native.Nat.{ℕ, _+_, _<_}
+use mathlib.Core.Path.{sym, _∙_, ap}
 use native.Mathlib.Omega.{arith}
-use lib.ListN.{length}
-use Rattle.encoding.specs.Fields.{trimmed, orZero}
+use Rattle.encoding.specs.Fields.{trimmed}
 use Rattle.buffer.specs.Laid.{placed}
 use Rattle.fields.proofs.Trimmed.{trimmed-part, orZero-none, orZero-some}
 use borrow.Author.Needs.{needs}

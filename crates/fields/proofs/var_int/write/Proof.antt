@@ -1,9 +1,9 @@
 -- `fields::var_int::write` meets its contract: the first byte, the digits between and the flagged last byte are three runs side by side.
 -- The size is one more than the digits of `magnitude / 64`, so that six bits are left for the first byte. Assumes nothing.
-use mathlib.Core.Path.{_≡_, refl, sym, _∙_, ap}
-use mathlib.Core.List.{List, [], _∷_, _++_}
+use mathlib.Core.Path.{_≡_, sym, _∙_, ap}
+use mathlib.Core.List.{List, [], _∷_}
 use mathlib.Core.Bool.{Bool, false}
-use Prim.Native.Nat.{ℕ, zero, suc, _+_, _-_, _*_, _/_, _%_, _^_, _≤_, _<_}
+use Prim.Native.Nat.{ℕ, suc, _+_, _-_, _*_, _/_, _%_, _^_, _≤_, _<_}
 use native.Mathlib.Omega.{arith}
 use native.Mathlib.Nat.{div-one}
 use mir.Val.{boolByte}
@@ -12,7 +12,7 @@ use Rattle.ion.specs.Value.{signed}
 use Rattle.encoding.specs.Digits.{lowDigits, digitCount}
 use Rattle.encoding.specs.Fields.{signBit, varIntGroups, varIntBytes}
 use Rattle.buffer.specs.Laid.{laid}
-use Rattle.buffer.proofs.Laid.{laid-one, laid-more, laid-snoc, length-laid, placed-full, placed-by, no-room, room}
+use Rattle.buffer.proofs.Laid.{laid-one, laid-more, laid-snoc, placed-full, placed-by, no-room, room}
 use Rattle.fields.proofs.Digits.{length-lowDigits, power-power}
 use Rattle.fields.proofs.Sizes.{length-varInt, varInt-most, varInt-first}
 use Rattle.fields.proofs.Signs.{boolByte-most, signBit-is}

@@ -1,6 +1,6 @@
 -- `fields::var_uint::write` meets its contract: the digits but for the last are one run, and the last with its flag is a store behind it.
 -- The size is one more than the digits of `value / 128`. Assumes nothing.
-use mathlib.Core.Path.{_≡_, refl, sym, _∙_, ap}
+use mathlib.Core.Path.{_≡_, sym, _∙_, ap}
 use mathlib.Core.List.{List, [], _∷_, _++_}
 use Prim.Native.Nat.{ℕ, suc, _+_, _-_, _/_, _%_, _≤_, _<_}
 use native.Mathlib.Omega.{arith}
