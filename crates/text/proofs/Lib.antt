@@ -1,2 +1,3 @@
 pub mod Begun
-pub mod Utf8
+pub mod Bytes
+pub mod Ascii

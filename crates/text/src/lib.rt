@@ -1,87 +1,82 @@
 // UTF-8 by RFC 3629, section 4: what `write_string` asks of its bytes.
 ghost use mathlib.Core.Path.{_≡_};
-ghost use mathlib.Core.List.{[]};
+ghost use Prim.Native.Nat.{ℕ};
+ghost use mathlib.Core.List.{List, _∷_};
 ghost use Rattle.ion.specs.Text.{characters, begun, utf8, utf8From};
-ghost use Rattle.text.specs.Steps.{ascii, after, due, left};
+ghost use Rattle.text.specs.Due.{due, asked, ascii};
 
 const TAIL_LOW: u8 = 0x80;
+
 const TAIL_HIGH: u8 = 0xBF;
 
-// The bytes that a character still asks for: how many, and the least and the greatest that the next may be.
-struct Due {
-    count: u8,
-    low: u8,
-    high: u8,
-}
+// How many bytes a character still asks for, and the least and the greatest that the next may be.
+struct Due(u8, u8, u8);
 
-enum Step {
-    Leaves(Due),
-    Refused,
-}
+// A byte is due, and no byte is right.
+const NEVER: Due = Due(1, 0xFF, 0x00);
 
-// C0, C1 and F5 to FF begin nothing. E0 and F0 would let in overlong forms, ED surrogates, F4 numbers past 10FFFF.
-fn first_byte(b: u8) -> Step
-    ensures { λ r. ⌜ left r ≡ begun characters b ⌝ }
+// C0, C1 and F5 to FF begin nothing. After E0 and F0 comes no overlong form, after ED no surrogate, after F4 nothing past 10FFFF.
+fn first_byte(b: u8) -> Due
+    ensures { λ r. ⌜ due r ≡ asked (begun characters b) ⌝ }
 {
     if b < 0x80 {
-        return Step::Leaves(Due { count: 0, low: TAIL_LOW, high: TAIL_HIGH });
+        return Due(0, TAIL_LOW, TAIL_HIGH);
     }
     if b < 0xC2 {
-        return Step::Refused;
+        return NEVER;
     }
     if b < 0xE0 {
-        return Step::Leaves(Due { count: 1, low: TAIL_LOW, high: TAIL_HIGH });
+        return Due(1, TAIL_LOW, TAIL_HIGH);
     }
     if b == 0xE0 {
-        return Step::Leaves(Due { count: 2, low: 0xA0, high: TAIL_HIGH });
+        return Due(2, 0xA0, TAIL_HIGH);
     }
     if b < 0xED {
-        return Step::Leaves(Due { count: 2, low: TAIL_LOW, high: TAIL_HIGH });
+        return Due(2, TAIL_LOW, TAIL_HIGH);
     }
     if b == 0xED {
-        return Step::Leaves(Due { count: 2, low: TAIL_LOW, high: 0x9F });
+        return Due(2, TAIL_LOW, 0x9F);
     }
     if b < 0xF0 {
-        return Step::Leaves(Due { count: 2, low: TAIL_LOW, high: TAIL_HIGH });
+        return Due(2, TAIL_LOW, TAIL_HIGH);
     }
     if b == 0xF0 {
-        return Step::Leaves(Due { count: 3, low: 0x90, high: TAIL_HIGH });
+        return Due(3, 0x90, TAIL_HIGH);
     }
     if b < 0xF4 {
-        return Step::Leaves(Due { count: 3, low: TAIL_LOW, high: TAIL_HIGH });
+        return Due(3, TAIL_LOW, TAIL_HIGH);
     }
     if b == 0xF4 {
-        return Step::Leaves(Due { count: 3, low: TAIL_LOW, high: 0x8F });
+        return Due(3, TAIL_LOW, 0x8F);
     }
-    Step::Refused
+    NEVER
 }
 
-fn next_byte(d: Due, b: u8) -> Step
-    ensures { λ r. ⌜ left r ≡ after (due d) b ⌝ }
+// What is due after b, whatever follows.
+fn next_byte(d: Due, b: u8) -> Due
+    ensures { λ r. ⌜ ((bs : List ℕ) → utf8From (due r) bs ≡ utf8From (due d) (b ∷ bs)) ⌝ }
 {
-    if d.count == 0 {
+    let Due(count, low, high) = d;
+    if count == 0 {
         return first_byte(b);
     }
-    if (d.low <= b) & (b <= d.high) {
-        return Step::Leaves(Due { count: d.count - 1, low: TAIL_LOW, high: TAIL_HIGH });
+    if (low <= b) & (b <= high) {
+        return Due(count - 1, TAIL_LOW, TAIL_HIGH);
     }
-    Step::Refused
+    NEVER
 }
 
-// One pass over the bytes, whatever they are.
-fn is_utf8_by_steps(s: &[u8]) -> bool
+// One pass, with no exit before the end.
+fn is_utf8_by_bytes(s: &[u8]) -> bool
     ensures { λ r. ⌜ r ≡ utf8 (now (s .entry)) ⌝ }
 {
-    let mut d = Due { count: 0, low: TAIL_LOW, high: TAIL_HIGH };
+    let mut d = Due(0, TAIL_LOW, TAIL_HIGH);
     let mut i = 0;
     while i < s.len() {
-        let Step::Leaves(next) = next_byte(d, s[i]) else {
-            return false;
-        };
-        d = next;
+        d = next_byte(d, s[i]);
         i += 1;
     }
-    d.count == 0
+    d.0 == 0
 }
 
 // The OR of all bytes has no bit 80. No exit from the loop, so that it runs on wide registers.
@@ -104,5 +99,5 @@ pub fn is_utf8(s: &[u8]) -> bool
     if is_ascii(s) {
         return true;
     }
-    is_utf8_by_steps(s)
+    is_utf8_by_bytes(s)
 }

@@ -3,17 +3,13 @@
 use Prim.Native.Nat.{_≤_, _-_}
 use mathlib.Core.Path.{_≡_, refl, sym, _∙_}
 use mathlib.Core.Bool.{_&&_}
-use native.Mathlib.Numerals.{add-one}
 use native.Mathlib.Omega.{arith}
 use lib.Dec.{ltb}
 use lib.ListN.{length, drop}
-use lib.Seq.{drop-cons}
-use Rattle.text.specs.Steps.{ascii}
-use Rattle.text.proofs.Utf8.{ascii-step, ascii-end}
+use Rattle.text.specs.Due.{ascii}
+use Rattle.text.proofs.Ascii.{ascii-next, ascii-end}
 use Rattle.text.proofs.is_ascii.Statement.{statement}
 use Rattle.text.proofs.is_ascii.Tie as tie
-use Rattle.text.proofs.is_ascii.Reads as reads
-use Rattle.text.proofs.is_ascii.Lts as lts
 
 abbrev Inv-loop : tie.InvT-loop
 Inv-loop s all₀ i₀ all i = (i ≤ length s) × (ascii s ≡ (ltb all 0x80 && ascii (drop i s)))
@@ -34,10 +30,14 @@ loop-less : tie.Need-loop-less Inv-loop μ-loop
 loop-less c = omega arith
 
 loop-again : tie.Need-loop-again Inv-loop μ-loop
-loop-again c = let l = c .before .before .loop in (omega arith, l .inv .1 ∙ ascii-step (l .all) (c .before .before .before .args .s .now) (l .i) (omega arith))
+loop-again c =
+    let l = c .before .before .loop in
+    (omega arith, l .inv .1 ∙ ascii-next (l .all) (c .before .before .before .args .s .now) (l .i) (omega arith))
 
 returns : tie.Need-returns Inv-loop μ-loop
-returns c = let l = c .before .loop in sym (l .inv .1 ∙ ascii-end (ltb (l .all) 0x80) (c .before .before .args .s .now) (l .i) (omega arith))
+returns c =
+    let l = c .before .loop in
+    sym (l .inv .1 ∙ ascii-end (ltb (l .all) 0x80) (c .before .before .args .s .now) (l .i) (omega arith))
 
 pub is-ascii-spec : {M : Type 1} → statement M
 is-ascii-spec =
