@@ -30,16 +30,16 @@ pub float64-narrowed : (b n : ℕ) → narrowedBits b ≡ Exact n → float64Byt
 unfolding float64Bytes narrowedBits
 float64-narrowed b n e = by-test (narrows b) e
   where
-  by-test : (t : Bool) → narrowedTo t (toBits binary32 (ofBits binary64 b)) ≡ Exact n →
-      elim t [ true ↦ float32Bytes (toBits binary32 (ofBits binary64 b)) | false ↦ 0x48 ∷ fixedBytes 8 b ] ≡ float32Bytes n
-  by-test true q = let m : toBits binary32 (ofBits binary64 b) ≡ n = cc in ap float32Bytes m
-  by-test false q = let z : _≡_ {A = ℕ} 0 1 = cc in absurd (omega arith)
+    by-test : (t : Bool) → narrowedTo t (toBits binary32 (ofBits binary64 b)) ≡ Exact n →
+        elim t [ true ↦ float32Bytes (toBits binary32 (ofBits binary64 b)) | false ↦ 0x48 ∷ fixedBytes 8 b ] ≡ float32Bytes n
+    by-test true q = let m : toBits binary32 (ofBits binary64 b) ≡ n = cc in ap float32Bytes m
+    by-test false q = let z : _≡_ {A = ℕ} 0 1 = cc in absurd (omega arith)
 
 pub float64-other : (b : ℕ) → narrowedBits b ≡ No → float64Bytes b ≡ 0x48 ∷ fixedBytes 8 b
 unfolding float64Bytes narrowedBits
 float64-other b e = by-test (narrows b) e
   where
-  by-test : (t : Bool) → narrowedTo t (toBits binary32 (ofBits binary64 b)) ≡ No →
-      elim t [ true ↦ float32Bytes (toBits binary32 (ofBits binary64 b)) | false ↦ 0x48 ∷ fixedBytes 8 b ] ≡ 0x48 ∷ fixedBytes 8 b
-  by-test true q = let z : _≡_ {A = ℕ} 0 1 = cc in absurd (omega arith)
-  by-test false q = refl
+    by-test : (t : Bool) → narrowedTo t (toBits binary32 (ofBits binary64 b)) ≡ No →
+        elim t [ true ↦ float32Bytes (toBits binary32 (ofBits binary64 b)) | false ↦ 0x48 ∷ fixedBytes 8 b ] ≡ 0x48 ∷ fixedBytes 8 b
+    by-test true q = let z : _≡_ {A = ℕ} 0 1 = cc in absurd (omega arith)
+    by-test false q = refl

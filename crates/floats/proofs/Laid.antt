@@ -36,7 +36,7 @@ unfolding laid
 laid-snoc b at i x xs e h =
     let l : i < length (set b i x) = rw (length-set b i x) h in
     let d : drop i (set b i x) ≡ x ∷ drop (suc i) b =
-        drop-cons (set b i x) i 0 l ∙ rw (getD-set-same b i x 0 h, drop-set-lt (suc i) b i x (omega arith)) refl in
+    drop-cons (set b i x) i 0 l ∙ rw (getD-set-same b i x 0 h, drop-set-lt (suc i) b i x (omega arith)) refl in
     let n : at + length (xs ++ (x ∷ [])) ≡ suc i = rw (length-append xs (x ∷ [])) (omega arith) in
     rw (n, take-set-le at b i x (omega arith), e, d, append-assoc xs (x ∷ []) (drop (suc i) b)) refl
 

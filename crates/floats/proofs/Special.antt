@@ -69,6 +69,6 @@ zero-bits f v b h is e =
     let l : b < top f = ltb-true _ _ (and-second (eq v (ofBits f 0)) _ e) in
     signed ∙ by-sign (z .0) (subst (λ (x : ℕ). x < top f) (is ∙ signed) l)
   where
-  by-sign : (s : Bool) → cond s (top f) 0 < top f → cond s (top f) 0 ≡ 0
-  by-sign true l = absurd (lt-irrefl (top f) l)
-  by-sign false l = refl
+    by-sign : (s : Bool) → cond s (top f) 0 < top f → cond s (top f) 0 ≡ 0
+    by-sign true l = absurd (lt-irrefl (top f) l)
+    by-sign false l = refl

@@ -12,19 +12,26 @@ ghost use Rattle.floats.specs.Narrowed.{narrowedBits, Dropped};
 
 // The sign bits, and the weight of the exponent's field.
 const SIGN_32: u32 = 0x8000_0000;
+
 const SIGN_64: u64 = 0x8000_0000_0000_0000;
+
 const FIELD_32: u64 = 0x80_0000;
+
 const FIELD_64: u64 = 0x10_0000_0000_0000;
 
 const INFINITY_32: u32 = 0x7F80_0000;
+
 const INFINITY_64: u64 = 0x7FF0_0000_0000_0000;
 
 const QUIET_NAN_32: u32 = 0x7FC0_0000;
+
 const QUIET_NAN_64: u64 = 0x7FF8_0000_0000_0000;
 
 // The exponent's field of binary64 at 2^-149, the least number of binary32; where the last of the 53 digits stands for 2^-149; and at 2^127.
 const LEAST: u64 = 874;
+
 const LAST_IS_LEAST: u64 = 926;
+
 const GREATEST: u64 = 1150;
 
 // What binary64 has more digits than binary32.
@@ -47,17 +54,19 @@ fn dropped_digits(x: u64) -> u64
     MORE_DIGITS
 }
 
-fn narrow_magnitude(bits: u64) -> Narrowed
-    requires { ⌜ bits < 2 ^ 63 ⌝ }
+// An f64 by its bits; a NaN is not narrowed. The digits that are dropped must be zeros, which the trailing zeros tell.
+pub fn narrow(bits: u64) -> Narrowed
     ensures { λ r. ⌜ r ≡ narrowedBits bits ⌝ }
 {
-    if bits == 0 {
-        return Narrowed::Exact(0);
+    let sign = (bits / SIGN_64) as u32 * SIGN_32;
+    let magnitude = bits % SIGN_64;
+    if magnitude == 0 {
+        return Narrowed::Exact(sign);
     }
-    if bits == INFINITY_64 {
-        return Narrowed::Exact(INFINITY_32);
+    if magnitude == INFINITY_64 {
+        return Narrowed::Exact(sign + INFINITY_32);
     }
-    let x = bits / FIELD_64;
+    let x = magnitude / FIELD_64;
     if x < LEAST {
         return Narrowed::No;
     }
@@ -69,18 +78,7 @@ fn narrow_magnitude(bits: u64) -> Narrowed
     if (u64::trailing_zeros(digits) as u64) < dropped {
         return Narrowed::No;
     }
-    Narrowed::Exact(((x + dropped - LAST_IS_LEAST) * FIELD_32 + (digits >> dropped)) as u32)
-}
-
-// An f64 by its bits. A NaN is not narrowed.
-pub fn narrow(bits: u64) -> Narrowed
-    ensures { λ r. ⌜ r ≡ narrowedBits bits ⌝ }
-{
-    let sign = bits / SIGN_64;
-    match narrow_magnitude(bits % SIGN_64) {
-        Narrowed::Exact(n) => Narrowed::Exact((sign as u32) * SIGN_32 + n),
-        Narrowed::No => Narrowed::No,
-    }
+    Narrowed::Exact(sign + ((x + dropped - LAST_IS_LEAST) * FIELD_32 + (digits >> dropped)) as u32)
 }
 
 // The lowest `size` bytes of n, big-endian, from the last to the first.
