@@ -1,9 +1,9 @@
 -- The bytes of a float by the cases of its bits.
 -- Assumes nothing.
 use Prim.Native.Nat.{ℕ}
-use mathlib.Core.Path.{_≡_, refl, sym, _∙_, ap, subst}
+use mathlib.Core.Path.{_≡_, refl, ap}
 use mathlib.Core.Bool.{Bool, true, false}
-use mathlib.Core.List.{List, [], _∷_}
+use mathlib.Core.List.{_∷_}
 use native.Mathlib.Omega.{arith}
 use borrow.Author.Tests.{ne-eqb}
 use lib.Ieee.{binary32, binary64, ofBits, toBits, isNan}
@@ -20,7 +20,7 @@ float32-zero = refl
 
 pub float32-other : (b : ℕ) → (b ≡ 0 → ⊥) → float32Bytes b ≡ 0x44 ∷ fixedBytes 4 b
 unfolding float32Bytes
-float32-other b h = rw (ne-eqb b 0 h, float32Bytes) refl
+float32-other b h = rw (ne-eqb b 0 h, float32Bytes)
 
 pub float64-zero : float64Bytes 0 ≡ 0x40 ∷ fixedBytes 0 0
 unfolding float64Bytes float32Bytes fixedBytes lowDigits narrows ofBits toBits holds isNan

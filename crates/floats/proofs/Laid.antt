@@ -2,14 +2,13 @@
 -- Assumes nothing.
 use Prim.Native.Nat.{ℕ, zero, suc, _+_, _-_, _/_, _%_, _≤_, _<_}
 use mathlib.Core.Path.{_≡_, refl, sym, _∙_, ap}
-use mathlib.Core.Bool.{true, false}
 use mathlib.Core.List.{List, [], _∷_, _++_, append-assoc}
-use native.Mathlib.Nat.{add-zero, add-suc, suc-add, add-assoc}
+use native.Mathlib.Nat.{add-zero}
 use native.Mathlib.Numerals.{add-one, sub-one}
 use native.Mathlib.Omega.{arith}
 use borrow.Author.Tests.{le-leb, lt-leb}
 use lib.ListN.{length, take, drop, set, length-append, length-set, take-append-drop}
-use lib.Seq.{take-set-le, drop-set-lt, drop-cons, getD-set-same, take-suc-set, append-snoc}
+use lib.Seq.{take-set-le, drop-set-lt, drop-cons, getD-set-same, take-suc-set}
 use Rattle.buffer.specs.Laid.{laid, placed}
 use Rattle.encoding.specs.Digits.{lowDigits}
 use Rattle.encoding.specs.Fields.{fixedBytes}
@@ -36,9 +35,9 @@ unfolding laid
 laid-snoc b at i x xs e h =
     let l : i < length (set b i x) = rw (length-set b i x) h in
     let d : drop i (set b i x) ≡ x ∷ drop (suc i) b =
-    drop-cons (set b i x) i 0 l ∙ rw (getD-set-same b i x 0 h, drop-set-lt (suc i) b i x (omega arith)) refl in
+    drop-cons (set b i x) i 0 l ∙ rw (getD-set-same b i x 0 h, drop-set-lt (suc i) b i x (omega arith)) in
     let n : at + length (xs ++ (x ∷ [])) ≡ suc i = rw (length-append xs (x ∷ [])) (omega arith) in
-    rw (n, take-set-le at b i x (omega arith), e, d, append-assoc xs (x ∷ []) (drop (suc i) b)) refl
+    rw (n, take-set-le at b i x (omega arith), e, d, append-assoc xs (x ∷ []) (drop (suc i) b))
 
 -- the last of i digits
 pub laid-digit : (b : List ℕ) (at i n : ℕ) → 0 < i → at + i ≤ length b →
@@ -65,4 +64,4 @@ module _ (b : List ℕ) (at x k n : ℕ) where
 
   pub placed-full : length b ≤ at + k → placed b at (x ∷ fixedBytes k n) ≡ (0, b)
   unfolding placed
-  placed-full h = rw (long, lt-leb (at + (k + 1)) (length b) (omega arith), placed) refl
+  placed-full h = rw (long, lt-leb (at + (k + 1)) (length b) (omega arith), placed)

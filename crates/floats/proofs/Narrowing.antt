@@ -129,7 +129,7 @@ is-held s q k h a b =
     is-true _ (subst (λ (z : Float). T (holds binary32 z)) n (odd-fits binary32 24 s q′ k′ (h .few) (le-of-lt (h .few)) (h .small))) in
     let t : toBits binary32 (odd 53 s q k 1074) ≡ bitsOf binary32 s (q′ * 2 ^ k′ * 2 ^ 149 / 2 ^ 149) =
     ap (toBits binary32) (sym n) ∙ value-bits binary32 (odd 24 s q′ k′ 149) s (q′ * 2 ^ k′) (2 ^ 149) (pow-pos 149) (odd-sign 24 s q′ k′ 149) in
-    rw (finite s q k, f, t, shl-shr (q′ * 2 ^ k′) 149) refl
+    rw (finite s q k, f, t, shl-shr (q′ * 2 ^ k′) 149)
 
 -- ---- by the fields: a sign, an exponent's field x and digits t
 
@@ -146,7 +146,7 @@ narrowed-infinity false = refl
 normal : (s : Bool) (x t : ℕ) → 0 < x → x < 2047 → ofFields binary64 s x t ≡ odd 53 s (t + 2 ^ 52) (x - 1) 1074
 unfolding ofFields
 normal s zero t h l = absurd (omega arith)
-normal s (suc x) t h l = rw (ne-eqb (suc x) 2047 (λ e. omega arith), sub-one (suc x), add-comm t (2 ^ 52)) refl
+normal s (suc x) t h l = rw (ne-eqb (suc x) 2047 (λ e. omega arith), sub-one (suc x), add-comm t (2 ^ 52))
 
 -- A multiple of w below w is 0. (omega takes no coefficient as large as 2 ^ 925.)
 below-multiple : (n p w : ℕ) → n ≡ p * w → n < w → n ≡ 0
@@ -175,7 +175,7 @@ unfolding narrowedValue ofFields isNan
 narrowed-above s x t u v n = by-test (eqb x 2047) refl
   where
     by-test : (b : Bool) → eqb x 2047 ≡ b → narrowedValue (ofFields binary64 s x t) ≡ No
-    by-test true e = let m = eqb-true x 2047 e in rw (m, ne-eqb t 0 (n m)) refl
+    by-test true e = let m = eqb-true x 2047 e in rw (m, ne-eqb t 0 (n m))
     by-test false e =
         rw (normal s x t (omega arith) (omega (arith, eqb-false x 2047 e)))
         (not-held s (t + 2 ^ 52) (x - 1)

@@ -2,7 +2,7 @@
 // Bits come as numbers, since the language has one NaN: a call that keeps a NaN's own bits takes bits.
 ghost use mathlib.Core.Path.{_≡_};
 ghost use mathlib.Core.List.{List, _∷_};
-ghost use Prim.Native.Nat.{ℕ, _+_, _≤_, _<_, _^_};
+ghost use Prim.Native.Nat.{ℕ, _+_, _≤_, _<_};
 ghost use lib.ListN.{length};
 ghost use lib.Ieee.{binary32, binary64, toBits};
 ghost use Rattle.buffer.specs.Laid.{laid, placed};

@@ -1,6 +1,6 @@
 -- ASCII by the OR of its bytes, and as UTF-8. Assumes nothing.
 use Prim.Native.Nat.{ℕ, _+_, _≤_, _<_}
-use mathlib.Core.Path.{_≡_, refl, sym, ap, subst}
+use mathlib.Core.Path.{_≡_, refl, sym, subst}
 use mathlib.Core.Bool.{Bool, true, false, _&&_}
 use mathlib.Core.List.{List, [], _∷_}
 use mathlib.Core.Option.{some}
@@ -31,7 +31,7 @@ pub ascii-next : (all : ℕ) (s : List ℕ) (i : ℕ) → i < length s →
     (ltb all 0x80 && ascii (drop i s)) ≡ (ltb (bitOr all (getD s i 0)) 0x80 && ascii (drop (i + 1) s))
 unfolding ascii
 ascii-next all s i h =
-    rw (or-ascii all (getD s i 0), and-assoc (ltb all 0x80) (ltb (getD s i 0) 0x80) (ascii (drop (i + 1) s)), drop-next s i h) refl
+    rw (or-ascii all (getD s i 0), and-assoc (ltb all 0x80) (ltb (getD s i 0) 0x80) (ascii (drop (i + 1) s)), drop-next s i h)
 
 pub ascii-end : (t : Bool) (s : List ℕ) (i : ℕ) → length s ≤ i → (t && ascii (drop i s)) ≡ t
 unfolding ascii

@@ -41,4 +41,4 @@ begun-below ((r ∷ rs) ∷ cs) b h = rw (lt-leb (r .0) b (h .0), begun) (begun-
 
 pub begun-in : (r : ℕ × ℕ) (rs : List (ℕ × ℕ)) (cs : List (List (ℕ × ℕ))) (b : ℕ) → r .0 ≤ b → b ≤ r .1 → begun ((r ∷ rs) ∷ cs) b ≡ some rs
 unfolding begun
-begun-in r rs cs b l h = rw (le-leb (r .0) b l, le-leb b (r .1) h, begun) refl
+begun-in r rs cs b l h = rw (le-leb (r .0) b l, le-leb b (r .1) h, begun)

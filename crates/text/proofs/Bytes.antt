@@ -1,6 +1,6 @@
 -- UTF-8 a byte at a time. Assumes nothing.
 use Prim.Native.Nat.{ℕ, zero, suc, _+_, _-_, _≤_, _<_}
-use mathlib.Core.Path.{_≡_, refl, sym, _∙_, ap}
+use mathlib.Core.Path.{_≡_, refl, sym}
 use mathlib.Core.Bool.{Bool, true, false, _&&_}
 use mathlib.Core.List.{List, [], _∷_}
 use mathlib.Core.Option.{Option, none, some}
@@ -23,7 +23,7 @@ utf8-never [] = refl
 utf8-never (b ∷ bs) = by-test (leb b 0) refl
   where
     by-test : (t : Bool) → leb b 0 ≡ t → (leb 0xFF b && t && utf8From [] bs) ≡ false
-    by-test true e = rw (lt-leb 0xFF b (omega (arith, leb-true b 0 e))) refl
+    by-test true e = rw (lt-leb 0xFF b (omega (arith, leb-true b 0 e)))
     by-test false e = by-low (leb 0xFF b)
       where
         by-low : (t : Bool) → (t && false && utf8From [] bs) ≡ false
@@ -50,7 +50,7 @@ utf8-next d b bs h = by-count (d .0) h
     by-count : (n : ℕ) → (n ≡ 0 → ⊥) →
         utf8From (ranges n (d .1) (d .2)) (b ∷ bs) ≡ (inRange (d .1, d .2) b && utf8From (ranges (n - 1) 0x80 0xBF) bs)
     by-count zero f = absurd (f refl)
-    by-count (suc n) f = rw (sub-one (suc n), ← tails n) refl
+    by-count (suc n) f = rw (sub-one (suc n), ← tails n)
 
 pub utf8-end : (d : Due) (s : List ℕ) (i : ℕ) → length s ≤ i → utf8From (due d) (drop i s) ≡ eqb (d .0) 0
 unfolding utf8From

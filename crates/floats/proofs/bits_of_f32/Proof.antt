@@ -6,8 +6,6 @@ use lib.Ieee.{binary32, toBits}
 use Rattle.floats.proofs.Special.{nan-bits, no-nan}
 use Rattle.floats.proofs.bits_of_f32.Statement.{statement}
 use Rattle.floats.proofs.bits_of_f32.Tie as tie
-use Rattle.floats.proofs.bits_of_f32.Reads as reads
-use Rattle.floats.proofs.bits_of_f32.Lts as lts
 
 returns : tie.Need-returns
 unfolding toBits

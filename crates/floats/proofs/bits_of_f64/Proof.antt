@@ -6,8 +6,6 @@ use lib.Ieee.{binary64, toBits}
 use Rattle.floats.proofs.Special.{nan-bits, no-nan}
 use Rattle.floats.proofs.bits_of_f64.Statement.{statement}
 use Rattle.floats.proofs.bits_of_f64.Tie as tie
-use Rattle.floats.proofs.bits_of_f64.Reads as reads
-use Rattle.floats.proofs.bits_of_f64.Lts as lts
 
 returns : tie.Need-returns
 unfolding toBits

@@ -1,16 +1,12 @@
 -- By what `narrow` answers.
 -- Assumes nothing.
-use mathlib.Core.Path.{refl, sym, _∙_}
+use mathlib.Core.Path.{sym, _∙_}
 use borrow.Author.Needs.{needs}
 use Rattle.encoding.specs.Digits.{lowDigits}
 use Rattle.encoding.specs.Fields.{fixedBytes}
 use Rattle.floats.proofs.Bytes.{float64-narrowed, float64-other}
 use Rattle.floats.proofs.f64_size.Statement.{statement}
 use Rattle.floats.proofs.f64_size.Tie as tie
-use Rattle.floats.proofs.f64_size.Reads as reads
-use Rattle.floats.proofs.f64_size.Lts as lts
-use Rattle.floats.proofs.f32_size.Reads as f32-size-reads
-use Rattle.floats.proofs.narrow.Reads as narrow-reads
 
 narrow-requires : tie.Need-narrow-requires
 narrow-requires c κs = search needs
@@ -29,7 +25,7 @@ returns c = let n = c .before .before in rw (float64-narrowed _ _ (sym (n .befor
 
 returns-2 : tie.Need-returns-2
 unfolding fixedBytes lowDigits
-returns-2 c = rw (float64-other _ (sym (c .before .before .narrow .ensures) ∙ c .enum-told .given .1)) refl
+returns-2 c = rw (float64-other _ (sym (c .before .before .narrow .ensures) ∙ c .enum-told .given .1))
 
 pub f64-size-spec : {M : Type 1} → statement M
 f64-size-spec =

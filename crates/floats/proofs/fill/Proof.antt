@@ -1,7 +1,7 @@
 -- The loop's invariant: with the digits that are left laid into what the buffer is, it is what it is to be.
 -- Assumes nothing.
-use Prim.Native.Nat.{suc, _+_, _-_, _/_, _≤_}
-use mathlib.Core.Path.{_≡_, refl, sym, _∙_, ap}
+use Prim.Native.Nat.{_-_, _≤_}
+use mathlib.Core.Path.{_≡_, refl, sym, _∙_}
 use native.Mathlib.Omega.{arith}
 use lib.ListN.{length, length-set}
 use Rattle.buffer.specs.Laid.{laid}
@@ -10,8 +10,6 @@ use Rattle.encoding.specs.Fields.{fixedBytes}
 use Rattle.floats.proofs.Laid.{laid-none, laid-digit}
 use Rattle.floats.proofs.fill.Statement.{statement}
 use Rattle.floats.proofs.fill.Tie as tie
-use Rattle.floats.proofs.fill.Reads as reads
-use Rattle.floats.proofs.fill.Lts as lts
 
 abbrev Inv-loop : tie.InvT-loop
 Inv-loop buf₀ at size n rest₀ i₀ buf rest i =

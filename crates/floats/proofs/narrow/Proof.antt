@@ -1,7 +1,7 @@
 -- Each answer by its case of the exponent's field; in the last two by the trailing zeros of the digits.
 -- Assumes nothing.
-use Prim.Native.Nat.{ℕ, _+_, _-_, _*_, _/_, _%_, _^_, _≤_, _<_}
-use mathlib.Core.Path.{_≡_, refl, sym, _∙_, ap}
+use Prim.Native.Nat.{_+_, _-_, _*_, _/_, _%_, _^_, _<_}
+use mathlib.Core.Path.{_≡_, sym}
 use native.Mathlib.Omega.{arith}
 use borrow.Author.Needs.{needs}
 use lib.Count.{trailing-le}
@@ -9,9 +9,6 @@ use lib.Dec.{leb}
 use Rattle.floats.proofs.Narrowing.{narrowed-fields, sign-bits, narrowed-zero, narrowed-infinity, narrowed-below, narrowed-above, narrowed-cut, narrowed-exact, magnitude-small}
 use Rattle.floats.proofs.narrow.Statement.{statement}
 use Rattle.floats.proofs.narrow.Tie as tie
-use Rattle.floats.proofs.narrow.Reads as reads
-use Rattle.floats.proofs.narrow.Lts as lts
-use Rattle.floats.proofs.dropped_digits.Reads as dropped-digits-reads
 
 cast-sign : tie.Need-cast-sign
 cast-sign c = search needs
@@ -23,7 +20,7 @@ returns : tie.Need-returns
 returns c =
     let b = c .before .args .bits in
     let t : b % 2 ^ 52 ≡ 0 = omega arith in
-    rw (narrowed-fields b, c .if1 .taken, t, narrowed-zero (leb (2 ^ 63) b), sign-bits b (omega arith)) refl
+    rw (narrowed-fields b, c .if1 .taken, t, narrowed-zero (leb (2 ^ 63) b), sign-bits b (omega arith))
 
 add-t10 : tie.Need-add-t10
 add-t10 c = search needs
@@ -32,7 +29,7 @@ returns-2 : tie.Need-returns-2
 returns-2 c =
     let b = c .before .before .args .bits in
     let t : b % 2 ^ 52 ≡ 0 = omega arith in
-    rw (narrowed-fields b, c .if2 .taken, t, narrowed-infinity (leb (2 ^ 63) b), sign-bits b (omega arith)) refl
+    rw (narrowed-fields b, c .if2 .taken, t, narrowed-infinity (leb (2 ^ 63) b), sign-bits b (omega arith))
 
 returns-3 : tie.Need-returns-3
 returns-3 c =
@@ -94,7 +91,7 @@ returns-6 : tie.Need-returns-6
 returns-6 c =
     let b = c .before .before .before .before .before .before .args .bits in
     let d = c .before .dropped-digits in
-    rw (narrowed-fields b, narrowed-exact (leb (2 ^ 63) b) (b % 2 ^ 63 / 2 ^ 52) (b % 2 ^ 52) (d .result) (omega arith) (omega arith) (omega arith) (d .ensures) (c .if5 .left), sign-bits b (omega arith)) refl
+    rw (narrowed-fields b, narrowed-exact (leb (2 ^ 63) b) (b % 2 ^ 63 / 2 ^ 52) (b % 2 ^ 52) (d .result) (omega arith) (omega arith) (omega arith) (d .ensures) (c .if5 .left), sign-bits b (omega arith))
 
 pub narrow-spec : {M : Type 1} → statement M
 narrow-spec =

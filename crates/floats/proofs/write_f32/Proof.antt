@@ -8,11 +8,6 @@ use Rattle.floats.proofs.Special.{zero-bits}
 use Rattle.floats.proofs.Bytes.{float32-zero}
 use Rattle.floats.proofs.write_f32.Statement.{statement}
 use Rattle.floats.proofs.write_f32.Tie as tie
-use Rattle.floats.proofs.write_f32.Reads as reads
-use Rattle.floats.proofs.write_f32.Lts as lts
-use Rattle.floats.proofs.bits_of_f32.Reads as bits-of-f32-reads
-use Rattle.floats.proofs.write_f32_bits.Reads as write-f32-bits-reads
-use Rattle.floats.proofs.write_sized.Reads as write-sized-reads
 
 bits-of-f32-requires : tie.Need-bits-of-f32-requires
 bits-of-f32-requires c κs = search needs

@@ -4,9 +4,6 @@ use borrow.Author.Needs.{needs}
 use Rattle.floats.proofs.Bytes.{float32-zero, float32-other}
 use Rattle.floats.proofs.write_f32_bits.Statement.{statement}
 use Rattle.floats.proofs.write_f32_bits.Tie as tie
-use Rattle.floats.proofs.write_f32_bits.Reads as reads
-use Rattle.floats.proofs.write_f32_bits.Lts as lts
-use Rattle.floats.proofs.write_sized.Reads as write-sized-reads
 
 write-sized-requires : tie.Need-write-sized-requires
 write-sized-requires c κs = search needs

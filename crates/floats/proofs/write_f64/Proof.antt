@@ -8,11 +8,6 @@ use Rattle.floats.proofs.Special.{zero-bits}
 use Rattle.floats.proofs.Bytes.{float64-zero}
 use Rattle.floats.proofs.write_f64.Statement.{statement}
 use Rattle.floats.proofs.write_f64.Tie as tie
-use Rattle.floats.proofs.write_f64.Reads as reads
-use Rattle.floats.proofs.write_f64.Lts as lts
-use Rattle.floats.proofs.bits_of_f64.Reads as bits-of-f64-reads
-use Rattle.floats.proofs.write_f64_bits.Reads as write-f64-bits-reads
-use Rattle.floats.proofs.write_sized.Reads as write-sized-reads
 
 bits-of-f64-requires : tie.Need-bits-of-f64-requires
 bits-of-f64-requires c κs = search needs

@@ -5,11 +5,6 @@ use borrow.Author.Needs.{needs}
 use Rattle.floats.proofs.Bytes.{float64-narrowed, float64-other}
 use Rattle.floats.proofs.write_f64_bits.Statement.{statement}
 use Rattle.floats.proofs.write_f64_bits.Tie as tie
-use Rattle.floats.proofs.write_f64_bits.Reads as reads
-use Rattle.floats.proofs.write_f64_bits.Lts as lts
-use Rattle.floats.proofs.narrow.Reads as narrow-reads
-use Rattle.floats.proofs.write_f32_bits.Reads as write-f32-bits-reads
-use Rattle.floats.proofs.write_sized.Reads as write-sized-reads
 
 narrow-requires : tie.Need-narrow-requires
 narrow-requires c κs = search needs

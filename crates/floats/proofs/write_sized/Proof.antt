@@ -1,17 +1,13 @@
 -- The bytes fit where more than `size` bytes are left; then the type byte is stored and the others are laid behind it.
 -- Assumes nothing.
-use Prim.Native.Nat.{ℕ, _+_}
-use mathlib.Core.Path.{_≡_, refl, sym, _∙_, ap}
-use mathlib.Core.List.{List}
+use Prim.Native.Nat.{_+_}
+use mathlib.Core.Path.{sym, _∙_}
 use native.Mathlib.Omega.{arith}
 use borrow.Author.Needs.{needs}
 use lib.ListN.{length-set}
 use Rattle.floats.proofs.Laid.{placed-fits, placed-full}
 use Rattle.floats.proofs.write_sized.Statement.{statement}
 use Rattle.floats.proofs.write_sized.Tie as tie
-use Rattle.floats.proofs.write_sized.Reads as reads
-use Rattle.floats.proofs.write_sized.Lts as lts
-use Rattle.floats.proofs.fill.Reads as fill-reads
 
 returns : tie.Need-returns
 returns c = sym (placed-full _ _ _ _ _ (omega arith))
