@@ -1,11 +1,13 @@
 -- The bytes of a float by the cases of its bits.
 -- Assumes nothing.
-use Prim.Native.Nat.{ℕ}
+use Prim.Native.Nat.{ℕ, _≤_}
 use mathlib.Core.Path.{_≡_, refl, ap}
 use mathlib.Core.Bool.{Bool, true, false}
-use mathlib.Core.List.{_∷_}
+use mathlib.Core.List.{[], _∷_}
 use native.Mathlib.Omega.{arith}
 use borrow.Author.Tests.{ne-eqb}
+use lib.Dec.{eqb, lit≤}
+use lib.ListN.{length}
 use lib.Ieee.{binary32, binary64, ofBits, toBits, isNan}
 use lib.Ieee.{fits as holds}
 use Rattle.encoding.specs.Digits.{lowDigits}
@@ -43,3 +45,21 @@ float64-other b e = by-test (narrows b) e
         elim t [ true ↦ float32Bytes (toBits binary32 (ofBits binary64 b)) | false ↦ 0x48 ∷ fixedBytes 8 b ] ≡ 0x48 ∷ fixedBytes 8 b
     by-test true q = let z : _≡_ {A = ℕ} 0 1 = cc in absurd (omega arith)
     by-test false q = refl
+
+-- ---- how many they are
+
+pub float32-most : (b : ℕ) → length (float32Bytes b) ≤ 5
+unfolding float32Bytes fixedBytes lowDigits
+float32-most b = by-test (eqb b 0)
+  where
+    by-test : (t : Bool) → length {A = ℕ} (elim t [ true ↦ 0x40 ∷ [] | false ↦ 0x44 ∷ fixedBytes 4 b ]) ≤ 5
+    by-test true = lit≤ tt
+    by-test false = lit≤ tt
+
+pub float64-most : (b : ℕ) → length (float64Bytes b) ≤ 9
+unfolding float64Bytes fixedBytes lowDigits
+float64-most b = by-test (narrows b)
+  where
+    by-test : (t : Bool) → length {A = ℕ} (elim t [ true ↦ float32Bytes (toBits binary32 (ofBits binary64 b)) | false ↦ 0x48 ∷ fixedBytes 8 b ]) ≤ 9
+    by-test true = omega (arith, float32-most (toBits binary32 (ofBits binary64 b)))
+    by-test false = lit≤ tt

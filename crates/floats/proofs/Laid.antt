@@ -51,17 +51,17 @@ laid-digit b at (suc k) n p h =
 -- ---- a byte and k digits behind it: where they fit, and where not
 
 module _ (b : List ℕ) (at x k n : ℕ) where
-  long : length (x ∷ fixedBytes k n) ≡ k + 1
+  length-tagged : length (x ∷ fixedBytes k n) ≡ k + 1
   unfolding fixedBytes
-  long = rw (length-lowDigits 256 k n) (sym (add-one k))
+  length-tagged = rw (length-lowDigits 256 k n) (sym (add-one k))
 
   pub placed-fits : at + k < length b → placed b at (x ∷ fixedBytes k n) ≡ (k + 1, laid (set b at x) (at + 1) (fixedBytes k n))
   unfolding placed
   placed-fits h =
       let l = laid-cons b at x (fixedBytes k n) (omega arith) in
-      let e = long in
+      let e = length-tagged in
       rw (le-leb (at + length (x ∷ fixedBytes k n)) (length b) (omega arith), placed) cc
 
   pub placed-full : length b ≤ at + k → placed b at (x ∷ fixedBytes k n) ≡ (0, b)
   unfolding placed
-  placed-full h = rw (long, lt-leb (at + (k + 1)) (length b) (omega arith), placed)
+  placed-full h = rw (length-tagged, lt-leb (at + (k + 1)) (length b) (omega arith), placed)

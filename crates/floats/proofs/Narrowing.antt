@@ -1,6 +1,5 @@
--- Which values of binary64 binary32 holds, by the fields of their bits, and their bits there.
--- A finite value of either format is a number of units, 2 ^ -1074 or 2 ^ -149, so one of binary32 is a multiple of 2 ^ 925 in the units of binary64.
--- Assumes nothing.
+-- Which values of binary64 binary32 holds, by the fields of their bits, and their bits there. A finite value is a number of units, of 2 ^ -1074 in the
+-- one and of 2 ^ -149 in the other, so binary32 holds multiples of 2 ^ 925 units of binary64, with 24 digits. Assumes nothing.
 use Prim.Native.Nat.{ℕ, zero, suc, _+_, _-_, _*_, _/_, _%_, _^_, _≤_, _<_}
 use mathlib.Core.Path.{_≡_, refl, sym, _∙_, ap, subst}
 use mathlib.Core.Bool.{Bool, true, false, not, cond, _&&_}
@@ -22,7 +21,7 @@ use Rattle.floats.specs.declared.Narrowed.{Narrowed}
 use Rattle.floats.specs.declared.Narrowed.the-variants.{Exact, No}
 use Rattle.floats.specs.Narrowed.{narrowedTo, narrowedBits, Dropped}
 use Rattle.floats.proofs.Zeros.{multiple-zeros, zeros-multiple}
-use Rattle.floats.proofs.Units.{bitsOf, value-bits, same-units, bits-fields}
+use Rattle.floats.proofs.Units.{pow-less, bitsOf, value-bits, same-units, bits-fields}
 
 -- as `narrowedBits`, of the value that the bits stand for
 unfoldable pub narrowedValue : Float → Narrowed
@@ -36,19 +35,8 @@ pow-join m a b = mul-assoc m (2 ^ a) (2 ^ b) ∙ ap (λ (z : ℕ). m * z) (sym (
 pow-shift : (m a b c d : ℕ) → a + b ≡ c + d → m * 2 ^ a * 2 ^ b ≡ m * 2 ^ c * 2 ^ d
 pow-shift m a b c d e = pow-join m a b ∙ (ap (λ (z : ℕ). m * 2 ^ z) e ∙ sym (pow-join m c d))
 
-pow-less : (a b : ℕ) → 2 ^ a < 2 ^ b → a < b
-pow-less a b h = by-test (leb b a) refl
-  where
-    by-test : (t : Bool) → leb b a ≡ t → a < b
-    by-test true e = absurd (lt-irrefl (2 ^ a) (lt-of-lt-of-le h (pow-mono (leb-true b a e))))
-    by-test false e = leb-false b a e
-
 pow-le : (a b : ℕ) → 2 ^ a ≤ 2 ^ b → a ≤ b
-pow-le a b h = by-test (leb a b) refl
-  where
-    by-test : (t : Bool) → leb a b ≡ t → a ≤ b
-    by-test true e = leb-true a b e
-    by-test false e = absurd (lt-irrefl (2 ^ b) (lt-of-lt-of-le (pow-lt (leb-false a b e)) h))
+pow-le a b h = omega (arith, pow-less a (suc b) (lt-of-le-of-lt h (pow-lt {i = b} {j = suc b} (omega arith))))
 
 -- ---- a number of binary32's units that is q * 2 ^ k of binary64's
 
@@ -59,15 +47,15 @@ pub record Held (q k : ℕ) : Type 0 where
   pub small : digits * 2 ^ shift < 2 ^ 277
   pub same : q * 2 ^ k ≡ digits * 2 ^ shift * 2 ^ 925
 
-held : (q k m : ℕ) (e : ℤ) → m < 2 ^ 24 → down e ≤ 2 ^ 149 → m * up e < 2 ^ 128 * down e → m * up e * 2 ^ 1074 ≡ q * 2 ^ k * down e → Held q k
-held q k m (pos j) a b c e = record {
+number-held : (q k m : ℕ) (e : ℤ) → m < 2 ^ 24 → down e ≤ 2 ^ 149 → m * up e < 2 ^ 128 * down e → m * up e * 2 ^ 1074 ≡ q * 2 ^ k * down e → Held q k
+number-held q k m (pos j) a b c e = record {
   digits = m;
   shift = j + 149;
   few = a;
   small = rw (← (pow-join m j 149)) (shl-lt 128 149 (rw (mul-one (2 ^ 128)) at c));
   same = sym (mul-one (q * 2 ^ k)) ∙ (sym e ∙ pow-shift m j 1074 (j + 149) 925 (omega arith));
 }
-held q k m (negsuc j) a b c e =
+number-held q k m (negsuc j) a b c e =
     let l : suc j ≤ 149 = pow-le (suc j) 149 b in
     let c′ : m < 2 ^ (128 + suc j) = rw (pow-add 2 128 (suc j)) (rw (mul-one m) at c) in
     let n : 128 + suc j + (149 - suc j) ≡ 277 = omega arith in
@@ -101,17 +89,17 @@ fits-held (fin b (suc m) e) s q k t v =
     let a₃ = leb (down e) (2 ^ 149) in
     let a₄ = ltb (suc m * up e) (2 ^ 128 * down e) in
     let t₃ = and-l (a₁ && a₂ && a₃) a₄ t in
-    held q k (suc m) e (ltb→lt (suc m) (2 ^ 24) (and-r a₁ a₂ (and-l (a₁ && a₂) a₃ t₃))) (leb→le (down e) (2 ^ 149) (and-r (a₁ && a₂) a₃ t₃))
+    number-held q k (suc m) e (ltb→lt (suc m) (2 ^ 24) (and-r a₁ a₂ (and-l (a₁ && a₂) a₃ t₃))) (leb→le (down e) (2 ^ 149) (and-r (a₁ && a₂) a₃ t₃))
     (ltb→lt (suc m * up e) (2 ^ 128 * down e) (and-r (a₁ && a₂ && a₃) a₄ t)) (v .1)
 
-finite : (s : Bool) (q k : ℕ) → isNan (odd 53 s q k 1074) ≡ false
+odd-no-nan : (s : Bool) (q k : ℕ) → isNan (odd 53 s q k 1074) ≡ false
 unfolding odd isNan
-finite s zero k = refl
-finite s (suc q) k = refl
+odd-no-nan s zero k = refl
+odd-no-nan s (suc q) k = refl
 
 not-held : (s : Bool) (q k : ℕ) → (Held q k → ⊥) → narrowedValue (odd 53 s q k 1074) ≡ No
 unfolding narrowedValue
-not-held s q k h = rw (finite s q k) (by-test (holds binary32 (odd 53 s q k 1074)) refl)
+not-held s q k h = rw (odd-no-nan s q k) (by-test (holds binary32 (odd 53 s q k 1074)) refl)
   where
     by-test : (t : Bool) → holds binary32 (odd 53 s q k 1074) ≡ t → narrowedTo t (toBits binary32 (odd 53 s q k 1074)) ≡ No
     by-test true e = absurd (h (fits-held (odd 53 s q k 1074) s q k (subst T (sym e) tt) (odd-sign 53 s q k 1074)))
@@ -129,7 +117,7 @@ is-held s q k h a b =
     is-true _ (subst (λ (z : Float). T (holds binary32 z)) n (odd-fits binary32 24 s q′ k′ (h .few) (le-of-lt (h .few)) (h .small))) in
     let t : toBits binary32 (odd 53 s q k 1074) ≡ bitsOf binary32 s (q′ * 2 ^ k′ * 2 ^ 149 / 2 ^ 149) =
     ap (toBits binary32) (sym n) ∙ value-bits binary32 (odd 24 s q′ k′ 149) s (q′ * 2 ^ k′) (2 ^ 149) (pow-pos 149) (odd-sign 24 s q′ k′ 149) in
-    rw (finite s q k, f, t, shl-shr (q′ * 2 ^ k′) 149)
+    rw (odd-no-nan s q k, f, t, shl-shr (q′ * 2 ^ k′) 149)
 
 -- ---- by the fields: a sign, an exponent's field x and digits t
 
@@ -143,10 +131,10 @@ unfolding narrowedValue ofFields isNan holds toBits
 narrowed-infinity true = refl
 narrowed-infinity false = refl
 
-normal : (s : Bool) (x t : ℕ) → 0 < x → x < 2047 → ofFields binary64 s x t ≡ odd 53 s (t + 2 ^ 52) (x - 1) 1074
+fields-normal : (s : Bool) (x t : ℕ) → 0 < x → x < 2047 → ofFields binary64 s x t ≡ odd 53 s (t + 2 ^ 52) (x - 1) 1074
 unfolding ofFields
-normal s zero t h l = absurd (omega arith)
-normal s (suc x) t h l = rw (ne-eqb (suc x) 2047 (λ e. omega arith), sub-one (suc x), add-comm t (2 ^ 52))
+fields-normal s zero t h l = absurd (omega arith)
+fields-normal s (suc x) t h l = rw (ne-eqb (suc x) 2047 (λ e. omega arith), sub-one (suc x), add-comm t (2 ^ 52))
 
 -- A multiple of w below w is 0. (omega takes no coefficient as large as 2 ^ 925.)
 below-multiple : (n p w : ℕ) → n ≡ p * w → n < w → n ≡ 0
@@ -166,7 +154,7 @@ pub narrowed-below : (s : Bool) (x t : ℕ) → t < 2 ^ 52 → x < 874 → (x �
 unfolding ofFields
 narrowed-below s zero t l u n = below-unit s t 0 (omega (arith, n refl)) (lt-of-lt-of-le {m = 2 ^ 52} (rw (mul-one t) l) (lit≤ tt))
 narrowed-below s (suc x) t l u n =
-    rw (normal s (suc x) t (omega arith) (omega arith), sub-one (suc x))
+    rw (fields-normal s (suc x) t (omega arith) (omega arith), sub-one (suc x))
     (below-unit s (t + 2 ^ 52) x (omega arith)
     (lt-of-lt-of-le (shl-lt 53 x (omega arith)) (pow-mono {i = 53 + x} {j = 925} (omega arith))))
 
@@ -177,7 +165,7 @@ narrowed-above s x t u v n = by-test (eqb x 2047) refl
     by-test : (b : Bool) → eqb x 2047 ≡ b → narrowedValue (ofFields binary64 s x t) ≡ No
     by-test true e = let m = eqb-true x 2047 e in rw (m, ne-eqb t 0 (n m))
     by-test false e =
-        rw (normal s x t (omega arith) (omega (arith, eqb-false x 2047 e)))
+        rw (fields-normal s x t (omega arith) (omega (arith, eqb-false x 2047 e)))
         (not-held s (t + 2 ^ 52) (x - 1)
         (λ h.
         let a : 2 ^ 52 * 2 ^ (x - 1) ≤ (t + 2 ^ 52) * 2 ^ (x - 1) = mul-le-mul-right (2 ^ (x - 1)) (omega arith) in
@@ -216,7 +204,7 @@ module _ (s : Bool) (x t k : ℕ) (few : t < 2 ^ 52) (lo : 874 ≤ x) (hi : x �
 
   pub narrowed-cut : trailingZeros 64 (t + 2 ^ 52) < k → narrowedValue (ofFields binary64 s x t) ≡ No
   narrowed-cut z =
-      rw (normal s x t (omega arith) (omega arith))
+      rw (fields-normal s x t (omega arith) (omega arith))
       (not-held s (t + 2 ^ 52) (x - 1)
       (λ h.
       let w = dropped-multiple h in
@@ -248,7 +236,7 @@ module _ (s : Bool) (x t k : ℕ) (few : t < 2 ^ 52) (lo : 874 ≤ x) (hi : x �
         small = lt-of-lt-of-le (shl-lt 24 e m-few) (pow-mono {i = 24 + e} {j = 277} (omega (arith, place-most)));
         same = ap (λ (n : ℕ). n * 2 ^ (x - 1)) (w .1) ∙ pow-shift m k (x - 1) e 925 (omega (arith, d .place));
       } in
-      rw (normal s x t (omega arith) (omega arith), kept)
+      rw (fields-normal s x t (omega arith) (omega arith), kept)
       (is-held s q (x - 1) h (omega arith) (lt-of-lt-of-le (shl-lt 53 (x - 1) (omega arith)) (pow-mono {i = 53 + (x - 1)} {j = 2098} (omega arith)))
       ∙ ap Exact (bits-fields m e m-few full s))
 

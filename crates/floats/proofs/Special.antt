@@ -31,23 +31,23 @@ and-second true b e = e
 and-second false b e = absurd (subst T (sym e) tt)
 
 -- the exponent of a zero that is written in the one way
-one : (e : ℤ) → up e * down e ≡ 1 → e ≡ pos 0
-one (pos zero) h = refl
-one (pos (suc k)) h = let p = pow-suc 2 k in let q = pow-pos k in absurd (omega arith)
-one (negsuc k) h = let p = pow-suc 2 k in let q = pow-pos k in absurd (omega arith)
+zero-exponent : (e : ℤ) → up e * down e ≡ 1 → e ≡ pos 0
+zero-exponent (pos zero) h = refl
+zero-exponent (pos (suc k)) h = let p = pow-suc 2 k in let q = pow-pos k in absurd (omega arith)
+zero-exponent (negsuc k) h = let p = pow-suc 2 k in let q = pow-pos k in absurd (omega arith)
 
 -- the literal 0.0
-literal : (f : Format) → ofBits f 0 ≡ fin false 0 (pos 0)
+zero-literal : (f : Format) → ofBits f 0 ≡ fin false 0 (pos 0)
 unfolding ofBits
-literal binary32 = refl
-literal binary64 = refl
+zero-literal binary32 = refl
+zero-literal binary64 = refl
 
 -- what equals zero is a zero of either sign
 equals-zero : (f : Format) (v : Float) → T (fits f v) → eq v (fin false 0 (pos 0)) ≡ true → (s : Bool) × (v ≡ fin s 0 (pos 0))
 unfolding eq fits
 equals-zero f nan h e = absurd (subst T (sym e) tt)
 equals-zero f (inf s) h e = absurd (subst T (sym e) tt)
-equals-zero f (fin s zero x) h e = (s, ap (fin s 0) (one x (eqb→eq _ _ h)))
+equals-zero f (fin s zero x) h e = (s, ap (fin s 0) (zero-exponent x (eqb→eq _ _ h)))
 equals-zero f (fin s (suc m) x) h e =
     let p : suc m * up x * 1 ≡ 0 * 1 * down x = eqb-true _ _ (and-first _ _ e) in
     let q : 0 < suc m * up x = mul-pos (zero-lt-suc m) (up-pos x) in
@@ -64,7 +64,7 @@ signed-zero binary64 false = refl
 -- a zero whose bits b have no sign
 pub zero-bits : (f : Format) (v : Float) (b : ℕ) → T (fits f v) → b ≡ toBits f v → (eq v (ofBits f 0) && ltb b (top f)) ≡ true → toBits f v ≡ 0
 zero-bits f v b h is e =
-    let z = equals-zero f v h (subst (λ (x : Float). eq v x ≡ true) (literal f) (and-first _ _ e)) in
+    let z = equals-zero f v h (subst (λ (x : Float). eq v x ≡ true) (zero-literal f) (and-first _ _ e)) in
     let signed : toBits f v ≡ cond (z .0) (top f) 0 = ap (toBits f) (z .1) ∙ signed-zero f (z .0) in
     let l : b < top f = ltb-true _ _ (and-second (eq v (ofBits f 0)) _ e) in
     signed ∙ by-sign (z .0) (subst (λ (x : ℕ). x < top f) (is ∙ signed) l)

@@ -3,7 +3,7 @@
 use Prim.Native.Nat.{ℕ, zero, suc, _+_, _-_, _*_, _/_, _^_, _≤_, _<_}
 use mathlib.Core.Path.{_≡_, refl, sym, _∙_, ap}
 use mathlib.Core.Bool.{Bool, true, false, cond}
-use native.Mathlib.Nat.{add-assoc, mul-right-comm, mul-assoc, suc-add, le-of-lt, le-trans, le-antisymm, lt-of-lt-of-le, lt-irrefl, mul-le-mul-right}
+use native.Mathlib.Nat.{add-assoc, mul-right-comm, mul-assoc, suc-add, le-of-lt, le-antisymm, lt-of-lt-of-le, lt-of-le-of-lt, lt-irrefl, mul-le-mul-right}
 use native.Mathlib.Omega.{arith}
 use borrow.Author.Tests.{leb-true, leb-false}
 use lib.Dec.{T, leb}
@@ -51,18 +51,20 @@ same-units s q k q′ k′ a b a′ b′ e =
 
 -- ---- the fields of those bits
 
-size-is : (n j : ℕ) → n < 2 ^ suc j → 2 ^ j ≤ n → size n ≡ suc j
-size-is n j a b = le-antisymm (size-le n (suc j) a) (by-test (leb (suc j) (size n)) refl)
+pub pow-less : (a b : ℕ) → 2 ^ a < 2 ^ b → a < b
+pow-less a b h = by-test (leb b a) refl
   where
-    by-test : (t : Bool) → leb (suc j) (size n) ≡ t → suc j ≤ size n
-    by-test true e = leb-true _ _ e
-    by-test false e =
-        absurd (lt-irrefl n (lt-of-lt-of-le (size-lt n) (le-trans (pow-mono {i = size n} {j = j} (omega (arith, leb-false (suc j) (size n) e))) b)))
+    by-test : (t : Bool) → leb b a ≡ t → a < b
+    by-test true e = absurd (lt-irrefl (2 ^ a) (lt-of-lt-of-le h (pow-mono (leb-true b a e))))
+    by-test false e = leb-false b a e
+
+size-is : (n j : ℕ) → n < 2 ^ suc j → 2 ^ j ≤ n → size n ≡ suc j
+size-is n j a b = le-antisymm (size-le n (suc j) a) (pow-less j (size n) (lt-of-le-of-lt b (size-lt n)))
 
 -- 24 digits and k zeros, of which the first digit is no zero unless k is
 module _ (m k : ℕ) (few : m < 2 ^ 24) (full : 0 < k → 2 ^ 23 ≤ m) where
-  over : size (m * 2 ^ k) - 24 ≡ k
-  over = by-zeros k full
+  over-24 : size (m * 2 ^ k) - 24 ≡ k
+  over-24 = by-zeros k full
     where
       by-zeros : (j : ℕ) → (0 < j → 2 ^ 23 ≤ m) → size (m * 2 ^ j) - 24 ≡ j
       by-zeros zero h = omega (arith, size-le (m * 1) 24 (omega arith))
@@ -73,4 +75,4 @@ module _ (m k : ℕ) (few : m < 2 ^ 24) (full : 0 < k → 2 ^ 23 ≤ m) where
 
   pub bits-fields : (s : Bool) → bitsOf binary32 s (m * 2 ^ k) ≡ cond s (top binary32) 0 + (k * 2 ^ 23 + m)
   unfolding bitsOf
-  bits-fields s = rw (over, shl-shr m k) (add-assoc (cond s (top binary32) 0) (k * 2 ^ 23) m)
+  bits-fields s = rw (over-24, shl-shr m k) (add-assoc (cond s (top binary32) 0) (k * 2 ^ 23) m)

@@ -34,7 +34,7 @@ const LAST_IS_LEAST: u64 = 926;
 
 const GREATEST: u64 = 1150;
 
-// What binary64 has more digits than binary32.
+// binary64 has 53 digits, binary32 has 24.
 const MORE_DIGITS: u64 = 29;
 
 // Whether binary32 holds the value of an f64 exactly, and its bits there.
@@ -95,7 +95,7 @@ fn fill(buf: &mut [u8], at: usize, size: usize, n: u64)
     }
 }
 
-// The type byte and `size` bytes of bits.
+// The type byte and `size` bytes of bits; 0 where there is no room.
 fn write_sized(buf: &mut [u8], at: usize, size: usize, bits: u64) -> usize
     requires { ⌜ size ≤ 8 ⌝ }
     ensures { λ r. ⌜ _≡_ {A = ℕ × List ℕ} (r, now (buf .exit)) (placed (now (buf .entry)) at ((0x40 + size) ∷ fixedBytes size bits)) ⌝ }
@@ -111,6 +111,7 @@ fn write_sized(buf: &mut [u8], at: usize, size: usize, bits: u64) -> usize
     size + 1
 }
 
+// The size of what `write_f32_bits` puts.
 pub fn f32_size(bits: u32) -> usize
     ensures { λ r. ⌜ r ≡ length (float32Bytes bits) ⌝ }
 {
@@ -120,7 +121,7 @@ pub fn f32_size(bits: u32) -> usize
     5
 }
 
-// Positive zero is 40, every other f32 is 44 and its own bits, a NaN's too.
+// Positive zero is 40; every other f32 is 44 and its own bits, a NaN's too. Answers the size, or 0 where there is no room.
 pub fn write_f32_bits(buf: &mut [u8], at: usize, bits: u32) -> usize
     ensures { λ r. ⌜ _≡_ {A = ℕ × List ℕ} (r, now (buf .exit)) (placed (now (buf .entry)) at (float32Bytes bits)) ⌝ }
 {
@@ -130,6 +131,7 @@ pub fn write_f32_bits(buf: &mut [u8], at: usize, bits: u32) -> usize
     write_sized(buf, at, 4, bits as u64)
 }
 
+// The size of what `write_f64_bits` puts.
 pub fn f64_size(bits: u64) -> usize
     ensures { λ r. ⌜ r ≡ length (float64Bytes bits) ⌝ }
 {
@@ -139,7 +141,7 @@ pub fn f64_size(bits: u64) -> usize
     }
 }
 
-// An f64 that binary32 holds exactly goes out as an f32; any other, and every NaN, is 48 and its own bits.
+// An f64 that binary32 holds exactly goes out as an f32; every other, and every NaN, is 48 and its own bits.
 pub fn write_f64_bits(buf: &mut [u8], at: usize, bits: u64) -> usize
     ensures { λ r. ⌜ _≡_ {A = ℕ × List ℕ} (r, now (buf .exit)) (placed (now (buf .entry)) at (float64Bytes bits)) ⌝ }
 {
@@ -149,7 +151,7 @@ pub fn write_f64_bits(buf: &mut [u8], at: usize, bits: u64) -> usize
     }
 }
 
-// A NaN is 7FC00000: `to_bits` is not defined there.
+// A NaN has the bits 7FC00000: `to_bits` is not defined there.
 pub fn bits_of_f32(v: f32) -> u32
     ensures { λ r. ⌜ r ≡ toBits binary32 v ⌝ }
 {
@@ -159,7 +161,7 @@ pub fn bits_of_f32(v: f32) -> u32
     f32::to_bits(v)
 }
 
-// A NaN is 7FF8000000000000.
+// A NaN has the bits 7FF8000000000000.
 pub fn bits_of_f64(v: f64) -> u64
     ensures { λ r. ⌜ r ≡ toBits binary64 v ⌝ }
 {
@@ -169,6 +171,7 @@ pub fn bits_of_f64(v: f64) -> u64
     f64::to_bits(v)
 }
 
+// An f32 by its value. Negative zero equals zero, so the sign bit is asked too.
 pub fn write_f32(buf: &mut [u8], at: usize, v: f32) -> usize
     ensures { λ r. ⌜ _≡_ {A = ℕ × List ℕ} (r, now (buf .exit)) (placed (now (buf .entry)) at (float32Bytes (toBits binary32 v))) ⌝ }
 {
@@ -179,6 +182,7 @@ pub fn write_f32(buf: &mut [u8], at: usize, v: f32) -> usize
     write_f32_bits(buf, at, bits)
 }
 
+// An f64 by its value.
 pub fn write_f64(buf: &mut [u8], at: usize, v: f64) -> usize
     ensures { λ r. ⌜ _≡_ {A = ℕ × List ℕ} (r, now (buf .exit)) (placed (now (buf .entry)) at (float64Bytes (toBits binary64 v))) ⌝ }
 {

@@ -1,7 +1,7 @@
 -- Each answer by its case of the exponent's field; in the last two by the trailing zeros of the digits.
 -- Assumes nothing.
 use Prim.Native.Nat.{_+_, _-_, _*_, _/_, _%_, _^_, _<_}
-use mathlib.Core.Path.{_≡_, sym}
+use mathlib.Core.Path.{_≡_, sym, _∙_}
 use native.Mathlib.Omega.{arith}
 use borrow.Author.Needs.{needs}
 use lib.Count.{trailing-le}
@@ -33,13 +33,11 @@ returns-2 c =
 
 returns-3 : tie.Need-returns-3
 returns-3 c =
-    let b = c .before .before .before .args .bits in
-    rw (narrowed-fields b) (sym (narrowed-below (leb (2 ^ 63) b) (b % 2 ^ 63 / 2 ^ 52) (b % 2 ^ 52) (omega arith) (omega arith) (λ x t. c .before .before .if1 .left (omega arith))))
+    sym (narrowed-fields _ ∙ narrowed-below _ _ _ (omega arith) (omega arith) (λ x t. c .before .before .if1 .left (omega arith)))
 
 returns-4 : tie.Need-returns-4
 returns-4 c =
-    let b = c .before .before .before .before .args .bits in
-    rw (narrowed-fields b) (sym (narrowed-above (leb (2 ^ 63) b) (b % 2 ^ 63 / 2 ^ 52) (b % 2 ^ 52) (omega arith) (omega arith) (λ x t. c .before .before .if2 .left (omega arith))))
+    sym (narrowed-fields _ ∙ narrowed-above _ _ _ (omega arith) (omega arith) (λ x t. c .before .before .if2 .left (omega arith)))
 
 add-digits : tie.Need-add-digits
 add-digits c = search needs
@@ -52,10 +50,7 @@ cast-if5 c = let b = c .before .before .before .before .before .args .bits in om
 
 returns-5 : tie.Need-returns-5
 returns-5 c =
-    let b = c .before .before .before .before .before .before .args .bits in
-    let d = c .before .dropped-digits in
-    rw (narrowed-fields b)
-    (sym (narrowed-cut (leb (2 ^ 63) b) (b % 2 ^ 63 / 2 ^ 52) (b % 2 ^ 52) (d .result) (omega arith) (omega arith) (omega arith) (d .ensures) (c .if5 .taken)))
+    sym (narrowed-fields _ ∙ narrowed-cut _ _ _ _ (omega arith) (omega arith) (omega arith) (c .before .dropped-digits .ensures) (c .if5 .taken))
 
 add-t7 : tie.Need-add-t7
 add-t7 c = search needs
@@ -90,8 +85,8 @@ add-t15 c = omega (arith, magnitude c)
 returns-6 : tie.Need-returns-6
 returns-6 c =
     let b = c .before .before .before .before .before .before .args .bits in
-    let d = c .before .dropped-digits in
-    rw (narrowed-fields b, narrowed-exact (leb (2 ^ 63) b) (b % 2 ^ 63 / 2 ^ 52) (b % 2 ^ 52) (d .result) (omega arith) (omega arith) (omega arith) (d .ensures) (c .if5 .left), sign-bits b (omega arith))
+    rw (← sign-bits b (omega arith))
+    (sym (narrowed-fields b ∙ narrowed-exact _ _ _ _ (omega arith) (omega arith) (omega arith) (c .before .dropped-digits .ensures) (c .if5 .left)))
 
 pub narrow-spec : {M : Type 1} → statement M
 narrow-spec =
