@@ -1,6 +1,6 @@
 -- By what `narrow` answers.
 -- Assumes nothing.
-use mathlib.Core.Path.{sym, _∙_}
+use mathlib.Core.Path.{refl, sym, _∙_}
 use borrow.Author.Needs.{needs}
 use Rattle.encoding.specs.Digits.{lowDigits}
 use Rattle.encoding.specs.Fields.{fixedBytes}
@@ -25,7 +25,7 @@ returns c = let n = c .before .before in rw (float64-narrowed _ _ (sym (n .befor
 
 returns-2 : tie.Need-returns-2
 unfolding fixedBytes lowDigits
-returns-2 c = rw (float64-other _ (sym (c .before .before .narrow .ensures) ∙ c .enum-told .given .1))
+returns-2 c = rw (float64-other _ (sym (c .before .before .narrow .ensures) ∙ c .enum-told .given .1)) refl
 
 pub f64-size-spec : {M : Type 1} → statement M
 f64-size-spec =

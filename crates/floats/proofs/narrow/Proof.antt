@@ -1,7 +1,7 @@
 -- Each answer by its case of the exponent's field; in the last two by the trailing zeros of the digits.
 -- Assumes nothing.
 use Prim.Native.Nat.{_+_, _-_, _*_, _/_, _%_, _^_, _<_}
-use mathlib.Core.Path.{_≡_, sym, _∙_}
+use mathlib.Core.Path.{_≡_, refl, sym, _∙_}
 use native.Mathlib.Omega.{arith}
 use borrow.Author.Needs.{needs}
 use lib.Count.{trailing-le}
@@ -20,7 +20,7 @@ returns : tie.Need-returns
 returns c =
     let b = c .before .args .bits in
     let t : b % 2 ^ 52 ≡ 0 = omega arith in
-    rw (narrowed-fields b, c .if1 .taken, t, narrowed-zero (leb (2 ^ 63) b), sign-bits b (omega arith))
+    rw (narrowed-fields b, c .if1 .taken, t, narrowed-zero (leb (2 ^ 63) b), sign-bits b (omega arith)) refl
 
 add-t10 : tie.Need-add-t10
 add-t10 c = search needs
@@ -29,7 +29,7 @@ returns-2 : tie.Need-returns-2
 returns-2 c =
     let b = c .before .before .args .bits in
     let t : b % 2 ^ 52 ≡ 0 = omega arith in
-    rw (narrowed-fields b, c .if2 .taken, t, narrowed-infinity (leb (2 ^ 63) b), sign-bits b (omega arith))
+    rw (narrowed-fields b, c .if2 .taken, t, narrowed-infinity (leb (2 ^ 63) b), sign-bits b (omega arith)) refl
 
 returns-3 : tie.Need-returns-3
 returns-3 c =

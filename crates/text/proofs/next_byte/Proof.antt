@@ -1,5 +1,6 @@
 -- With nothing due the byte is a first byte; otherwise it leaves tails, or nothing that can be right if it is outside its range.
 -- Assumes nothing.
+use mathlib.Core.Path.{refl}
 use borrow.Author.Needs.{needs}
 use Rattle.text.proofs.Bytes.{utf8-never, utf8-first, utf8-next}
 use Rattle.text.proofs.next_byte.Statement.{statement}
@@ -17,7 +18,7 @@ sub-t9 c = search needs
 returns-2 : tie.Need-returns-2
 returns-2 c bs =
     let a = c .before .before .args in
-    rw (utf8-next (a .d) (a .b) bs (c .before .if1 .left), c .if2 .taken)
+    rw (utf8-next (a .d) (a .b) bs (c .before .if1 .left), c .if2 .taken) refl
 
 returns-3 : tie.Need-returns-3
 returns-3 c bs =
