@@ -2,6 +2,8 @@
 -- Assumes nothing.
 use mathlib.Core.Path.{_≡_, sym, _∙_, ap}
 use native.Mathlib.Omega.{arith}
+use mir.Syntax.{w64}
+use mir.ValLaws.{toZ-ofZ}
 use Rattle.buffer.specs.Laid.{placed}
 use Rattle.fields.proofs.Signs.{boolByte-most}
 use Rattle.values.proofs.Plain.{i64-bytes}
@@ -34,7 +36,7 @@ returns : tie.Need-returns
 returns c =
   let m = c .before .before .before in
   let a = m .before .before .before .before .args in
-  c .before .before .plain-uint .ensures ∙ ap (placed (a .buf .now) (a .at)) (rw (m .magnitude .ensures, m .before .is-negative .ensures) (sym (i64-bytes (a .value))))
+  c .before .before .plain-uint .ensures ∙ ap (placed (a .buf .now) (a .at)) (rw (m .magnitude .ensures, m .before .is-negative .ensures, toZ-ofZ w64 (a .value) (m .before .before .before .before .fits .value)) (sym (i64-bytes (a .value))))
 
 pub plain-i64-spec : {M : Type 1} → statement M
 plain-i64-spec =
