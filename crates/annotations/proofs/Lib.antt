@@ -1,1 +1,2 @@
 pub mod Sids
+pub mod Prefix

@@ -17,9 +17,9 @@ use Rattle.annotations.specs.Sids.{leastFirst, sidAt, sidCount, sidsUpTo
 pub leastFirst-more : (b : List ℕ) (at k : ℕ) → 0 < k → k ≤ 8 → getD b (at + (k - 1)) 0 + 256 * leastFirst b (at + k) (8 - k) ≡ leastFirst b (at + (k - 1)) (8 - (k - 1))
 unfolding leastFirst
 leastFirst-more b at k p h =
-  let n : 8 - (k - 1) ≡ suc (8 - k) = omega arith in
-  let e : at + (k - 1) + 1 ≡ at + k = omega arith in
-  rw (n, leastFirst, e) refl
+    let n : 8 - (k - 1) ≡ suc (8 - k) = omega arith in
+    let e : at + (k - 1) + 1 ≡ at + k = omega arith in
+    rw (n, leastFirst, e) refl
 
 -- ---- sids are numbers of 64 bits
 
@@ -75,9 +75,9 @@ length-sidBytes-more b n = ap length (sidBytes-more b n) ∙ length-append (sidB
 pub sidBytes-within : (b : List ℕ) (i n : ℕ) → i ≤ n → length (sidBytes b i) ≤ length (sidBytes b n)
 sidBytes-within b i zero h = let e : i ≡ 0 = omega arith in rw e (omega arith)
 sidBytes-within b i (suc n) h = ⊎-elim
-  (λ e. rw e (omega arith))
-  (λ l. omega (arith, length-sidBytes-more b n, sidBytes-within b i n (omega arith)))
-  (eq-or-lt-of-le h)
+    (λ e. rw e (omega arith))
+    (λ l. omega (arith, length-sidBytes-more b n, sidBytes-within b i n (omega arith)))
+    (eq-or-lt-of-le h)
 
 -- ten bytes a sid at most
 pub sidBytes-most : (b : List ℕ) → ((i : ℕ) → getD b i 0 < 256) → (n : ℕ) → length (sidBytes b n) ≤ 10 * n

@@ -7,8 +7,12 @@ ghost use Rattle.encoding.specs.Fields.{varUIntsBytes};
 ghost use Rattle.encoding.specs.Headers.{annotationBytes};
 ghost use Rattle.buffer.specs.Laid.{placed, fitted};
 ghost use Rattle.annotations.specs.Sids.{sidAt, sidCount, sidsOf};
+ghost use Rattle.annotations.specs.Prefix.{prefixBytes, placedBefore};
 
 const SID_BYTES: usize = 8;
+
+// The type byte of an annotation wrapper.
+const WRAPPER: u8 = 0xE0;
 
 // A byte past the end counts as zero.
 fn byte_at(annotations: &[u8], at: usize) -> u64
@@ -66,7 +70,10 @@ fn measure(annotations: &[u8]) -> Sizes
 {
     let sum = sids_size(annotations);
     let whole = fields::var_uint::encoded_size_of(sum as u64) + sum;
-    Sizes { sum: sum, whole: whole }
+    Sizes {
+        sum: sum,
+        whole: whole,
+    }
 }
 
 // The sids, one after the other.
@@ -114,4 +121,23 @@ pub fn write(buf: &mut [u8], at: usize, annotations: &[u8]) -> usize
         return 0;
     }
     put(buf, at, sizes.sum, annotations)
+}
+
+// The wrapper's header and the annotations, before a value of `inner` bytes. Nothing is put where the value would not fit behind them.
+pub fn write_prefix(buf: &mut [u8], at: usize, annotations: &[u8], inner: usize) -> usize
+    ensures { λ r. ⌜ _≡_ {A = ℕ × List ℕ} (r, now (buf .exit)) (placedBefore (now (buf .entry)) at (prefixBytes (sidsOf (now (annotations .entry))) inner) inner) ⌝ }
+{
+    let sizes = measure(annotations);
+    let whole = sizes.whole;
+    if !buffer::has_room(buf.len(), whole, inner) {
+        return 0;
+    }
+    let body = whole + inner;
+    let header = fields::header::encoded_size_of(body);
+    if !buffer::has_room(buf.len(), at, header + body) {
+        return 0;
+    }
+    let first = fields::header::write(buf, at, WRAPPER, body);
+    let rest = put(buf, at + first, sizes.sum, annotations);
+    first + rest
 }

@@ -27,10 +27,10 @@ add-whole c = omega (arith, most c)
 
 returns : tie.Need-returns
 returns c =
-  let s = c .before .sids-size in
-  let e : c .encoded-size-of .result + s .result ≡ length (annotationBytes (sidsOf (c .before .before .before .args .annotations .now))) =
+    let s = c .before .sids-size in
+    let e : c .encoded-size-of .result + s .result ≡ length (annotationBytes (sidsOf (c .before .before .before .args .annotations .now))) =
     rw (c .encoded-size-of .ensures, s .ensures .0) (sym (length-annotations (sidsOf (c .before .before .before .args .annotations .now)))) in
-  (s .ensures .0, e, omega (arith, most c))
+    (s .ensures .0, e, omega (arith, most c))
 
 pub measure-spec : {M : Type 1} → statement M
 measure-spec = tie.close (tie.spec sids-size-requires encoded-size-of-requires add-whole returns)

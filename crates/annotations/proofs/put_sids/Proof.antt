@@ -25,33 +25,33 @@ abbrev μ-loop : tie.MeasureT-loop
 within : (c : tie.At-loop Inv-loop μ-loop) (n : ℕ) → n ≤ sidCount (c .before .before .before .before .args .annotations .now) →
     c .before .before .before .before .args .at + length (sidBytes (c .before .before .before .before .args .annotations .now) n) ≤ length (c .before .before .before .before .args .buf .now)
 within c n h =
-  let a = c .before .before .before .before .args .annotations .now in
-  omega (arith, ap length (sidBytes-all a), sidBytes-within a n (sidCount a) h)
+    let a = c .before .before .before .before .args .annotations .now in
+    omega (arith, ap length (sidBytes-all a), sidBytes-within a n (sidCount a) h)
 
 written-is : (c : tie.At-loop Inv-loop μ-loop) → c .loop .written ≡ length (sidBytes (c .before .before .before .before .args .annotations .now) (c .loop .i))
 written-is c =
-  let a = c .before .before .before .before .args in
-  placed-count (a .buf .now) (a .at) (sidBytes (a .annotations .now) (c .loop .i)) (c .loop .written) (c .loop .buf) (c .loop .inv .3) (within c (c .loop .i) (omega arith))
+    let a = c .before .before .before .before .args in
+    placed-count (a .buf .now) (a .at) (sidBytes (a .annotations .now) (c .loop .i)) (c .loop .written) (c .loop .buf) (c .loop .inv .3) (within c (c .loop .i) (omega arith))
 
 turned : (c : tie.After-slice-known2 Inv-loop μ-loop) → let l = c .before .before .before .before .before .before in let a = l .before .before .before .before .args in
     _≡_ {A = ℕ × List ℕ} (l .loop .written + c .before .before .write .result, c .before .before .write .last .0) (placed (a .buf .now) (a .at) (sidBytes (a .annotations .now) (suc (l .loop .i))))
 turned c =
-  let d = c .before .before .before .before .before .before in
-  let l = d .loop in
-  let a = d .before .before .before .before .args in
-  let s = a .annotations .now in
-  rw (sidBytes-more s (l .i))
+    let d = c .before .before .before .before .before .before in
+    let l = d .loop in
+    let a = d .before .before .before .before .args in
+    let s = a .annotations .now in
+    rw (sidBytes-more s (l .i))
     (placed-then (a .buf .now) (a .at) (sidBytes s (l .i)) (l .written) (l .buf) (l .inv .3) (varUIntBytes (sidAt s (l .i))) _ _
-      (omega (arith, within d (suc (l .i)) (omega arith), length-sidBytes-more s (l .i)))
-      (c .before .before .write .ensures ∙ ap (λ (v : ℕ). placed (l .buf) (a .at + l .written) (varUIntBytes v)) (c .before .before .before .sid-at .ensures)))
+    (omega (arith, within d (suc (l .i)) (omega arith), length-sidBytes-more s (l .i)))
+    (c .before .before .write .ensures ∙ ap (λ (v : ℕ). placed (l .buf) (a .at + l .written) (varUIntBytes v)) (c .before .before .before .sid-at .ensures)))
 
 sid-count-requires : tie.Need-sid-count-requires Inv-loop μ-loop
 sid-count-requires c κs = search needs
 
 loop-holds : tie.Need-loop-holds Inv-loop μ-loop
 loop-holds c =
-  let a = c .before .before .before .args in
-  (omega arith, c .sid-count .ensures, c .before .before .before .pre, rw (sidBytes-none (a .annotations .now)) (sym (placed-nil (a .buf .now) (a .at))))
+    let a = c .before .before .before .args in
+    (omega arith, c .sid-count .ensures, c .before .before .before .pre, rw (sidBytes-none (a .annotations .now)) (sym (placed-nil (a .buf .now) (a .at))))
 
 add-write : tie.Need-add-write Inv-loop μ-loop
 add-write c = omega (arith, written-is (c .before .before), within (c .before .before) (c .before .before .loop .i) (omega arith))
@@ -64,10 +64,10 @@ write-requires c κs = search needs
 
 add-written : tie.Need-add-written Inv-loop μ-loop
 add-written c =
-  let d = c .before .before .before .before .before .before in
-  let a = d .before .before .before .before .args in
-  let w = within d (suc (d .loop .i)) (omega arith) in
-  omega (arith, placed-count (a .buf .now) (a .at) (sidBytes (a .annotations .now) (suc (d .loop .i))) _ _ (turned c) w)
+    let d = c .before .before .before .before .before .before in
+    let a = d .before .before .before .before .args in
+    let w = within d (suc (d .loop .i)) (omega arith) in
+    omega (arith, placed-count (a .buf .now) (a .at) (sidBytes (a .annotations .now) (suc (d .loop .i))) _ _ (turned c) w)
 
 add-i : tie.Need-add-i Inv-loop μ-loop
 add-i c = omega arith
@@ -77,21 +77,21 @@ loop-less c = omega arith
 
 loop-again : tie.Need-loop-again Inv-loop μ-loop
 loop-again c =
-  let d = c .before .before .before .before .before .before in
-  (omega arith, omega arith, omega arith, rw add-one (turned c))
+    let d = c .before .before .before .before .before .before in
+    (omega arith, omega arith, omega arith, rw add-one (turned c))
 
 same-length : tie.Need-same-length Inv-loop μ-loop
 same-length c =
-  let a = c .before .before .before .before .before .args in
-  let l = c .before .loop in
-  placed-length (a .buf .now) (a .at) (sidBytes (a .annotations .now) (l .i)) (l .written) (l .buf) (l .inv .3)
+    let a = c .before .before .before .before .before .args in
+    let l = c .before .loop in
+    placed-length (a .buf .now) (a .at) (sidBytes (a .annotations .now) (l .i)) (l .written) (l .buf) (l .inv .3)
 
 returns : tie.Need-returns Inv-loop μ-loop
 returns c =
-  let a = c .before .before .before .before .before .args in
-  let l = c .before .loop in
-  let e : l .i ≡ sidCount (a .annotations .now) = omega arith in
-  l .inv .3 ∙ rw (sidBytes-all (a .annotations .now)) (ap (λ (n : ℕ). placed (a .buf .now) (a .at) (sidBytes (a .annotations .now) n)) e)
+    let a = c .before .before .before .before .before .args in
+    let l = c .before .loop in
+    let e : l .i ≡ sidCount (a .annotations .now) = omega arith in
+    l .inv .3 ∙ rw (sidBytes-all (a .annotations .now)) (ap (λ (n : ℕ). placed (a .buf .now) (a .at) (sidBytes (a .annotations .now) n)) e)
 
 pub put-sids-spec : {M : Type 1} → statement M
 put-sids-spec =

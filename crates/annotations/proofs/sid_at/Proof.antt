@@ -18,9 +18,9 @@ abbrev μ-loop : tie.MeasureT-loop
 -- what is read so far leaves room for a byte more
 below : (c : tie.In-loop Inv-loop μ-loop) → c .before .loop .sid < 256 ^ 7
 below c =
-  let s = c .before .before in
-  let l = c .before .loop in
-  rw (l .inv .1) (leastFirst-below (s .before .args .annotations .now) (λ i. omega (arith, s .shared-slice-known .given i)) _ (8 - l .k) 7 (omega arith))
+    let s = c .before .before in
+    let l = c .before .loop in
+    rw (l .inv .1) (leastFirst-below (s .before .args .annotations .now) (λ i. omega (arith, s .shared-slice-known .given i)) _ (8 - l .k) 7 (omega arith))
 
 mul-at : tie.Need-mul-at Inv-loop μ-loop
 mul-at c = omega arith
@@ -49,17 +49,17 @@ loop-less c = omega arith
 
 loop-again : tie.Need-loop-again Inv-loop μ-loop
 loop-again c =
-  let l = c .before .before .loop in
-  let a = c .before .before .before .before .args in
-  (omega arith, rw (c .byte-at .ensures .0, l .inv .1) (leastFirst-more (a .annotations .now) (8 * a .i) (l .k) (omega arith) (l .inv .0)))
+    let l = c .before .before .loop in
+    let a = c .before .before .before .before .args in
+    (omega arith, rw (c .byte-at .ensures .0, l .inv .1) (leastFirst-more (a .annotations .now) (8 * a .i) (l .k) (omega arith) (l .inv .0)))
 
 returns : tie.Need-returns Inv-loop μ-loop
 unfolding sidAt
 returns c =
-  let l = c .before .loop in
-  let a = c .before .before .before .args in
-  let e : l .k ≡ 0 = omega arith in
-  l .inv .1 ∙ rw (e, add-zero) refl
+    let l = c .before .loop in
+    let a = c .before .before .before .args in
+    let e : l .k ≡ 0 = omega arith in
+    l .inv .1 ∙ rw (e, add-zero) refl
 
 pub sid-at-spec : {M : Type 1} → statement M
 sid-at-spec =

@@ -23,9 +23,9 @@ most c n = sidBytes-most _ (λ i. omega (arith, c .before .before .shared-slice-
 
 next : (c : tie.After-encoded-size-of Inv-loop μ-loop) → c .before .before .before .loop .sum + c .encoded-size-of .result ≡ length (sidBytes (c .before .before .before .before .before .before .args .annotations .now) (suc (c .before .before .before .loop .i)))
 next c =
-  let l = c .before .before .before .loop in
-  let a = c .before .before .before .before .before .before .args .annotations .now in
-  rw (l .inv .2, c .encoded-size-of .ensures, c .before .sid-at .ensures) (sym (length-sidBytes-more a (l .i)))
+    let l = c .before .before .before .loop in
+    let a = c .before .before .before .before .before .before .args .annotations .now in
+    rw (l .inv .2, c .encoded-size-of .ensures, c .before .sid-at .ensures) (sym (length-sidBytes-more a (l .i)))
 
 sid-count-requires : tie.Need-sid-count-requires Inv-loop μ-loop
 sid-count-requires c κs = tt
@@ -53,10 +53,10 @@ loop-again c = (omega arith, omega arith, next c ∙ rw add-one refl)
 
 returns : tie.Need-returns Inv-loop μ-loop
 returns c =
-  let l = c .before .loop in
-  let a = c .before .before .before .before .args .annotations .now in
-  let e : l .i ≡ sidCount a = omega arith in
-  (l .inv .2 ∙ rw (sidBytes-all a) (ap (λ (n : ℕ). length (sidBytes a n)) e), omega (arith, most (c .before) (l .i)))
+    let l = c .before .loop in
+    let a = c .before .before .before .before .args .annotations .now in
+    let e : l .i ≡ sidCount a = omega arith in
+    (l .inv .2 ∙ rw (sidBytes-all a) (ap (λ (n : ℕ). length (sidBytes a n)) e), omega (arith, most (c .before) (l .i)))
 
 pub sids-size-spec : {M : Type 1} → statement M
 sids-size-spec =

@@ -17,16 +17,16 @@ measure-requires c κs = search needs
 returns : tie.Need-returns
 unfolding fitted
 returns c =
-  let a = c .before .before .before .args in
-  let out = annotationBytes (sidsOf (a .annotations .now)) in
-  rw (fitted, lt-leb (length out) (a .room) (omega arith)) refl
+    let a = c .before .before .before .args in
+    let out = annotationBytes (sidsOf (a .annotations .now)) in
+    rw (fitted, lt-leb (length out) (a .room) (omega arith)) refl
 
 returns-2 : tie.Need-returns-2
 unfolding fitted
 returns-2 c =
-  let a = c .before .before .before .args in
-  let out = annotationBytes (sidsOf (a .annotations .now)) in
-  rw (fitted, le-leb (length out) (a .room) (omega arith)) (c .before .measure .ensures .1)
+    let a = c .before .before .before .args in
+    let out = annotationBytes (sidsOf (a .annotations .now)) in
+    rw (fitted, le-leb (length out) (a .room) (omega arith)) (c .before .measure .ensures .1)
 
 pub size-spec : {M : Type 1} → statement M
 size-spec = tie.close (tie.spec measure-requires returns returns-2)

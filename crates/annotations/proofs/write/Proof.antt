@@ -18,16 +18,16 @@ has-room-requires c κs = search needs
 
 returns : tie.Need-returns
 returns c =
-  let a = c .before .before .before .before .before .args in
-  let h = no-room (c .before .has-room .result) (a .buf .now) _ (c .before .has-room .ensures) (c .if1 .taken) in
-  sym (placed-full (a .buf .now) (a .at) (annotationBytes (sidsOf (a .annotations .now))) (omega arith))
+    let a = c .before .before .before .before .before .args in
+    let h = no-room (c .before .has-room .result) (a .buf .now) _ (c .before .has-room .ensures) (c .if1 .taken) in
+    sym (placed-full (a .buf .now) (a .at) (annotationBytes (sidsOf (a .annotations .now))) (omega arith))
 
 put-requires : tie.Need-put-requires
 put-requires c κs =
-  let d = c .before in
-  let a = d .before .before .before .before .before .args in
-  let h = room (d .before .has-room .result) (a .buf .now) _ (d .before .has-room .ensures) (d .if1 .left) in
-  (c .before .before .before .measure .ensures .0, omega arith)
+    let d = c .before in
+    let a = d .before .before .before .before .before .args in
+    let h = room (d .before .has-room .result) (a .buf .now) _ (d .before .has-room .ensures) (d .if1 .left) in
+    (c .before .before .before .measure .ensures .0, omega arith)
 
 same-length : tie.Need-same-length
 same-length c = search needs
