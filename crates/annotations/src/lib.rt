@@ -53,7 +53,9 @@ fn sids_size(annotations: &[u8]) -> usize
     let mut sum: usize = 0;
     let mut i: usize = 0;
     while i < count {
-        sum += fields::var_uint::encoded_size_of(sid_at(annotations, i));
+        let sid = sid_at(annotations, i);
+        let size = fields::var_uint::encoded_size_of(sid);
+        sum += size;
         i += 1;
     }
     sum

@@ -72,9 +72,9 @@ int-size-none false m e = ap length (int-zero false m refl e)
 pub int-size-some : (s : Bool) (b : ℕ) (bs : List ℕ) → length (intBytes s (b ∷ bs)) ≡ length (b ∷ bs) + boolByte (leb 0x80 b)
 int-size-some s b bs = go (leb 0x80 b) refl
   where
-    go : (t : Bool) → leb 0x80 b ≡ t → length (intBytes s (b ∷ bs)) ≡ length (b ∷ bs) + boolByte t
-    go true e = ap length (int-taken b bs s (leb-true 0x80 b e)) ∙ omega arith
-    go false e = ap length (int-clear b bs s (leb-false 0x80 b e)) ∙ omega arith
+  go : (t : Bool) → leb 0x80 b ≡ t → length (intBytes s (b ∷ bs)) ≡ length (b ∷ bs) + boolByte t
+  go true e = ap length (int-taken b bs s (leb-true 0x80 b e)) ∙ omega arith
+  go false e = ap length (int-clear b bs s (leb-false 0x80 b e)) ∙ omega arith
 
 pub int-most : (s : Bool) (m : List ℕ) → length (intBytes s m) ≤ length m + 1
 int-most s [] = rw (int-size-none s [] refl) (omega (arith, boolByte-most s))

@@ -21,8 +21,8 @@ cast-result c = search needs
 
 returns : tie.Need-returns
 returns c =
-    let a = c .before .before .before .args in
-    sym (int-size-none (a .negative) (trimmed (a .magnitude .now)) (omega arith))
+  let a = c .before .before .before .args in
+  sym (int-size-none (a .negative) (trimmed (a .magnitude .now)) (omega arith))
 
 shared-slice-read-high-bit-set : tie.Need-shared-slice-read-high-bit-set
 shared-slice-read-high-bit-set c = search needs
@@ -35,17 +35,17 @@ cast-result-2 c = search needs
 
 add-result : tie.Need-add-result
 add-result c =
-    let m = c .before .before .before .before .args .magnitude .now in
-    omega (arith, boolByte-most (leb 0x80 (getD m (c .before .before .leading-zero-bytes .result) 0)))
+  let m = c .before .before .before .before .args .magnitude .now in
+  omega (arith, boolByte-most (leb 0x80 (getD m (c .before .before .leading-zero-bytes .result) 0)))
 
 returns-2 : tie.Need-returns-2
 returns-2 c =
-    let a = c .before .before .before .before .args in
-    let m = a .magnitude .now in
-    let z = c .before .before .leading-zero-bytes in
-    let t = trimmed-cons m (z .result) (omega arith) (z .ensures) in
-    let n = int-size-some (a .negative) (getD m (z .result) 0) (drop (suc (z .result)) m) in
-    rw t (omega (arith, n, ap length t))
+  let a = c .before .before .before .before .args in
+  let m = a .magnitude .now in
+  let z = c .before .before .leading-zero-bytes in
+  let t = trimmed-cons m (z .result) (omega arith) (z .ensures) in
+  let n = int-size-some (a .negative) (getD m (z .result) 0) (drop (suc (z .result)) m) in
+  rw t (omega (arith, n, ap length t))
 
 pub encoded-size-of-spec : {M : Type 1} → statement M
 encoded-size-of-spec =
