@@ -17,8 +17,8 @@ pub fn encoded_size_of(negative: bool, magnitude: &[u8]) -> usize
     if zeros == magnitude.len() {
         return negative as usize;
     }
-    let high_bit_set = SIGN <= magnitude[zeros];
-    magnitude.len() - zeros + high_bit_set as usize
+    let high_bit = magnitude[zeros] / SIGN;
+    magnitude.len() - zeros + high_bit as usize
 }
 
 // A first byte and those of `rest`.

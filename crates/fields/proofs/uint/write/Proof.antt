@@ -21,9 +21,9 @@ same-length c = search needs
 
 returns : tie.Need-returns
 returns c =
-  let d = c .before .before .before in
-  let a = d .before .before .before .args in
-  c .before .before .write-fixed .ensures ∙ ap (placed (a .buf .now) (a .at)) (sym (uint-fixed (a .value) _ (d .encoded-size-of .ensures)))
+    let d = c .before .before .before in
+    let a = d .before .before .before .args in
+    c .before .before .write-fixed .ensures ∙ ap (placed (a .buf .now) (a .at)) (sym (uint-fixed (a .value) _ (d .encoded-size-of .ensures)))
 
 pub write-spec : {M : Type 1} → statement M
 write-spec = tie.close (tie.spec encoded-size-of-requires write-fixed-requires same-length returns)
