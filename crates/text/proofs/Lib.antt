@@ -1,0 +1,3 @@
+pub mod Begun
+pub mod Bytes
+pub mod Ascii
