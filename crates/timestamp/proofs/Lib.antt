@@ -1,0 +1,3 @@
+pub mod Signed
+pub mod Calendar
+pub mod Valid
