@@ -38,3 +38,7 @@ positive (negsuc n) f e = absurd (subst T e tt)
 
 pub widened : (z : ℤ) → SFits w32 z → SFits w64 z
 widened z f = record { sfits = omega (arith, f .sfits) }
+
+pub natAbs-fits : (z : ℤ) → SFits w32 z → Fits w32 (natAbs z)
+natAbs-fits (pos n) f = record { fits = omega (arith, f .sfits) }
+natAbs-fits (negsuc n) f = record { fits = omega (arith, f .sfits) }

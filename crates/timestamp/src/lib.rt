@@ -2,14 +2,15 @@
 // The fields are local, and as wide as they come: a year of 70000 is a bad year and never cut to 4464.
 ghost use mathlib.Core.Path.{_≡_};
 ghost use mathlib.Core.Bool.{Bool, true, false, _&&_, _||_, not};
-ghost use mathlib.Core.List.{List};
+ghost use mathlib.Core.List.{List, []};
 ghost use Prim.Native.Nat.{ℕ, _+_, _-_, _*_, _/_, _%_, _^_, _≤_, _<_};
 ghost use lib.Dec.{ltb, leb, eqb};
 ghost use lib.ListN.{length};
 ghost use lib.IntN.{natAbs};
 ghost use Rattle.ion.specs.Calendar.{isLeapYear, daysInMonth, isMonth};
-ghost use Rattle.encoding.specs.Timestamp.{offsetFits, fractionFits, isTimestamp};
+ghost use Rattle.encoding.specs.Timestamp.{dayBefore, dayAfter, nearDay, utcMinutes, utcFields, utc, offsetFits, fractionFits, isTimestamp};
 ghost use Rattle.timestamp.specs.Arguments.{offsetMinutes, fractionDigits, fieldCount, fieldsOf};
+ghost use Rattle.timestamp.specs.Utc.{dateOf, withFields, utcOf};
 
 // The last field that is given. The fields below it mean nothing.
 pub enum Precision {
@@ -42,6 +43,12 @@ pub struct Timestamp {
     pub second: u32,
     pub offset: Offset,
     pub fraction: Fraction,
+}
+
+struct Date {
+    year: u32,
+    month: u32,
+    day: u32,
 }
 
 // Ten to each count of digits that a fraction may have.
@@ -131,13 +138,19 @@ fn field_count(precision: Precision) -> u32
     }
 }
 
+fn offset_magnitude(minutes: i32) -> u32
+    ensures { λ r. ⌜ r ≡ natAbs minutes ⌝ }
+{
+    magnitude(minutes as i64) as u32
+}
+
 // Unknown, or -1439 to 1439 minutes with the minute given.
 fn offset_fits(offset: Offset, fields: u32) -> bool
     ensures { λ r. ⌜ ((fs : List ℕ) → length fs ≡ fields → r ≡ offsetFits (offsetMinutes offset) fs) ⌝ }
 {
     match offset {
         Offset::Unknown => true,
-        Offset::Minutes(minutes) => (5 <= fields) & (magnitude(minutes as i64) <= 1439),
+        Offset::Minutes(minutes) => (5 <= fields) & (offset_magnitude(minutes) <= 1439),
     }
 }
 
@@ -178,4 +191,99 @@ pub fn is_valid(t: Timestamp) -> bool
                 & (((fields < 5) | ((t.hour < 24) & (t.minute < 60)))
                     & (((fields < 6) | (t.second < 60))
                         & (offset_fits(offset, fields) & fraction_fits(fraction, fields))))))
+}
+
+fn day_before(year: u32, month: u32, day: u32) -> Date
+    requires { ⌜ 1 ≤ year ⌝ }
+    ensures { λ r. ⌜ dateOf r ≡ dayBefore year month day ⌝ }
+{
+    if 1 < day {
+        return Date { year: year, month: month, day: day - 1 };
+    }
+    if 1 < month {
+        return Date { year: year, month: month - 1, day: days_in_month(year, month - 1) };
+    }
+    Date { year: year - 1, month: 12, day: 31 }
+}
+
+fn day_after(year: u32, month: u32, day: u32) -> Date
+    requires { ⌜ year ≤ 9999 ⌝ }
+    ensures { λ r. ⌜ dateOf r ≡ dayAfter year month day ⌝ }
+{
+    if day < days_in_month(year, month) {
+        return Date { year: year, month: month, day: day + 1 };
+    }
+    if month < 12 {
+        return Date { year: year, month: month + 1, day: 1 };
+    }
+    Date { year: year + 1, month: 1, day: 1 }
+}
+
+// 0 for the day before, 1 for the day itself, 2 for the day after.
+fn near_day(which: u32, year: u32, month: u32, day: u32) -> Date
+    requires { ⌜ (1 ≤ year) × (year ≤ 9999) ⌝ }
+    ensures { λ r. ⌜ dateOf r ≡ nearDay which year month day ⌝ }
+{
+    match which {
+        0 => day_before(year, month, day),
+        1 => Date { year: year, month: month, day: day },
+        _ => day_after(year, month, day),
+    }
+}
+
+// Local minus offset, in minutes from the start of the day before.
+fn utc_minutes(offset: i32, hour: u32, minute: u32) -> u32
+    requires { ⌜ (natAbs offset ≤ 1439) × (hour < 24) × (minute < 60) ⌝ }
+    ensures { λ r. ⌜ r ≡ utcMinutes offset hour minute ⌝ }
+{
+    let local = 1440 + (hour * 60 + minute);
+    let distance = offset_magnitude(offset);
+    if offset < 0 {
+        return local + distance;
+    }
+    local - distance
+}
+
+// The fields of the minute that lies so many minutes behind the start of the day before.
+fn at_minute(t: Timestamp, minutes: u32) -> Timestamp
+    requires { ⌜ (1 ≤ t .year) × (t .year ≤ 9999) ⌝ }
+    ensures { λ r. ⌜ r ≡ withFields t (utcFields minutes (t .year) (t .month) (t .day) []) ⌝ }
+{
+    let day = near_day(minutes / 1440, t.year, t.month, t.day);
+    let precision = t.precision;
+    let offset = t.offset;
+    let fraction = t.fraction;
+    Timestamp {
+        precision: precision,
+        year: day.year,
+        month: day.month,
+        day: day.day,
+        hour: minutes % 1440 / 60,
+        minute: minutes % 1440 % 60,
+        second: t.second,
+        offset: offset,
+        fraction: fraction,
+    }
+}
+
+// Of a timestamp that passes check 7.
+fn utc_of_valid(t: Timestamp) -> Timestamp
+    requires { ⌜ isTimestamp (offsetMinutes (t .offset)) (fieldsOf t) (fractionDigits (t .fraction)) ≡ true ⌝ }
+    ensures { λ r. ⌜ r ≡ withFields t (utc (offsetMinutes (t .offset)) (fieldsOf t)) ⌝ }
+{
+    let offset = t.offset;
+    match offset {
+        Offset::Unknown => t,
+        Offset::Minutes(minutes) => at_minute(t, utc_minutes(minutes, t.hour, t.minute)),
+    }
+}
+
+// The UTC fields in the place of the local ones, with the offset kept; a timestamp that does not pass check 7 stays as it is.
+pub fn to_utc(t: Timestamp) -> Timestamp
+    ensures { λ r. ⌜ r ≡ utcOf t ⌝ }
+{
+    if !is_valid(t) {
+        return t;
+    }
+    utc_of_valid(t)
 }
