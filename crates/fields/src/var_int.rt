@@ -1,0 +1,40 @@
+// VarInt: a VarUInt whose first byte holds six bits of the magnitude below the sign.
+ghost use mathlib.Core.Path.{_≡_};
+ghost use mathlib.Core.Bool.{false};
+ghost use mathlib.Core.List.{List};
+ghost use Prim.Native.Nat.{ℕ};
+ghost use lib.ListN.{length};
+ghost use Rattle.ion.specs.Value.{signed};
+ghost use Rattle.encoding.specs.Fields.{varIntBytes};
+ghost use Rattle.buffer.specs.Laid.{placed};
+
+const END_FLAG: u8 = 0x80;
+
+const SIGN: u8 = 0x40;
+
+// The bytes that a VarInt of this magnitude takes, of either sign: n of them hold 6 + 7 (n - 1) bits.
+pub fn encoded_size_of(magnitude: u64) -> usize
+    ensures { λ r. ⌜ r ≡ length (varIntBytes (signed false magnitude)) ⌝ }
+{
+    crate::bits_used(magnitude) / 7 + 1
+}
+
+// The sign and the magnitude as a VarInt. Zero keeps its sign.
+pub fn write(buf: &mut [u8], at: usize, negative: bool, magnitude: u64) -> usize
+    ensures { λ r. ⌜ _≡_ {A = ℕ × List ℕ} (r, now (buf .exit)) (placed (now (buf .entry)) at (varIntBytes (signed negative magnitude))) ⌝ }
+{
+    let size = encoded_size_of(magnitude);
+    if !buffer::has_room(buf.len(), at, size) {
+        return 0;
+    }
+    let sign = SIGN * (negative as u8);
+    let last = size - 1;
+    if last == 0 {
+        buf[at] = END_FLAG + sign + magnitude as u8;
+        return size;
+    }
+    buf[at] = sign + (magnitude >> (7 * last)) as u8;
+    crate::put_digits(buf, at + 1, last - 1, 7, magnitude >> 7);
+    buf[at + last] = END_FLAG + (magnitude % 128) as u8;
+    size
+}
