@@ -27,24 +27,19 @@ days-plain y (suc (suc (suc m))) e = refl
 pub days-none : (y m : ℕ) → 12 < m → 0 ≡ daysInMonth y m
 days-none y m h = sym (List·getD-eq-default (daysBy (cond (isLeapYear y) 29 28)) 0 {n = m} (omega arith))
 
--- each number of the list is from `least` to `most`
-abbrev between : ℕ → ℕ → List ℕ → Bool
-between least most [] = true
-between least most (x ∷ xs) = (leb least x && leb x most) && between least most xs
+-- no number of the list is above `most`
+abbrev allUpTo : ℕ → List ℕ → Bool
+allUpTo most [] = true
+allUpTo most (x ∷ xs) = leb x most && allUpTo most xs
 
-getD-between : (least most : ℕ) (xs : List ℕ) → between least most xs ≡ true → (i : ℕ) → i < length xs → (least ≤ getD xs i 0) × (getD xs i 0 ≤ most)
-getD-between least most [] e i h = absurd (omega arith)
-getD-between least most (x ∷ xs) e zero h =
-    let p = both {a = leb least x && leb x most} e in
-    let q = both {a = leb least x} (p .0) in
-    (leb-true least x (q .0), leb-true x most (q .1))
-getD-between least most (x ∷ xs) e (suc i) h = getD-between least most xs (both {a = leb least x && leb x most} e .1) i (omega arith)
+getD-upTo : (most : ℕ) (xs : List ℕ) → allUpTo most xs ≡ true → (i : ℕ) → getD xs i 0 ≤ most
+getD-upTo most [] e i = omega arith
+getD-upTo most (x ∷ xs) e zero = leb-true x most (both {a = leb x most} e .0)
+getD-upTo most (x ∷ xs) e (suc i) = getD-upTo most xs (both {a = leb x most} e .1) i
 
--- a month has 28 to 31 days
-pub days-between : (y m : ℕ) → 1 ≤ m → m ≤ 12 → (28 ≤ daysInMonth y m) × (daysInMonth y m ≤ 31)
-days-between y zero h k = absurd (omega arith)
-days-between y (suc m) h k = at (isLeapYear y)
+pub days-most : (y m : ℕ) → daysInMonth y m ≤ 31
+days-most y m = at (isLeapYear y)
   where
-  at : (leap : Bool) → (28 ≤ getD (daysBy (cond leap 29 28)) (suc m) 0) × (getD (daysBy (cond leap 29 28)) (suc m) 0 ≤ 31)
-  at true = getD-between 28 31 (31 ∷ 29 ∷ 31 ∷ 30 ∷ 31 ∷ 30 ∷ 31 ∷ 31 ∷ 30 ∷ 31 ∷ 30 ∷ 31 ∷ []) refl m (omega arith)
-  at false = getD-between 28 31 (31 ∷ 28 ∷ 31 ∷ 30 ∷ 31 ∷ 30 ∷ 31 ∷ 31 ∷ 30 ∷ 31 ∷ 30 ∷ 31 ∷ []) refl m (omega arith)
+  at : (leap : Bool) → getD (daysBy (cond leap 29 28)) m 0 ≤ 31
+  at true = getD-upTo 31 (daysBy 29) refl m
+  at false = getD-upTo 31 (daysBy 28) refl m

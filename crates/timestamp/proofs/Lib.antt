@@ -2,3 +2,6 @@ pub mod Signed
 pub mod Calendar
 pub mod Valid
 pub mod Utc
+pub mod Digits
+pub mod Bytes
+pub mod Small

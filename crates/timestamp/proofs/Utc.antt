@@ -22,7 +22,7 @@ use Rattle.timestamp.specs.declared.Offset.the-variants.{Unknown, Minute
 use Rattle.timestamp.specs.declared.Timestamp.{Timestamp}
 use Rattle.timestamp.specs.Arguments.{offsetMinutes, fractionDigits, fieldCount, fieldsBy, fieldsOf}
 use Rattle.timestamp.specs.Utc.{withFields, utcOf}
-use Rattle.timestamp.proofs.Valid.{length-fieldsBy, offsetFits-magnitude, isTimestamp-tests}
+use Rattle.timestamp.proofs.Valid.{Valid, valid, offset-known}
 
 pub utcMinutes-west : (z : ℤ) (h i : ℕ) → ltZ z (pos 0) ≡ true → 1440 + (h * 60 + i) + natAbs z ≡ utcMinutes z h i
 utcMinutes-west (pos n) h i e = absurd (omega (arith, ltb-true n 0 e))
@@ -61,37 +61,6 @@ nearDay-after zero y m d f g = absurd (f refl)
 nearDay-after (suc zero) y m d f g = absurd (g refl)
 nearDay-after (suc (suc k)) y m d f g = refl
 
--- what check 7 says where the offset is known
-pub record Known (p : Precision) (y h i : ℕ) (z : ℤ) : Type 0 where
-  pub year-least : 1 ≤ y
-  pub year-most : y ≤ 9999
-  pub has-minute : 5 ≤ fieldCount p
-  pub hour : h < 24
-  pub minute : i < 60
-  pub offset : natAbs z ≤ 1439
-
-known-by : (p : Precision) (y m d h i s : ℕ) (z : ℤ) (x : Fraction) → isTimestamp (some z) (fieldsBy p y m d h i s) x ≡ true → Known p y h i z
-known-by p y m d h i s z x e =
-    let fs = fieldsBy p y m d h i s in
-    let a = both {a = leb 1 y && leb y 9999} (isTimestamp-tests p y m d h i s (some z) x ∙ e) in
-    let years = both {a = leb 1 y} (a .0) in
-    let b = both {a = ltb (fieldCount p) 2 || isMonth m} (a .1) in
-    let c = both {a = ltb (fieldCount p) 3 || (leb 1 d && leb d (daysInMonth y m))} (b .1) in
-    let times = both {a = ltb (fieldCount p) 5 || (ltb h 24 && ltb i 60)} (c .1) in
-    let f = both {a = ltb (fieldCount p) 6 || ltb s 60} (times .1) in
-    let o = both {a = offsetFits (some z) fs} (f .1) in
-    let k = both {a = leb 5 (fieldCount p)} (offsetFits-magnitude z fs (fieldCount p) (length-fieldsBy p y m d h i s) ∙ o .0) in
-    let five : 5 ≤ fieldCount p = leb-true 5 (fieldCount p) (k .0) in
-    let time = both {a = ltb h 24} (rw (le-ltb (fieldCount p) 5 five) at (times .0)) in
-    record {
-      year-least = leb-true 1 y (years .0);
-      year-most = leb-true y 9999 (years .1);
-      has-minute = five;
-      hour = ltb-true h 24 (time .0);
-      minute = ltb-true i 60 (time .1);
-      offset = leb-true (natAbs z) 1439 (k .1);
-    }
-
 -- the second stays
 withFields-second : (t : Timestamp) (x : Date) (n : ℕ) → withFields t (fieldsAt x n []) ≡ withFields t (fieldsAt x n (t .second ∷ []))
 withFields-second t (date y m d) n = refl
@@ -113,10 +82,19 @@ withFields-same t Minute = refl
 withFields-same t Second = refl
 
 module _ (t : Timestamp) where
-  pub known : (z : ℤ) → t .offset ≡ Minutes z → isTimestamp (offsetMinutes (t .offset)) (fieldsOf t) (fractionDigits (t .fraction)) ≡ true → Known (t .precision) (t .year) (t .hour) (t .minute) z
-  known z e v =
-      known-by (t .precision) (t .year) (t .month) (t .day) (t .hour) (t .minute) (t .second) z (fractionDigits (t .fraction))
+  valid-known : (z : ℤ) → t .offset ≡ Minutes z → isTimestamp (offsetMinutes (t .offset)) (fieldsOf t) (fractionDigits (t .fraction)) ≡ true →
+      Valid (t .precision) (t .year) (t .month) (t .day) (t .hour) (t .minute) (t .second) (some z) (fractionDigits (t .fraction))
+  valid-known z e v =
+      valid (t .precision) (t .year) (t .month) (t .day) (t .hour) (t .minute) (t .second) (some z) (fractionDigits (t .fraction))
       (subst (λ (o : Offset). isTimestamp (offsetMinutes o) (fieldsOf t) (fractionDigits (t .fraction)) ≡ true) e v)
+
+  -- what check 7 tells where the offset is known
+  pub known : (z : ℤ) → t .offset ≡ Minutes z → isTimestamp (offsetMinutes (t .offset)) (fieldsOf t) (fractionDigits (t .fraction)) ≡ true →
+      (5 ≤ fieldCount (t .precision)) × (natAbs z ≤ 1439) × (1 ≤ t .year) × (t .year ≤ 9999) × (t .hour < 24) × (t .minute < 60)
+  known z e v =
+      let w = valid-known z e v in
+      let k = offset-known (t .precision) (t .year) (t .month) (t .day) (t .hour) (t .minute) (t .second) z (w .offset) in
+      (k .0, k .1, w .year .0, w .year .1, w .time (k .0) .0, w .time (k .0) .1)
 
   pub utc-known : (z : ℤ) → t .offset ≡ Minutes z → 5 ≤ fieldCount (t .precision) →
       withFields t (utcFields (utcMinutes z (t .hour) (t .minute)) (t .year) (t .month) (t .day) []) ≡ withFields t (utc (offsetMinutes (t .offset)) (fieldsOf t))

@@ -6,8 +6,8 @@ use native.Mathlib.Nat.{add-zero, zero-add}
 use mathlib.Core.Path.{_≡_, refl, sym, _∙_, ap}
 use mathlib.Core.Bool.{Bool, true, false, _&&_, _||_, and-assoc, and-true, and-false}
 use mathlib.Core.List.{List, [], _∷_}
-use mathlib.Core.Option.{Option}
-use borrow.Author.Tests.{leb-true, le-leb, eqb-true}
+use mathlib.Core.Option.{Option, some}
+use borrow.Author.Tests.{leb-true, ltb-true, le-leb, le-ltb, eqb-true}
 use lib.Dec.{leb, ltb, eqb}
 use lib.ListN.{length, getD}
 use lib.IntN.{ℤ, pos, negsuc, natAbs}
@@ -27,7 +27,7 @@ length-fieldsBy Day y m d h i s = refl
 length-fieldsBy Minute y m d h i s = refl
 length-fieldsBy Second y m d h i s = refl
 
-pub offsetFits-magnitude : (z : ℤ) (fs : List ℕ) (n : ℕ) → length fs ≡ n → (leb 5 n && leb (natAbs z) 1439) ≡ offsetFits (Option.some z) fs
+pub offsetFits-magnitude : (z : ℤ) (fs : List ℕ) (n : ℕ) → length fs ≡ n → (leb 5 n && leb (natAbs z) 1439) ≡ offsetFits (some z) fs
 offsetFits-magnitude (pos n) fs k e = rw e
 offsetFits-magnitude (negsuc n) fs k e = rw e
 
@@ -49,6 +49,45 @@ isTimestamp-tests Month y m d h i s o x = sym (simp year-first)
 isTimestamp-tests Day y m d h i s o x = sym (simp year-first (simp and-assoc))
 isTimestamp-tests Minute y m d h i s o x = sym (simp year-first (simp and-assoc))
 isTimestamp-tests Second y m d h i s o x = sym (simp year-first (simp and-assoc))
+
+-- what a timestamp that passes tells, as far as its fields go
+pub record Valid (p : Precision) (y m d h i s : ℕ) (o : Option ℤ) (x : Fraction) : Type 0 where
+  pub year : (1 ≤ y) × (y ≤ 9999)
+  pub month : 2 ≤ fieldCount p → (1 ≤ m) × (m ≤ 12)
+  pub day : 3 ≤ fieldCount p → (1 ≤ d) × (d ≤ daysInMonth y m)
+  pub time : 5 ≤ fieldCount p → (h < 24) × (i < 60)
+  pub second : 6 ≤ fieldCount p → s < 60
+  pub offset : offsetFits o (fieldsBy p y m d h i s) ≡ true
+  pub fraction : fractionFits x (fieldsBy p y m d h i s) ≡ true
+
+from-field : (k n : ℕ) (b : Bool) → (ltb n k || b) ≡ true → k ≤ n → b ≡ true
+from-field k n b e h = rw (le-ltb n k h) at e
+
+pub valid : (p : Precision) (y m d h i s : ℕ) (o : Option ℤ) (x : Fraction) → isTimestamp o (fieldsBy p y m d h i s) x ≡ true → Valid p y m d h i s o x
+valid p y m d h i s o x e =
+    let n = fieldCount p in
+    let a = both {a = leb 1 y && leb y 9999} (isTimestamp-tests p y m d h i s o x ∙ e) in
+    let ys = both {a = leb 1 y} (a .0) in
+    let b = both {a = ltb n 2 || isMonth m} (a .1) in
+    let c = both {a = ltb n 3 || (leb 1 d && leb d (daysInMonth y m))} (b .1) in
+    let f = both {a = ltb n 5 || (ltb h 24 && ltb i 60)} (c .1) in
+    let g = both {a = ltb n 6 || ltb s 60} (f .1) in
+    let r = both {a = offsetFits o (fieldsBy p y m d h i s)} (g .1) in
+    record {
+      year = (leb-true 1 y (ys .0), leb-true y 9999 (ys .1));
+      month = λ k. let q = both {a = leb 1 m} (from-field 2 n (isMonth m) (b .0) k) in (leb-true 1 m (q .0), leb-true m 12 (q .1));
+      day = λ k. let q = both {a = leb 1 d} (from-field 3 n (leb 1 d && leb d (daysInMonth y m)) (c .0) k) in (leb-true 1 d (q .0), leb-true d (daysInMonth y m) (q .1));
+      time = λ k. let q = both {a = ltb h 24} (from-field 5 n (ltb h 24 && ltb i 60) (f .0) k) in (ltb-true h 24 (q .0), ltb-true i 60 (q .1));
+      second = λ k. ltb-true s 60 (from-field 6 n (ltb s 60) (g .0) k);
+      offset = r .0;
+      fraction = r .1;
+    }
+
+-- a known offset needs the minute
+pub offset-known : (p : Precision) (y m d h i s : ℕ) (z : ℤ) → offsetFits (some z) (fieldsBy p y m d h i s) ≡ true → (5 ≤ fieldCount p) × (natAbs z ≤ 1439)
+offset-known p y m d h i s z e =
+    let k = both {a = leb 5 (fieldCount p)} (offsetFits-magnitude z (fieldsBy p y m d h i s) (fieldCount p) (length-fieldsBy p y m d h i s) ∙ e) in
+    (leb-true 5 (fieldCount p) (k .0), leb-true (natAbs z) 1439 (k .1))
 
 -- the powers of ten that 64 bits hold, up to eighteen zeros
 abbrev powers : List ℕ
