@@ -11,9 +11,10 @@ use lib.Dec.{T, leb, ltb}
 use lib.ListN.{length}
 use lib.IntN.{ℤ, pos, negsuc, natAbs}
 use lib.Signed.{ltZ}
-use Rattle.ion.specs.Value.{Fraction}
+use Rattle.ion.specs.Value.{signed, Fraction}
 use Rattle.ion.specs.Calendar.{daysInMonth, isMonth}
 use Rattle.ion.proofs.Tests.{both}
+use Rattle.encoding.specs.Fields.{signedOf}
 use Rattle.encoding.specs.Timestamp.{Date, date, dayBefore, dayAfter, nearDay, utcMinutes, fieldsAt, utcFields, utc, offsetFits, fractionFits, isTimestamp}
 use Rattle.timestamp.specs.declared.Precision.{Precision}
 use Rattle.timestamp.specs.declared.Precision.the-variants.{Year, Month, Day, Minute, Second}
@@ -31,6 +32,12 @@ utcMinutes-west (negsuc n) h i e = refl
 pub utcMinutes-east : (z : ℤ) (h i : ℕ) → ltZ z (pos 0) ≡ false → 1440 + (h * 60 + i) - natAbs z ≡ utcMinutes z h i
 utcMinutes-east (pos n) h i e = refl
 utcMinutes-east (negsuc n) h i e = absurd (false≢true (sym e))
+
+-- the sign and the magnitude of an offset
+pub signedOf-parts : (z : ℤ) → signed (ltZ z (pos 0)) (natAbs z) ≡ signedOf z
+signedOf-parts (pos zero) = refl
+signedOf-parts (pos (suc n)) = rw (le-ltb (suc n) 0 (omega arith))
+signedOf-parts (negsuc n) = refl
 
 pub dayBefore-day : (y m d : ℕ) → 1 < d → date y m (d - 1) ≡ dayBefore y m d
 unfolding dayBefore

@@ -1,7 +1,7 @@
 -- How small the numbers of a timestamp are that passed check 7 and has its UTC fields: as far as the count of its bytes goes by it.
 -- Assumes nothing.
-use Prim.Native.Nat.{ℕ, _≤_, _<_}
-use mathlib.Core.List.{List, [], _∷_, _++_}
+use Prim.Native.Nat.{ℕ, _+_, _%_, _≤_, _<_}
+use mathlib.Core.List.{List, [], _∷_, _++_, map}
 use mathlib.Core.Option.{Option, none, some}
 use lib.IntN.{ℤ, natAbs}
 use Rattle.ion.specs.Value.{Fraction, noFraction, fraction}
@@ -19,6 +19,10 @@ SmallOffset (some z) = natAbs z < 8192
 abbrev pub AllSmall : List ℕ → Type 0
 AllSmall [] = Unit {0}
 AllSmall (n ∷ ns) = (n < 128) × AllSmall ns
+
+-- the last seven bits of each, with the end flag
+abbrev pub endBytes : List ℕ → List ℕ
+endBytes ns = map (λ (n : ℕ). 0x80 + n % 128) ns
 
 -- two bytes hold the year
 abbrev pub SmallFields : List ℕ → Type 0

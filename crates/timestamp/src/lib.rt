@@ -2,15 +2,19 @@
 // The fields are local, and as wide as they come: a year of 70000 is a bad year and never cut to 4464.
 ghost use mathlib.Core.Path.{_≡_};
 ghost use mathlib.Core.Bool.{Bool, true, false, _&&_, _||_, not};
-ghost use mathlib.Core.List.{List, []};
+ghost use mathlib.Core.List.{List, [], _∷_};
 ghost use Prim.Native.Nat.{ℕ, _+_, _-_, _*_, _/_, _%_, _^_, _≤_, _<_};
 ghost use lib.Dec.{ltb, leb, eqb};
-ghost use lib.ListN.{length};
+ghost use lib.ListN.{length, take};
 ghost use lib.IntN.{natAbs};
 ghost use Rattle.ion.specs.Calendar.{isLeapYear, daysInMonth, isMonth};
-ghost use Rattle.encoding.specs.Timestamp.{dayBefore, dayAfter, nearDay, utcMinutes, utcFields, utc, offsetFits, fractionFits, isTimestamp};
+ghost use Rattle.ion.specs.Value.{signed};
+ghost use Rattle.buffer.specs.Laid.{placed};
+ghost use Rattle.encoding.specs.Fields.{varUIntBytes, signBit, varIntBytes};
+ghost use Rattle.encoding.specs.Timestamp.{offsetBytes, dayBefore, dayAfter, nearDay, utcMinutes, utcFields, utc, offsetFits, fractionFits, isTimestamp};
 ghost use Rattle.timestamp.specs.Arguments.{offsetMinutes, fractionDigits, fieldCount, fieldsOf};
 ghost use Rattle.timestamp.specs.Utc.{dateOf, withFields, utcOf};
+ghost use Rattle.timestamp.specs.Small.{SmallOffset, endBytes};
 
 // The last field that is given. The fields below it mean nothing.
 pub enum Precision {
@@ -44,6 +48,11 @@ pub struct Timestamp {
     pub offset: Offset,
     pub fraction: Fraction,
 }
+
+const END_FLAG: u8 = 0x80;
+
+// Of a VarInt.
+const SIGN: u8 = 0x40;
 
 struct Date {
     year: u32,
@@ -286,4 +295,86 @@ pub fn to_utc(t: Timestamp) -> Timestamp
         return t;
     }
     utc_of_valid(t)
+}
+
+fn put_two(buf: &mut [u8], at: usize, first: u8, second: u8) -> usize
+    ensures { λ r. ⌜ _≡_ {A = ℕ × List ℕ} (r, now (buf .exit)) (placed (now (buf .entry)) at (first ∷ second ∷ [])) ⌝ }
+{
+    if !buffer::has_room(buf.len(), at, 2) {
+        return 0;
+    }
+    buf[at] = first;
+    buf[at + 1] = second;
+    2
+}
+
+fn sign_bit(negative: bool) -> u8
+    ensures { λ r. ⌜ (r ≡ signBit negative) × (r ≤ 64) ⌝ }
+{
+    if negative {
+        return SIGN;
+    }
+    0
+}
+
+// A VarInt: one byte below 64, two below 8192.
+fn put_var_int(buf: &mut [u8], at: usize, negative: bool, magnitude: u32) -> usize
+    requires { ⌜ magnitude < 8192 ⌝ }
+    ensures { λ r. ⌜ _≡_ {A = ℕ × List ℕ} (r, now (buf .exit)) (placed (now (buf .entry)) at (varIntBytes (signed negative magnitude))) ⌝ }
+{
+    let sign = sign_bit(negative);
+    if magnitude < 64 {
+        return buffer::put(buf, at, END_FLAG + sign + magnitude as u8);
+    }
+    put_two(buf, at, sign + (magnitude / 128) as u8, END_FLAG + (magnitude % 128) as u8)
+}
+
+// Unknown is negative zero.
+fn put_offset(buf: &mut [u8], at: usize, offset: Offset) -> usize
+    requires { ⌜ SmallOffset (offsetMinutes offset) ⌝ }
+    ensures { λ r. ⌜ _≡_ {A = ℕ × List ℕ} (r, now (buf .exit)) (placed (now (buf .entry)) at (offsetBytes (offsetMinutes offset))) ⌝ }
+{
+    match offset {
+        Offset::Unknown => put_var_int(buf, at, true, 0),
+        Offset::Minutes(minutes) => put_var_int(buf, at, minutes < 0, offset_magnitude(minutes)),
+    }
+}
+
+// A VarUInt: one byte below 128, two below 16384.
+fn put_year(buf: &mut [u8], at: usize, year: u32) -> usize
+    requires { ⌜ year < 16384 ⌝ }
+    ensures { λ r. ⌜ _≡_ {A = ℕ × List ℕ} (r, now (buf .exit)) (placed (now (buf .entry)) at (varUIntBytes year)) ⌝ }
+{
+    if year < 128 {
+        return buffer::put(buf, at, END_FLAG + year as u8);
+    }
+    put_two(buf, at, (year / 128) as u8, END_FLAG + (year % 128) as u8)
+}
+
+// The first `count` of the fields from the month down, a byte each.
+fn put_small(buf: &mut [u8], at: usize, count: usize, month: u32, day: u32, hour: u32, minute: u32, second: u32) -> usize
+    requires { ⌜ (count ≤ 5) × (at + count ≤ length (now buf)) ⌝ }
+    ensures { λ r. ⌜ _≡_ {A = ℕ × List ℕ} (r, now (buf .exit)) (placed (now (buf .entry)) at (take count (endBytes (month ∷ day ∷ hour ∷ minute ∷ second ∷ [])))) ⌝ }
+{
+    if count < 1 {
+        return 0;
+    }
+    buf[at] = END_FLAG + (month % 128) as u8;
+    if count < 2 {
+        return 1;
+    }
+    buf[at + 1] = END_FLAG + (day % 128) as u8;
+    if count < 3 {
+        return 2;
+    }
+    buf[at + 2] = END_FLAG + (hour % 128) as u8;
+    if count < 4 {
+        return 3;
+    }
+    buf[at + 3] = END_FLAG + (minute % 128) as u8;
+    if count < 5 {
+        return 4;
+    }
+    buf[at + 4] = END_FLAG + (second % 128) as u8;
+    5
 }
