@@ -121,6 +121,13 @@ module _ (b : List ℕ) (at : ℕ) (xs : List ℕ) (n : ℕ) (l : List ℕ) (e :
     ap (λ (x : ℕ × List ℕ). length (x .1)) e
     ∙ ⊎-elim (λ w. ap (λ (x : ℕ × List ℕ). length (x .1)) (w .1) ∙ length-laid b at xs (w .0)) (λ w. ap (λ (x : ℕ × List ℕ). length (x .1)) (w .1)) (placed-or b at xs)
 
+  -- no more bytes are put than there are
+  pub placed-most : n ≤ length xs
+  placed-most = ⊎-elim
+    (λ w. rw (ap (λ (x : ℕ × List ℕ). x .0) (e ∙ w .1)) (omega arith))
+    (λ w. rw (ap (λ (x : ℕ × List ℕ). x .0) (e ∙ w .1)) (omega arith))
+    (placed-or b at xs)
+
   module _ (h : at + length xs ≤ length b) where
     placed-pair : _≡_ {A = ℕ × List ℕ} (n, l) (length xs, laid b at xs)
     placed-pair = e ∙ placed-fits b at xs h

@@ -118,7 +118,7 @@ bitsUsed-pos n p h = let l = leading-length 64 n h in go (l .0) (l .1) (l .2)
   go zero e u = absurd (omega arith)
   go (suc m) e u = omega arith
 
-power-power : (w k : ℕ) → (2 ^ w) ^ k ≡ 2 ^ (w * k)
+pub power-power : (w k : ℕ) → (2 ^ w) ^ k ≡ 2 ^ (w * k)
 power-power w zero = rw (pow-zero (2 ^ w), mul-zero w) refl
 power-power w (suc k) = pow-suc (2 ^ w) k ∙ rw (power-power w k, mul-suc w k) (sym (pow-add 2 (w * k) w))
 

@@ -1,2 +1,4 @@
 pub mod Digits
 pub mod Sizes
+pub mod Trimmed
+pub mod Signs

@@ -4,8 +4,6 @@ use lib.Count.{leading-le}
 use borrow.Author.Needs.{needs}
 use Rattle.fields.proofs.bits_used.Statement.{statement}
 use Rattle.fields.proofs.bits_used.Tie as tie
-use Rattle.fields.proofs.bits_used.Reads as reads
-use Rattle.fields.proofs.bits_used.Lts as lts
 
 sub-result : tie.Need-sub-result
 sub-result c = leading-le 64 (c .args .value)

@@ -13,8 +13,6 @@ use Rattle.buffer.proofs.Laid.{laid-nil, laid-cons}
 use Rattle.fields.proofs.Digits.{lowDigits-next, lowDigits-none}
 use Rattle.fields.proofs.put_digits.Statement.{statement}
 use Rattle.fields.proofs.put_digits.Tie as tie
-use Rattle.fields.proofs.put_digits.Reads as reads
-use Rattle.fields.proofs.put_digits.Lts as lts
 
 abbrev Inv-loop : tie.InvT-loop
 Inv-loop buf₀ at count bits value base i₀ rest₀ buf i rest =

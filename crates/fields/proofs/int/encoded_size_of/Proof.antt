@@ -1,41 +1,51 @@
+-- `fields::int::encoded_size_of` meets its contract: the bytes behind the leading zeros, and one more where the first of them has its top bit set.
+-- By the first byte of the trimmed magnitude. Assumes nothing.
+use mathlib.Core.Path.{_≡_, sym, _∙_, ap}
+use mathlib.Core.List.{_∷_}
+use Prim.Native.Nat.{ℕ, suc}
+use native.Mathlib.Omega.{arith}
+use lib.Dec.{leb}
+use lib.ListN.{length, drop, getD}
+use Rattle.encoding.specs.Fields.{trimmed, intBytes}
+use Rattle.fields.proofs.Trimmed.{trimmed-cons}
+use Rattle.fields.proofs.Signs.{boolByte-most, int-size-none, int-size-some}
 use borrow.Author.Needs.{needs}
 use Rattle.fields.proofs.int.encoded_size_of.Statement.{statement}
 use Rattle.fields.proofs.int.encoded_size_of.Tie as tie
-use Rattle.fields.proofs.int.encoded_size_of.Reads as reads
-use Rattle.fields.proofs.int.encoded_size_of.Lts as lts
-use Rattle.fields.proofs.uint.leading_zero_bytes.Reads as leading-zero-bytes-reads
 
--- src/int.rt:16:9
 leading-zero-bytes-requires : tie.Need-leading-zero-bytes-requires
 leading-zero-bytes-requires c κs = search needs
 
--- src/int.rt:18:16
 cast-result : tie.Need-cast-result
 cast-result c = search needs
 
--- src/int.rt:18:9
 returns : tie.Need-returns
-returns c = ?
+returns c =
+  let a = c .before .before .before .args in
+  sym (int-size-none (a .negative) (trimmed (a .magnitude .now)) (omega arith))
 
--- src/int.rt:20:32
 shared-slice-read-high-bit-set : tie.Need-shared-slice-read-high-bit-set
 shared-slice-read-high-bit-set c = search needs
 
--- src/int.rt:21:5
 sub-result : tie.Need-sub-result
 sub-result c = search needs
 
--- src/int.rt:21:31
 cast-result-2 : tie.Need-cast-result-2
 cast-result-2 c = search needs
 
--- src/int.rt:21:5
 add-result : tie.Need-add-result
-add-result c = ?
+add-result c =
+  let m = c .before .before .before .before .args .magnitude .now in
+  omega (arith, boolByte-most (leb 0x80 (getD m (c .before .before .leading-zero-bytes .result) 0)))
 
--- src/int.rt:13:1
 returns-2 : tie.Need-returns-2
-returns-2 c = ?
+returns-2 c =
+  let a = c .before .before .before .before .args in
+  let m = a .magnitude .now in
+  let z = c .before .before .leading-zero-bytes in
+  let t = trimmed-cons m (z .result) (omega arith) (z .ensures) in
+  let n = int-size-some (a .negative) (getD m (z .result) 0) (drop (suc (z .result)) m) in
+  rw t (omega (arith, n, ap length t))
 
 pub encoded-size-of-spec : {M : Type 1} → statement M
 encoded-size-of-spec =

@@ -1,99 +1,115 @@
+-- `fields::int::write` meets its contract: by the trimmed magnitude, which has no byte, or a first byte whose top bit is free or taken.
+-- By the laws of an Int's bytes. Assumes nothing.
+use mathlib.Core.Path.{_≡_, refl, sym, _∙_, ap}
+use mathlib.Core.List.{List, _∷_}
+use Prim.Native.Nat.{ℕ, suc, _+_, _-_, _*_, _≤_, _<_}
+use native.Mathlib.Omega.{arith}
+use native.Mathlib.Numerals.{add-one}
+use mathlib.Core.Bool.{Bool}
+use mir.Val.{boolByte}
+use lib.ListN.{length, take, drop, getD}
+use Rattle.encoding.specs.Fields.{trimmed, topBit, intBytes}
+use Rattle.buffer.specs.Laid.{placed}
+use Rattle.buffer.proofs.Laid.{placed-nil}
+use Rattle.fields.proofs.Trimmed.{trimmed-cons, trimmed-part, rest-part}
+use Rattle.fields.proofs.Signs.{boolByte-most, topBit-is, int-zero, int-negative-zero, int-clear, int-taken}
 use borrow.Author.Needs.{needs}
 use Rattle.fields.proofs.int.write.Statement.{statement}
 use Rattle.fields.proofs.int.write.Tie as tie
-use Rattle.fields.proofs.int.write.Reads as reads
-use Rattle.fields.proofs.int.write.Lts as lts
-use Rattle.buffer.proofs.put.Reads as put-reads
-use Rattle.fields.proofs.int.write_first.Reads as write-first-reads
-use Rattle.fields.proofs.uint.leading_zero_bytes.Reads as leading-zero-bytes-reads
 
--- src/int.rt:40:9
+-- the bytes that are put, by the first byte of the trimmed magnitude
+module _ (s : Bool) (m : List ℕ) (r : ℕ) (h : r < length m) (e : r + length (trimmed m) ≡ length m) where
+  clear : getD m r 0 < 0x80 → (0x80 * boolByte s + getD m r 0) ∷ take (length m - (r + 1)) (drop (r + 1) m) ≡ intBytes s (trimmed m)
+  clear k =
+    ap (λ (l : List ℕ). (0x80 * boolByte s + getD m r 0) ∷ l) (rest-part m (r + 1) ∙ ap (λ (n : ℕ). drop n m) (add-one r))
+    ∙ rw (trimmed-cons m r h e, topBit-is s) (sym (int-clear (getD m r 0) (drop (suc r) m) s k))
+
+  taken : 0x80 ≤ getD m r 0 → 0x80 * boolByte s ∷ take (length m - r) (drop r m) ≡ intBytes s (trimmed m)
+  taken k =
+    ap (λ (l : List ℕ). 0x80 * boolByte s ∷ l) (trimmed-part m r e)
+    ∙ rw (trimmed-cons m r h e, topBit-is s) (sym (int-taken (getD m r 0) (drop (suc r) m) s k))
+
 leading-zero-bytes-requires : tie.Need-leading-zero-bytes-requires
 leading-zero-bytes-requires c κs = search needs
 
--- src/int.rt:41:24
 cast-sign : tie.Need-cast-sign
 cast-sign c = search needs
 
--- src/int.rt:41:16
 mul-sign : tie.Need-mul-sign
-mul-sign c = ?
+mul-sign c = omega (arith, boolByte-most (c .before .before .before .args .negative))
 
--- src/int.rt:44:13
 put-requires : tie.Need-put-requires
 put-requires c κs = search needs
 
--- src/int.rt:44:13
 same-length : tie.Need-same-length
 same-length c = search needs
 
--- src/int.rt:44:13
 returns : tie.Need-returns
-returns c = ?
+returns c =
+  let t = c .before .before .before .before in
+  let a = t .before .before .before .before .before .args in
+  c .before .before .put .ensures
+  ∙ ap (placed (a .buf .now) (a .at)) (rw (topBit-is (a .negative)) (sym (int-negative-zero (a .negative) (trimmed (a .magnitude .now)) (t .if2 .taken) (omega arith))))
 
--- src/int.rt:46:9
 returns-2 : tie.Need-returns-2
-returns-2 c = ?
+returns-2 c =
+  let a = c .before .before .before .before .before .args in
+  sym (ap (placed (a .buf .now) (a .at)) (int-zero (a .negative) (trimmed (a .magnitude .now)) (c .if2 .left) (omega arith)) ∙ placed-nil (a .buf .now) (a .at))
 
--- src/int.rt:48:17
 shared-slice-read-first : tie.Need-shared-slice-read-first
 shared-slice-read-first c = search needs
 
--- src/int.rt:50:37
 add-write-first : tie.Need-add-write-first
-add-write-first c = ?
+add-write-first c = omega (arith, boolByte-most (c .before .before .before .before .before .before .before .args .negative))
 
--- src/int.rt:50:62
 add-write-first-2 : tie.Need-add-write-first-2
 add-write-first-2 c = search needs
 
--- src/int.rt:50:51
 sub-write-first : tie.Need-sub-write-first
 sub-write-first c = search needs
 
--- src/int.rt:50:51
 part-write-first-start : tie.Need-part-write-first-start
 part-write-first-start c = search needs
 
--- src/int.rt:50:51
 part-write-first-end : tie.Need-part-write-first-end
 part-write-first-end c = search needs
 
--- src/int.rt:50:9
 write-first-requires : tie.Need-write-first-requires
 write-first-requires c κs = search needs
 
--- src/int.rt:50:9
 same-length-2 : tie.Need-same-length-2
 same-length-2 c = search needs
 
--- src/int.rt:50:9
 returns-3 : tie.Need-returns-3
-returns-3 c = ?
+returns-3 c =
+  let t = c .before .before .before .before .before in
+  let a = t .before .before .before .before .before .before .args in
+  let z = t .before .before .before .leading-zero-bytes in
+  c .before .before .write-first .ensures
+  ∙ ap (placed (a .buf .now) (a .at)) (clear (a .negative) (a .magnitude .now) (z .result) (omega arith) (z .ensures) (omega arith))
 
--- src/int.rt:52:32
 sub-write-first-2 : tie.Need-sub-write-first-2
 sub-write-first-2 c = search needs
 
--- src/int.rt:52:32
 part-write-first-start-2 : tie.Need-part-write-first-start-2
 part-write-first-start-2 c = search needs
 
--- src/int.rt:52:32
 part-write-first-end-2 : tie.Need-part-write-first-end-2
 part-write-first-end-2 c = search needs
 
--- src/int.rt:52:5
 write-first-requires-2 : tie.Need-write-first-requires-2
 write-first-requires-2 c κs = search needs
 
--- src/int.rt:37:1
 same-length-3 : tie.Need-same-length-3
 same-length-3 c = search needs
 
--- src/int.rt:37:1
 returns-4 : tie.Need-returns-4
-returns-4 c = ?
+returns-4 c =
+  let t = c .before .before .before .before .before in
+  let a = t .before .before .before .before .before .before .args in
+  let z = t .before .before .before .leading-zero-bytes in
+  c .before .before .write-first2 .ensures
+  ∙ ap (placed (a .buf .now) (a .at)) (taken (a .negative) (a .magnitude .now) (z .result) (omega arith) (z .ensures) (omega arith))
 
 pub write-spec : {M : Type 1} → statement M
 write-spec =

@@ -1,47 +1,57 @@
+-- `fields::int::write_first` meets its contract: a byte, and a run behind it.
+-- By the law of two placed runs. Assumes nothing.
+use mathlib.Core.Path.{_≡_, refl, sym, _∙_, ap}
+use mathlib.Core.List.{[], _∷_}
+use Prim.Native.Nat.{ℕ, _+_, _≤_}
+use native.Mathlib.Omega.{arith}
+use lib.ListN.{length}
+use Rattle.buffer.proofs.Laid.{placed-full, placed-most, placed-then, no-room, room}
 use borrow.Author.Needs.{needs}
 use Rattle.fields.proofs.int.write_first.Statement.{statement}
 use Rattle.fields.proofs.int.write_first.Tie as tie
-use Rattle.fields.proofs.int.write_first.Reads as reads
-use Rattle.fields.proofs.int.write_first.Lts as lts
-use Rattle.buffer.proofs.copy.Reads as copy-reads
-use Rattle.buffer.proofs.has_room.Reads as has-room-reads
-use Rattle.buffer.proofs.put.Reads as put-reads
 
--- src/int.rt:28:41
 add-has-room : tie.Need-add-has-room
 add-has-room c = search needs
 
--- src/int.rt:28:9
 has-room-requires : tie.Need-has-room-requires
 has-room-requires c κs = search needs
 
--- src/int.rt:29:9
 returns : tie.Need-returns
-returns c = ?
+returns c =
+  let d = c .before in
+  let a = d .before .before .before .args in
+  let h = no-room (d .has-room .result) (a .buf .now) _ (d .has-room .ensures) (c .if1 .taken) in
+  sym (placed-full (a .buf .now) (a .at) (a .first ∷ a .rest .now) (omega arith))
 
--- src/int.rt:31:9
 put-requires : tie.Need-put-requires
 put-requires c κs = search needs
 
--- src/int.rt:32:34
 add-copy : tie.Need-add-copy
-add-copy c = ?
+add-copy c =
+  let d = c .before .before .before .before .before in
+  let a = d .before .before .before .before .args in
+  let h = room (d .before .has-room .result) (a .buf .now) _ (d .before .has-room .ensures) (d .if1 .left) in
+  omega (arith, placed-most (a .buf .now) (a .at) (a .first ∷ []) _ _ (c .before .before .before .put .ensures))
 
--- src/int.rt:32:9
 copy-requires : tie.Need-copy-requires
 copy-requires c κs = search needs
 
--- src/int.rt:33:5
 add-result : tie.Need-add-result
-add-result c = ?
+add-result c =
+  let p = c .before .before .before .before .before .before in
+  let a = p .before .before .before .before .before .before .args in
+  omega (arith, placed-most (a .buf .now) (a .at) (a .first ∷ []) _ _ (p .put .ensures), placed-most (p .put .last .0) _ (a .rest .now) _ _ (c .before .before .copy .ensures))
 
--- src/int.rt:25:1
 same-length : tie.Need-same-length
 same-length c = search needs
 
--- src/int.rt:25:1
 returns-2 : tie.Need-returns-2
-returns-2 c = ?
+returns-2 c =
+  let p = c .before .before .before .before .before .before in
+  let d = p .before .before in
+  let a = d .before .before .before .before .args in
+  let h = room (d .before .has-room .result) (a .buf .now) _ (d .before .has-room .ensures) (d .if1 .left) in
+  placed-then (a .buf .now) (a .at) (a .first ∷ []) _ _ (p .put .ensures) (a .rest .now) _ _ (omega arith) (c .before .before .copy .ensures)
 
 pub write-first-spec : {M : Type 1} → statement M
 write-first-spec =

@@ -1,41 +1,50 @@
+-- `fields::uint::leading_zero_bytes` meets its contract. The loop's invariant: what is trimmed of the bytes from `i` on is what is trimmed of all.
+-- At a byte that is not zero nothing more is trimmed. Assumes nothing.
+use mathlib.Core.Path.{_≡_, refl, sym, _∙_, ap}
+use Prim.Native.Nat.{ℕ, _+_, _-_, _≤_}
+use native.Mathlib.Omega.{arith}
+use native.Mathlib.Numerals.{add-one}
+use lib.ListN.{length, drop, length-drop, drop-of-length-le}
+use Rattle.encoding.specs.Fields.{trimmed}
+use Rattle.fields.proofs.Trimmed.{trimmed-nil, trimmed-next, trimmed-found}
 use Rattle.fields.proofs.uint.leading_zero_bytes.Statement.{statement}
 use Rattle.fields.proofs.uint.leading_zero_bytes.Tie as tie
-use Rattle.fields.proofs.uint.leading_zero_bytes.Reads as reads
-use Rattle.fields.proofs.uint.leading_zero_bytes.Lts as lts
 
 abbrev Inv-loop : tie.InvT-loop
-Inv-loop magnitude i₀ i = ?
+Inv-loop magnitude i₀ i = (i ≤ length magnitude) × (trimmed magnitude ≡ trimmed (drop i magnitude))
 
 abbrev μ-loop : tie.MeasureT-loop
-μ-loop magnitude i₀ i = ?
+μ-loop magnitude i₀ i = length magnitude - i
 
--- src/uint.rt:40:5
 loop-holds : tie.Need-loop-holds Inv-loop μ-loop
-loop-holds c = ?
+loop-holds c = (omega arith, refl)
 
--- src/uint.rt:41:12
 shared-slice-read-if1 : tie.Need-shared-slice-read-if1 Inv-loop μ-loop
-shared-slice-read-if1 c = ?
+shared-slice-read-if1 c = omega arith
 
--- src/uint.rt:42:13
 returns : tie.Need-returns Inv-loop μ-loop
-returns c = ?
+returns c =
+  let m = c .before .before .before .before .args .magnitude .now in
+  let l = c .before .before .before .loop in
+  rw (l .inv .1, trimmed-found m (l .i) (omega arith) (omega arith), length-drop (l .i) m) (omega arith)
 
--- src/uint.rt:44:9
 add-i : tie.Need-add-i Inv-loop μ-loop
-add-i c = ?
+add-i c = omega arith
 
--- src/uint.rt:40:5
 loop-less : tie.Need-loop-less Inv-loop μ-loop
-loop-less c = ?
+loop-less c = omega arith
 
--- src/uint.rt:40:5
 loop-again : tie.Need-loop-again Inv-loop μ-loop
-loop-again c = ?
+loop-again c =
+  let m = c .before .before .before .before .args .magnitude .now in
+  let l = c .before .before .before .loop in
+  (omega arith, l .inv .1 ∙ rw add-one (trimmed-next m (l .i) (omega arith) (omega arith)))
 
--- src/uint.rt:36:1
 returns-2 : tie.Need-returns-2 Inv-loop μ-loop
-returns-2 c = ?
+returns-2 c =
+  let m = c .before .before .args .magnitude .now in
+  let l = c .before .loop in
+  rw (l .inv .1, drop-of-length-le m {i = l .i} (omega arith), trimmed-nil) (omega arith)
 
 pub leading-zero-bytes-spec : {M : Type 1} → statement M
 leading-zero-bytes-spec =

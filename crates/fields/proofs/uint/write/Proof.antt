@@ -1,26 +1,29 @@
+-- `fields::uint::write` meets its contract: a UInt is as many fixed bytes as it has digits.
+-- Assumes nothing.
+use mathlib.Core.Path.{_≡_, sym, _∙_, ap}
+use Prim.Native.Nat.{ℕ}
+use Rattle.encoding.specs.Digits.{digits}
+use Rattle.encoding.specs.Fields.{uintBytes, fixedBytes}
+use Rattle.buffer.specs.Laid.{placed}
+use Rattle.fields.proofs.Sizes.{uint-fixed}
 use borrow.Author.Needs.{needs}
 use Rattle.fields.proofs.uint.write.Statement.{statement}
 use Rattle.fields.proofs.uint.write.Tie as tie
-use Rattle.fields.proofs.uint.write.Reads as reads
-use Rattle.fields.proofs.uint.write.Lts as lts
-use Rattle.fields.proofs.uint.encoded_size_of.Reads as encoded-size-of-reads
-use Rattle.fields.proofs.uint.write_fixed.Reads as write-fixed-reads
 
--- src/uint.rt:31:26
 encoded-size-of-requires : tie.Need-encoded-size-of-requires
 encoded-size-of-requires c κs = search needs
 
--- src/uint.rt:31:5
 write-fixed-requires : tie.Need-write-fixed-requires
 write-fixed-requires c κs = search needs
 
--- src/uint.rt:28:1
 same-length : tie.Need-same-length
 same-length c = search needs
 
--- src/uint.rt:28:1
 returns : tie.Need-returns
-returns c = ?
+returns c =
+  let d = c .before .before .before in
+  let a = d .before .before .before .args in
+  c .before .before .write-fixed .ensures ∙ ap (placed (a .buf .now) (a .at)) (sym (uint-fixed (a .value) _ (d .encoded-size-of .ensures)))
 
 pub write-spec : {M : Type 1} → statement M
 write-spec = tie.close (tie.spec encoded-size-of-requires write-fixed-requires same-length returns)

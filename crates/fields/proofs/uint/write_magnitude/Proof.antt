@@ -1,51 +1,53 @@
+-- `fields::uint::write_magnitude` meets its contract: the bytes behind the leading zeros are the trimmed magnitude, and zero has none.
+-- Assumes nothing.
+use mathlib.Core.Path.{_≡_, refl, sym, _∙_, ap}
+use mathlib.Core.List.{List}
+use Prim.Native.Nat.{ℕ, _+_, _<_}
+use native.Mathlib.Omega.{arith}
+use lib.ListN.{length}
+use Rattle.encoding.specs.Fields.{trimmed, orZero}
+use Rattle.buffer.specs.Laid.{placed}
+use Rattle.fields.proofs.Trimmed.{trimmed-part, orZero-none, orZero-some}
 use borrow.Author.Needs.{needs}
 use Rattle.fields.proofs.uint.write_magnitude.Statement.{statement}
 use Rattle.fields.proofs.uint.write_magnitude.Tie as tie
-use Rattle.fields.proofs.uint.write_magnitude.Reads as reads
-use Rattle.fields.proofs.uint.write_magnitude.Lts as lts
-use Rattle.buffer.proofs.copy.Reads as copy-reads
-use Rattle.buffer.proofs.put.Reads as put-reads
-use Rattle.fields.proofs.uint.leading_zero_bytes.Reads as leading-zero-bytes-reads
 
--- src/uint.rt:52:9
 leading-zero-bytes-requires : tie.Need-leading-zero-bytes-requires
 leading-zero-bytes-requires c κs = search needs
 
--- src/uint.rt:54:9
 put-requires : tie.Need-put-requires
 put-requires c κs = search needs
 
--- src/uint.rt:54:9
 same-length : tie.Need-same-length
 same-length c = search needs
 
--- src/uint.rt:54:9
 returns : tie.Need-returns
-returns c = ?
+returns c =
+  let a = c .before .before .before .before .before .before .before .before .args in
+  c .before .before .put .ensures ∙ ap (placed (a .buf .now) (a .at)) (sym (orZero-none (trimmed (a .magnitude .now)) (omega arith)))
 
--- src/uint.rt:56:27
 sub-copy : tie.Need-sub-copy
 sub-copy c = search needs
 
--- src/uint.rt:56:27
 part-copy-start : tie.Need-part-copy-start
 part-copy-start c = search needs
 
--- src/uint.rt:56:27
 part-copy-end : tie.Need-part-copy-end
 part-copy-end c = search needs
 
--- src/uint.rt:56:5
 copy-requires : tie.Need-copy-requires
 copy-requires c κs = search needs
 
--- src/uint.rt:49:1
 same-length-2 : tie.Need-same-length-2
 same-length-2 c = search needs
 
--- src/uint.rt:49:1
 returns-2 : tie.Need-returns-2
-returns-2 c = ?
+returns-2 c =
+  let a = c .before .before .before .before .before .before .before .before .before .args in
+  let m = a .magnitude .now in
+  let z = c .before .before .before .before .before .before .leading-zero-bytes in
+  c .before .before .copy .ensures
+  ∙ ap (placed (a .buf .now) (a .at)) (trimmed-part m (z .result) (z .ensures) ∙ sym (orZero-some (trimmed m) (omega arith)))
 
 pub write-magnitude-spec : {M : Type 1} → statement M
 write-magnitude-spec =

@@ -6,9 +6,6 @@ use Rattle.fields.proofs.Sizes.{varUInt-size-small, varUInt-size}
 use borrow.Author.Needs.{needs}
 use Rattle.fields.proofs.var_uint.encoded_size_of.Statement.{statement}
 use Rattle.fields.proofs.var_uint.encoded_size_of.Tie as tie
-use Rattle.fields.proofs.var_uint.encoded_size_of.Reads as reads
-use Rattle.fields.proofs.var_uint.encoded_size_of.Lts as lts
-use Rattle.fields.proofs.bits_used.Reads as bits-used-reads
 
 returns : tie.Need-returns
 returns c = let a = c .before .args in sym (varUInt-size-small (a .value) (omega arith))

@@ -14,11 +14,6 @@ use Rattle.fields.proofs.Digits.{length-lowDigits}
 use Rattle.fields.proofs.Sizes.{length-varUInt}
 use Rattle.fields.proofs.var_uint.write.Statement.{statement}
 use Rattle.fields.proofs.var_uint.write.Tie as tie
-use Rattle.fields.proofs.var_uint.write.Reads as reads
-use Rattle.fields.proofs.var_uint.write.Lts as lts
-use Rattle.buffer.proofs.has_room.Reads as has-room-reads
-use Rattle.fields.proofs.put_digits.Reads as put-digits-reads
-use Rattle.fields.proofs.var_uint.encoded_size_of.Reads as encoded-size-of-reads
 
 -- what the size is, and that there is room for it
 record Known (c : tie.Else1) : Type 0 where
