@@ -11,7 +11,7 @@ use Rattle.encoding.specs.Digits.{lowDigits, digitCount, digits}
 use Rattle.encoding.specs.Fields.{varUIntBytes, varUIntsBytes, signBit, varIntGroups, varIntBytes}
 use Rattle.buffer.specs.Laid.{laid}
 use Rattle.buffer.proofs.Laid.{laid-one, laid-snoc}
-use Rattle.timestamp.proofs.Digits.{digitCount-is, digitCount-zero}
+use Rattle.fields.proofs.Digits.{digitCount-is, digitCount-zero}
 
 digitCount-one : (n : ℕ) → 1 ≤ n → n < 128 → digitCount 128 n ≡ 1
 digitCount-one n h k = digitCount-is 128 (omega arith) 1 n k h

@@ -2,6 +2,5 @@ pub mod Signed
 pub mod Calendar
 pub mod Valid
 pub mod Utc
-pub mod Digits
 pub mod Bytes
 pub mod Small
