@@ -4,14 +4,21 @@ use Prim.Native.Nat.{ℕ, zero, suc, _+_, _-_, _*_, _/_, _%_, _^_, _≤_, _<_}
 use native.Mathlib.Omega.{arith}
 use mathlib.Core.Path.{_≡_, refl, sym, _∙_, ap}
 use mathlib.Core.Bool.{Bool, true, false}
-use mathlib.Core.List.{List, [], _∷_, _++_, map}
-use lib.ListN.{length, set}
+use mathlib.Core.List.{List, [], _∷_, _++_}
+use mir.Syntax.{w64}
+use mir.Val.{Fits, boolByte}
+use borrow.Author.Tests.{leb-true, leb-false}
+use lib.Dec.{leb}
+use lib.ListN.{length, take, set}
 use Rattle.ion.specs.Value.{signed}
 use Rattle.encoding.specs.Digits.{lowDigits, digitCount, digits}
 use Rattle.encoding.specs.Fields.{varUIntBytes, varUIntsBytes, signBit, varIntGroups, varIntBytes}
 use Rattle.buffer.specs.Laid.{laid}
 use Rattle.buffer.proofs.Laid.{laid-one, laid-snoc}
+use Rattle.ion.proofs.Tests.{by-cases}
+use Rattle.fields.proofs.Signs.{boolByte-most}
 use Rattle.fields.proofs.Digits.{digitCount-is, digitCount-zero}
+use Rattle.timestamp.specs.Small.{AllSmall, endBytes}
 
 digitCount-one : (n : ℕ) → 1 ≤ n → n < 128 → digitCount 128 n ≡ 1
 digitCount-one n h k = digitCount-is 128 (omega arith) 1 n k h
@@ -40,6 +47,33 @@ varInt-one s n h = rw (digitCount-zero 128 (n / 64) (omega arith))
 pub varInt-two : (s : Bool) (n : ℕ) → 64 ≤ n → n < 8192 → varIntBytes (signed s n) ≡ (signBit s + n / 128) ∷ (0x80 + n % 128) ∷ []
 unfolding varIntBytes varIntGroups lowDigits
 varInt-two s n h k = rw (digitCount-one (n / 64) (omega arith) (omega arith))
+
+-- ---- how many bytes
+
+pub varUInt-length : (n : ℕ) → n < 16384 → boolByte (leb 128 n) + 1 ≡ length (varUIntBytes n)
+varUInt-length n h =
+    by-cases (leb 128 n)
+    (λ e. rw (e, varUInt-two n (leb-true 128 n e) h))
+    (λ e. rw (e, varUInt-one n (leb-false 128 n e)))
+
+pub varInt-length : (s : Bool) (n : ℕ) → n < 8192 → boolByte (leb 64 n) + 1 ≡ length (varIntBytes (signed s n))
+varInt-length s n h =
+    by-cases (leb 64 n)
+    (λ e. rw (e, varInt-two s n (leb-true 64 n e) h))
+    (λ e. rw (e, varInt-one s n (leb-false 64 n e)))
+
+pub boolByte-fits : (b : Bool) → Fits w64 (boolByte b + 1)
+boolByte-fits b = record { fits = omega (arith, boolByte-most b) }
+
+-- ---- the fields from the month down
+
+pub small-bytes : (k : ℕ) (ns : List ℕ) → AllSmall (take k ns) → varUIntsBytes (take k ns) ≡ take k (endBytes ns)
+unfolding varUIntsBytes
+small-bytes zero ns h = refl
+small-bytes (suc k) [] h = refl
+small-bytes (suc k) (n ∷ ns) h =
+    let r : n % 128 ≡ n = omega (arith, h .0) in
+    rw (varUInt-one n (h .0), r, small-bytes k ns (h .1))
 
 -- ---- stores side by side
 

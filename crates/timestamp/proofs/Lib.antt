@@ -4,3 +4,5 @@ pub mod Valid
 pub mod Utc
 pub mod Bytes
 pub mod Small
+pub mod Fractions
+pub mod Body

@@ -1,7 +1,8 @@
 -- The UTC fields of a timestamp that passed check 7 are small, and they are those that its body has.
 -- By the cases of the precision and of the nearby day. Assumes nothing.
-use Prim.Native.Nat.{ℕ, zero, suc, _+_, _-_, _*_, _/_, _%_, _≤_, _<_}
+use Prim.Native.Nat.{ℕ, zero, suc, _+_, _-_, _*_, _/_, _%_, _^_, _≤_, _<_}
 use native.Mathlib.Omega.{arith}
+use native.Mathlib.Nat.{pow-le-pow-right}
 use mathlib.Core.Path.{_≡_, refl, sym, _∙_, ap, subst}
 use mathlib.Core.Bool.{Bool, true, false, _&&_}
 use mathlib.Core.List.{List, [], _∷_, _++_}
@@ -94,7 +95,10 @@ fraction-small : (x : Fraction) (fs : List ℕ) → fractionFits x fs ≡ true �
 fraction-small noFraction fs e = tt
 fraction-small (fraction k c) fs e =
     let a = both {a = leb 1 k} (both {a = eqb (length fs) 6} e .1) in
-    (leb-true 1 k (a .0), omega (arith, leb-true k 18 (both {a = leb k 18} (a .1) .0)))
+    let b = both {a = leb k 18} (a .1) in
+    let most : k ≤ 18 = leb-true k 18 (b .0) in
+    let below : 10 ^ k ≤ 10 ^ 18 = pow-le-pow-right {n = 10} (omega arith) most in
+    (leb-true 1 k (a .0), omega arith, omega (arith, ltb-true c (10 ^ k) (b .1)))
 
 -- ---- in the place of the local ones
 

@@ -1,6 +1,6 @@
 -- How small the numbers of a timestamp are that passed check 7 and has its UTC fields: as far as the count of its bytes goes by it.
 -- Assumes nothing.
-use Prim.Native.Nat.{ℕ, _+_, _%_, _≤_, _<_}
+use Prim.Native.Nat.{ℕ, _+_, _%_, _^_, _≤_, _<_}
 use mathlib.Core.List.{List, [], _∷_, _++_, map}
 use mathlib.Core.Option.{Option, none, some}
 use lib.IntN.{ℤ, natAbs}
@@ -29,10 +29,10 @@ abbrev pub SmallFields : List ℕ → Type 0
 SmallFields [] = Unit {0}
 SmallFields (y ∷ fs) = (y < 16384) × AllSmall fs
 
--- one byte holds the exponent, which is below zero
+-- one byte holds the exponent, which is below zero, and eight the coefficient with its sign
 abbrev pub SmallFraction : Fraction → Type 0
 SmallFraction noFraction = Unit {0}
-SmallFraction (fraction k c) = (1 ≤ k) × (k < 64)
+SmallFraction (fraction k c) = (1 ≤ k) × (k < 64) × (c < 2 ^ 63)
 
 pub record Small (t : Timestamp) : Type 0 where
   pub offset : SmallOffset (offsetMinutes (t .offset))

@@ -11,10 +11,10 @@ ghost use Rattle.ion.specs.Calendar.{isLeapYear, daysInMonth, isMonth};
 ghost use Rattle.ion.specs.Value.{signed};
 ghost use Rattle.buffer.specs.Laid.{placed};
 ghost use Rattle.encoding.specs.Fields.{varUIntBytes, signBit, varIntBytes};
-ghost use Rattle.encoding.specs.Timestamp.{offsetBytes, dayBefore, dayAfter, nearDay, utcMinutes, utcFields, utc, offsetFits, fractionFits, isTimestamp};
+ghost use Rattle.encoding.specs.Timestamp.{offsetBytes, fractionBytes, dayBefore, dayAfter, nearDay, utcMinutes, utcFields, utc, offsetFits, fractionFits, isTimestamp};
 ghost use Rattle.timestamp.specs.Arguments.{offsetMinutes, fractionDigits, fieldCount, fieldsOf};
 ghost use Rattle.timestamp.specs.Utc.{dateOf, withFields, utcOf};
-ghost use Rattle.timestamp.specs.Small.{SmallOffset, endBytes};
+ghost use Rattle.timestamp.specs.Small.{SmallOffset, SmallFraction, Small, endBytes, bodyOf};
 
 // The last field that is given. The fields below it mean nothing.
 pub enum Precision {
@@ -377,4 +377,69 @@ fn put_small(buf: &mut [u8], at: usize, count: usize, month: u32, day: u32, hour
     }
     buf[at + 4] = END_FLAG + (second % 128) as u8;
     5
+}
+
+// An exponent below zero in one byte, then the coefficient as an Int.
+fn put_fraction(buf: &mut [u8], at: usize, fraction: Fraction) -> usize
+    requires { ⌜ SmallFraction (fractionDigits fraction) × (at + length (fractionBytes (fractionDigits fraction)) ≤ length (now buf)) ⌝ }
+    ensures { λ r. ⌜ _≡_ {A = ℕ × List ℕ} (r, now (buf .exit)) (placed (now (buf .entry)) at (fractionBytes (fractionDigits fraction))) ⌝ }
+{
+    match fraction {
+        Fraction::None => 0,
+        Fraction::Digits(digits, coefficient) => {
+            let exponent = buffer::put(buf, at, END_FLAG + SIGN + digits as u8);
+            exponent + fields::int::write_u64(buf, at + exponent, coefficient)
+        }
+    }
+}
+
+fn offset_size(offset: Offset) -> usize
+    requires { ⌜ SmallOffset (offsetMinutes offset) ⌝ }
+    ensures { λ r. ⌜ r ≡ length (offsetBytes (offsetMinutes offset)) ⌝ }
+{
+    match offset {
+        Offset::Unknown => 1,
+        Offset::Minutes(minutes) => (64 <= offset_magnitude(minutes)) as usize + 1,
+    }
+}
+
+fn year_size(year: u32) -> usize
+    requires { ⌜ year < 16384 ⌝ }
+    ensures { λ r. ⌜ r ≡ length (varUIntBytes year) ⌝ }
+{
+    (128 <= year) as usize + 1
+}
+
+fn fraction_size(fraction: Fraction) -> usize
+    requires { ⌜ SmallFraction (fractionDigits fraction) ⌝ }
+    ensures { λ r. ⌜ r ≡ length (fractionBytes (fractionDigits fraction)) ⌝ }
+{
+    match fraction {
+        Fraction::None => 0,
+        Fraction::Digits(_, coefficient) => fields::int::encoded_size_of_u64(coefficient) + 1,
+    }
+}
+
+fn body_size(t: Timestamp) -> usize
+    requires { ⌜ Small t ⌝ }
+    ensures { λ r. ⌜ r ≡ length (bodyOf t) ⌝ }
+{
+    let precision = t.precision;
+    let offset = t.offset;
+    let fraction = t.fraction;
+    offset_size(offset) + (year_size(t.year) + (field_count(precision) as usize - 1) + fraction_size(fraction))
+}
+
+fn put_body(buf: &mut [u8], at: usize, t: Timestamp) -> usize
+    requires { ⌜ Small t × (at + length (bodyOf t) ≤ length (now buf)) ⌝ }
+    ensures { λ r. ⌜ _≡_ {A = ℕ × List ℕ} (r, now (buf .exit)) (placed (now (buf .entry)) at (bodyOf t)) ⌝ }
+{
+    let precision = t.precision;
+    let offset = t.offset;
+    let fraction = t.fraction;
+    let count = field_count(precision) as usize - 1;
+    let one = put_offset(buf, at, offset);
+    let two = one + put_year(buf, at + one, t.year);
+    let three = two + put_small(buf, at + two, count, t.month, t.day, t.hour, t.minute, t.second);
+    three + put_fraction(buf, at + three, fraction)
 }
