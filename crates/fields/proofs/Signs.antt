@@ -2,14 +2,17 @@
 -- By cases on the sign. Assumes nothing.
 use mathlib.Core.Path.{_≡_, refl, sym, _∙_, ap, subst}
 use mathlib.Core.List.{List, [], _∷_, _++_}
-use mathlib.Core.Bool.{Bool, true, false}
+use mathlib.Core.Bool.{Bool, true, false, not}
 use Prim.Native.Nat.{ℕ, zero, suc, _+_, _-_, _*_, _≤_, _<_}
 use native.Mathlib.Omega.{arith}
+use lib.IntN.{ℤ, pos, negsuc, natAbs}
+use lib.Signed.{ltZ, nonNeg}
 use mir.Val.{boolByte}
 use lib.Dec.{T, leb}
 use lib.ListN.{length}
 use borrow.Author.Tests.{lt-ltb, le-ltb, le-leb, lt-leb, leb-true, leb-false}
-use Rattle.encoding.specs.Fields.{signBit, topBit, intBytes}
+use Rattle.ion.specs.Value.{signed}
+use Rattle.encoding.specs.Fields.{signBit, signedOf, topBit, intBytes}
 
 pub signBit-is : (s : Bool) → 0x40 * boolByte s ≡ signBit s
 signBit-is true = refl
@@ -22,6 +25,16 @@ topBit-is false = refl
 pub boolByte-most : (s : Bool) → boolByte s ≤ 1
 boolByte-most true = omega arith
 boolByte-most false = omega arith
+
+-- ---- the sign and the magnitude of a number
+
+pub below-zero : (z : ℤ) → ltZ z (pos 0) ≡ not (nonNeg z)
+below-zero (pos n) = le-ltb n 0 (omega arith)
+below-zero (negsuc n) = refl
+
+pub signedOf-is : (z : ℤ) → signedOf z ≡ signed (not (nonNeg z)) (natAbs z)
+signedOf-is (pos n) = refl
+signedOf-is (negsuc n) = refl
 
 -- ---- the bytes of an Int
 

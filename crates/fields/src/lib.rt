@@ -3,6 +3,8 @@ pub mod var_uint;
 pub mod var_int;
 pub mod uint;
 pub mod int;
+pub mod sign;
+pub mod header;
 
 ghost use mathlib.Core.Path.{_≡_};
 ghost use Prim.Native.Nat.{_+_, _-_, _^_, _≤_};

@@ -1,0 +1,17 @@
+-- `fields::sign::is_negative` meets its contract: by the constructor of the number.
+-- Assumes nothing.
+use mathlib.Core.Path.{_≡_, refl}
+use mathlib.Core.Bool.{not}
+use lib.IntN.{ℤ, pos, negsuc}
+use lib.Signed.{ltZ, nonNeg}
+use mir.Syntax.{w64}
+use mir.ValLaws.{toZ-ofZ}
+use Rattle.fields.proofs.Signs.{below-zero}
+use Rattle.fields.proofs.sign.is_negative.Statement.{statement}
+use Rattle.fields.proofs.sign.is_negative.Tie as tie
+
+returns : tie.Need-returns
+returns c = rw (toZ-ofZ w64 (c .args .v) (c .fits .v)) (below-zero (c .args .v))
+
+pub is-negative-spec : {M : Type 1} → statement M
+is-negative-spec = tie.close (tie.spec returns)
