@@ -4,8 +4,9 @@ use Prim.Native.Nat.{ℕ, _+_, _%_, _^_, _≤_, _<_}
 use mathlib.Core.List.{List, [], _∷_, _++_, map}
 use mathlib.Core.Option.{Option, none, some}
 use lib.IntN.{ℤ, natAbs}
-use Rattle.ion.specs.Value.{Fraction, noFraction, fraction}
+use Rattle.ion.specs.Value.{timestampCode, Fraction, noFraction, fraction}
 use Rattle.encoding.specs.Fields.{varUIntsBytes}
+use Rattle.encoding.specs.Headers.{typeByte, framedBytes}
 use Rattle.encoding.specs.Timestamp.{offsetBytes, fractionBytes}
 use Rattle.timestamp.specs.declared.Timestamp.{Timestamp}
 use Rattle.timestamp.specs.Arguments.{offsetMinutes, fractionDigits, fieldsOf}
@@ -42,3 +43,6 @@ pub record Small (t : Timestamp) : Type 0 where
 -- the body of a timestamp whose fields are UTC
 abbrev pub bodyOf : Timestamp → List ℕ
 bodyOf t = offsetBytes (offsetMinutes (t .offset)) ++ (varUIntsBytes (fieldsOf t) ++ fractionBytes (fractionDigits (t .fraction)))
+
+abbrev pub valueOf : Timestamp → List ℕ
+valueOf t = framedBytes (typeByte timestampCode) (bodyOf t)

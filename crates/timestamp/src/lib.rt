@@ -9,12 +9,13 @@ ghost use lib.ListN.{length, take};
 ghost use lib.IntN.{natAbs};
 ghost use Rattle.ion.specs.Calendar.{isLeapYear, daysInMonth, isMonth};
 ghost use Rattle.ion.specs.Value.{signed};
-ghost use Rattle.buffer.specs.Laid.{placed};
+ghost use Rattle.buffer.specs.Laid.{placed, fitted};
 ghost use Rattle.encoding.specs.Fields.{varUIntBytes, signBit, varIntBytes};
+ghost use Rattle.encoding.specs.Argument.{checkedBytes};
 ghost use Rattle.encoding.specs.Timestamp.{offsetBytes, fractionBytes, dayBefore, dayAfter, nearDay, utcMinutes, utcFields, utc, offsetFits, fractionFits, isTimestamp};
-ghost use Rattle.timestamp.specs.Arguments.{offsetMinutes, fractionDigits, fieldCount, fieldsOf};
+ghost use Rattle.timestamp.specs.Arguments.{offsetMinutes, fractionDigits, fieldCount, fieldsOf, argumentOf};
 ghost use Rattle.timestamp.specs.Utc.{dateOf, withFields, utcOf};
-ghost use Rattle.timestamp.specs.Small.{SmallOffset, SmallFraction, Small, endBytes, bodyOf};
+ghost use Rattle.timestamp.specs.Small.{SmallOffset, SmallFraction, Small, endBytes, bodyOf, valueOf};
 
 // The last field that is given. The fields below it mean nothing.
 pub enum Precision {
@@ -48,6 +49,8 @@ pub struct Timestamp {
     pub offset: Offset,
     pub fraction: Fraction,
 }
+
+const TYPE_CODE: u8 = 0x60;
 
 const END_FLAG: u8 = 0x80;
 
@@ -85,16 +88,6 @@ const POWERS_OF_TEN: [u64; 19] = [
 
 // In a year that is no leap year.
 const DAYS_IN_MONTH: [u32; 13] = [0, 31, 28, 31, 30, 31, 30, 31, 31, 30, 31, 30, 31];
-
-// The magnitude of v; that of the least i64 is 2 to the 63.
-fn magnitude(v: i64) -> u64
-    ensures { λ r. ⌜ r ≡ natAbs v ⌝ }
-{
-    if v < 0 {
-        return (-(v + 1)) as u64 + 1;
-    }
-    v as u64
-}
 
 fn is_leap_year(year: u32) -> bool
     ensures { λ r. ⌜ r ≡ isLeapYear year ⌝ }
@@ -150,7 +143,7 @@ fn field_count(precision: Precision) -> u32
 fn offset_magnitude(minutes: i32) -> u32
     ensures { λ r. ⌜ r ≡ natAbs minutes ⌝ }
 {
-    magnitude(minutes as i64) as u32
+    fields::sign::magnitude(minutes as i64) as u32
 }
 
 // Unknown, or -1439 to 1439 minutes with the minute given.
@@ -442,4 +435,50 @@ fn put_body(buf: &mut [u8], at: usize, t: Timestamp) -> usize
     let two = one + put_year(buf, at + one, t.year);
     let three = two + put_small(buf, at + two, count, t.month, t.day, t.hour, t.minute, t.second);
     three + put_fraction(buf, at + three, fraction)
+}
+
+fn value_size(t: Timestamp) -> usize
+    requires { ⌜ Small t ⌝ }
+    ensures { λ r. ⌜ r ≡ length (valueOf t) ⌝ }
+{
+    let body = body_size(t);
+    fields::header::encoded_size_of(body) + body
+}
+
+fn put_value(buf: &mut [u8], at: usize, t: Timestamp) -> usize
+    requires { ⌜ Small t ⌝ }
+    ensures { λ r. ⌜ _≡_ {A = ℕ × List ℕ} (r, now (buf .exit)) (placed (now (buf .entry)) at (valueOf t)) ⌝ }
+{
+    let body = body_size(t);
+    let size = fields::header::encoded_size_of(body) + body;
+    if !buffer::has_room(buf.len(), at, size) {
+        return 0;
+    }
+    let header = fields::header::write(buf, at, TYPE_CODE, body);
+    header + put_body(buf, at + header, t)
+}
+
+// The bytes that t takes, header and body, where they are at most `room`; none for one that does not pass check 7.
+pub fn size(t: Timestamp, room: usize) -> usize
+    ensures { λ r. ⌜ r ≡ fitted room (checkedBytes (argumentOf t)) ⌝ }
+{
+    if !is_valid(t) {
+        return 0;
+    }
+    let size = value_size(utc_of_valid(t));
+    if room < size {
+        return 0;
+    }
+    size
+}
+
+// 6 and the length of the body; the body is the offset as a VarInt, the UTC fields as VarUInts, then any fraction as a decimal's body.
+// Nothing is put for a timestamp that does not pass check 7.
+pub fn write(buf: &mut [u8], at: usize, t: Timestamp) -> usize
+    ensures { λ r. ⌜ _≡_ {A = ℕ × List ℕ} (r, now (buf .exit)) (placed (now (buf .entry)) at (checkedBytes (argumentOf t))) ⌝ }
+{
+    if !is_valid(t) {
+        return 0;
+    }
+    put_value(buf, at, utc_of_valid(t))
 }
