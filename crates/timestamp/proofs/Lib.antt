@@ -6,3 +6,4 @@ pub mod Bytes
 pub mod Small
 pub mod Fractions
 pub mod Body
+pub mod Checked

@@ -1,26 +1,25 @@
+-- `timestamp::value_size` meets its contract: header and body.
+-- Assumes nothing.
+use Rattle.timestamp.proofs.Checked.{value-length, value-fits}
 use borrow.Author.Needs.{needs}
 use Rattle.timestamp.proofs.value_size.Statement.{statement}
 use Rattle.timestamp.proofs.value_size.Tie as tie
-use Rattle.timestamp.proofs.value_size.Reads as reads
-use Rattle.timestamp.proofs.value_size.Lts as lts
-use Rattle.fields.proofs.header.encoded_size_of.Reads as encoded-size-of-reads
-use Rattle.timestamp.proofs.body_size.Reads as body-size-reads
 
--- src/lib.rt:444:9
 body-size-requires : tie.Need-body-size-requires
 body-size-requires c κs = search needs
 
--- src/lib.rt:445:5
 encoded-size-of-requires : tie.Need-encoded-size-of-requires
 encoded-size-of-requires c κs = search needs
 
--- src/lib.rt:445:5
 add-result : tie.Need-add-result
-add-result c = ?
+add-result c =
+    let s = c .before .before in
+    value-fits (s .args .t) (s .pre) (c .before .body-size .result) (c .before .body-size .ensures) (c .encoded-size-of .result) (c .encoded-size-of .ensures)
 
--- src/lib.rt:440:1
 returns : tie.Need-returns
-returns c = ?
+returns c =
+    let s = c .before .before in
+    value-length (s .args .t) (s .pre) (c .before .body-size .result) (c .before .body-size .ensures) (c .encoded-size-of .result) (c .encoded-size-of .ensures)
 
 pub value-size-spec : {M : Type 1} → statement M
 value-size-spec =
