@@ -166,7 +166,7 @@ fn fit(size: usize, room: usize) -> usize
 
 // Of a body with its header.
 fn framed_size(body: usize, room: usize) -> usize
-    requires { ⌜ body < 2 ^ 63 ⌝ }
+    requires { ⌜ body ≤ 2 ^ 63 ⌝ }
     ensures { λ r. ⌜ ((t : ℕ) (bytes : List ℕ) → length bytes ≡ body → r ≡ fitted room (framedBytes t bytes)) ⌝ }
 {
     fit(fields::header::encoded_size_of(body) + body, room)

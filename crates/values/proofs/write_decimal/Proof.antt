@@ -1,9 +1,13 @@
 -- `values::write_decimal` meets its contract: the decimal, or an annotated value of it.
 -- By the law of the annotated path. Assumes nothing.
-use mathlib.Core.Path.{_≡_}
+use mathlib.Core.Path.{_≡_, subst}
 use Prim.Native.Nat.{ℕ, _+_, _<_}
 use native.Mathlib.Omega.{arith}
+use lib.IntN.{ℤ}
 use lib.ListN.{length}
+use mir.Syntax.{w64}
+use mir.Val.{ofZ, toZ}
+use mir.ValLaws.{toZ-ofZ}
 use Rattle.encoding.specs.Argument.{checkedBytes, writeDecimal}
 use Rattle.annotations.specs.Sids.{sidsOf}
 use Rattle.values.specs.Values.{annotatedChecked}
@@ -12,13 +16,28 @@ use borrow.Author.Needs.{needs}
 use Rattle.values.proofs.write_decimal.Statement.{statement}
 use Rattle.values.proofs.write_decimal.Tie as tie
 
+-- the exponent as the calls read it: from its bits
+read : tie.Start → ℤ
+read s = toZ w64 (ofZ w64 (s .args .exponent))
+
+same : (s : tie.Start) → read s ≡ s .args .exponent
+unfolding read
+same s = toZ-ofZ w64 (s .args .exponent) (s .fits .exponent)
+
 path : (d : tie.After-write-wrapper) →
-    let a = d .before .before .before .before .before .before .before .args in
-    let v = writeDecimal (a .negative) (a .coefficient .now) (a .exponent) in
-    Wrapped (a .buf .now) (a .at) (checkedBytes v) (annotatedChecked (sidsOf (a .annotations .now)) v) (d .write-wrapper .result) (d .write-wrapper .last .0)
+    let s = d .before .before .before .before .before .before .before in
+    let a = s .args in
+    Wrapped (a .buf .now) (a .at) (checkedBytes (writeDecimal (a .negative) (a .coefficient .now) (read s)))
+    (annotatedChecked (sidsOf (a .annotations .now)) (writeDecimal (a .negative) (a .coefficient .now) (a .exponent))) (d .write-wrapper .result) (d .write-wrapper .last .0)
+unfolding read
 path d =
-  let a = d .before .before .before .before .before .before .before .args in
-  wrapped-scalar (a .buf .now) (a .at) (a .annotations .now) (writeDecimal (a .negative) (a .coefficient .now) (a .exponent)) (omega arith) _ (d .before .size .ensures) _ _ (d .write-wrapper .ensures)
+  let s = d .before .before .before .before .before .before .before in
+  let a = s .args in
+  let v = writeDecimal (a .negative) (a .coefficient .now) (read s) in
+  subst
+  (λ (e : ℤ). Wrapped (a .buf .now) (a .at) (checkedBytes v) (annotatedChecked (sidsOf (a .annotations .now)) (writeDecimal (a .negative) (a .coefficient .now) e)) (d .write-wrapper .result) (d .write-wrapper .last .0))
+  (same s)
+  (wrapped-scalar (a .buf .now) (a .at) (a .annotations .now) v (omega arith) _ (d .before .size .ensures) _ _ (d .write-wrapper .ensures))
 
 write-requires : tie.Need-write-requires
 write-requires c κs = search needs
@@ -27,9 +46,11 @@ same-length : tie.Need-same-length
 same-length c = search needs
 
 returns : tie.Need-returns
+unfolding read
 returns c =
-  let a = c .before .before .before .before .before .before .before .before .args in
-  unannotated (a .buf .now) (a .at) (a .annotations .now) (writeDecimal (a .negative) (a .coefficient .now) (a .exponent)) (c .before .before .before .before .if1 .taken) _ _ (c .before .before .write .ensures)
+  let s = c .before .before .before .before .before .before .before .before in
+  let a = s .args in
+  rw (← (same s)) (unannotated (a .buf .now) (a .at) (a .annotations .now) (writeDecimal (a .negative) (a .coefficient .now) (read s)) (c .before .before .before .before .if1 .taken) _ _ (c .before .before .write .ensures))
 
 size-requires : tie.Need-size-requires
 size-requires c κs = search needs
@@ -50,12 +71,14 @@ write-requires-2 : tie.Need-write-requires-2
 write-requires-2 c κs = search needs
 
 add-result : tie.Need-add-result
+unfolding read
 add-result c = omega (arith, path (c .before .before .before .before .before .before .before) .count (omega arith) _ _ (c .before .before .write2 .ensures))
 
 same-length-3 : tie.Need-same-length-3
 same-length-3 c = search needs
 
 returns-3 : tie.Need-returns-3
+unfolding read
 returns-3 c = path (c .before .before .before .before .before .before .before) .behind (omega arith) _ _ (c .before .before .write2 .ensures)
 
 pub write-decimal-spec : {M : Type 1} → statement M
