@@ -1,0 +1,73 @@
+// Decimals: document 01's module binary/decimal. The body is the exponent as a VarInt, then the coefficient as an Int; positive zero with exponent 0 has no body.
+// The coefficient is a sign and a big-endian magnitude, whose leading zero bytes do not count.
+ghost use mathlib.Core.Path.{_≡_};
+ghost use mathlib.Core.List.{List};
+ghost use Prim.Native.Nat.{ℕ, _+_, _≤_, min};
+ghost use lib.ListN.{length};
+ghost use Rattle.buffer.specs.Laid.{placed, fitted};
+ghost use Rattle.encoding.specs.Decimal.{decimalBody};
+ghost use Rattle.encoding.specs.Argument.{writeDecimal, checkedBytes};
+
+const TYPE_CODE: u8 = 0x50;
+
+// Document 01's limit of a body: check 8.
+const MAX_BODY: usize = 32;
+
+// The length of the body, or 33 for one that is over 32 bytes.
+pub fn body_size(negative: bool, magnitude: &[u8], exponent: i64) -> usize
+    ensures { λ r. ⌜ r ≡ min 33 (length (decimalBody negative (now (magnitude .entry)) exponent)) ⌝ }
+{
+    let coefficient = fields::int::encoded_size_of(negative, magnitude);
+    let distance = fields::sign::magnitude(exponent);
+    if (coefficient == 0) & (distance == 0) {
+        return 0;
+    }
+    let size = fields::var_int::encoded_size_of(distance) + coefficient;
+    if MAX_BODY < size {
+        return MAX_BODY + 1;
+    }
+    size
+}
+
+// The bytes that the decimal takes, header and body, where they are at most `room`; none where its body is over 32 bytes.
+pub fn size(negative: bool, magnitude: &[u8], exponent: i64, room: usize) -> usize
+    ensures { λ r. ⌜ r ≡ fitted room (checkedBytes (writeDecimal negative (now (magnitude .entry)) exponent)) ⌝ }
+{
+    let body = body_size(negative, magnitude, exponent);
+    if MAX_BODY < body {
+        return 0;
+    }
+    let size = fields::header::encoded_size_of(body) + body;
+    if room < size {
+        return 0;
+    }
+    size
+}
+
+// Given the length of the body.
+fn put_body(buf: &mut [u8], at: usize, body: usize, negative: bool, magnitude: &[u8], exponent: i64) -> usize
+    requires { ⌜ (body ≡ length (decimalBody negative (now magnitude) exponent)) × (at + body ≤ length (now buf)) ⌝ }
+    ensures { λ r. ⌜ _≡_ {A = ℕ × List ℕ} (r, now (buf .exit)) (placed (now (buf .entry)) at (decimalBody negative (now (magnitude .entry)) exponent)) ⌝ }
+{
+    if body == 0 {
+        return 0;
+    }
+    let one = fields::var_int::write(buf, at, fields::sign::is_negative(exponent), fields::sign::magnitude(exponent));
+    one + fields::int::write(buf, at + one, negative, magnitude)
+}
+
+// 5 and the length of the body, then the body. Nothing is put where the body is over 32 bytes.
+pub fn write(buf: &mut [u8], at: usize, negative: bool, magnitude: &[u8], exponent: i64) -> usize
+    ensures { λ r. ⌜ _≡_ {A = ℕ × List ℕ} (r, now (buf .exit)) (placed (now (buf .entry)) at (checkedBytes (writeDecimal negative (now (magnitude .entry)) exponent))) ⌝ }
+{
+    let body = body_size(negative, magnitude, exponent);
+    if MAX_BODY < body {
+        return 0;
+    }
+    let size = fields::header::encoded_size_of(body) + body;
+    if !buffer::has_room(buf.len(), at, size) {
+        return 0;
+    }
+    let header = fields::header::write(buf, at, TYPE_CODE, body);
+    header + put_body(buf, at + header, body, negative, magnitude, exponent)
+}

@@ -1,0 +1,119 @@
+-- Local minus offset, and the day that it falls on.
+-- Assumes nothing.
+use Prim.Native.Nat.{ℕ, zero, suc, _+_, _-_, _*_, _/_, _≤_, _<_}
+use native.Mathlib.Omega.{arith}
+use mathlib.Core.Path.{_≡_, refl, sym, _∙_, ap, subst}
+use mathlib.Core.Bool.{Bool, true, false, false≢true, _&&_, _||_}
+use mathlib.Core.List.{List, [], _∷_}
+use mathlib.Core.Option.{Option, none, some}
+use borrow.Author.Tests.{ltb-true, leb-true, lt-ltb, le-ltb}
+use lib.Dec.{T, leb, ltb}
+use lib.ListN.{length}
+use lib.IntN.{ℤ, pos, negsuc, natAbs}
+use lib.Signed.{ltZ}
+use Rattle.ion.specs.Value.{signed, Fraction}
+use Rattle.ion.specs.Calendar.{daysInMonth, isMonth}
+use Rattle.ion.proofs.Tests.{both}
+use Rattle.encoding.specs.Fields.{signedOf}
+use Rattle.encoding.specs.Timestamp.{Date, date, dayBefore, dayAfter, nearDay, utcMinutes, fieldsAt, utcFields, utc, offsetFits, fractionFits, isTimestamp}
+use Rattle.timestamp.specs.declared.Precision.{Precision}
+use Rattle.timestamp.specs.declared.Precision.the-variants.{Year, Month, Day, Minute, Second}
+use Rattle.timestamp.specs.declared.Offset.{Offset}
+use Rattle.timestamp.specs.declared.Offset.the-variants.{Unknown, Minutes}
+use Rattle.timestamp.specs.declared.Timestamp.{Timestamp}
+use Rattle.timestamp.specs.Arguments.{offsetMinutes, fractionDigits, fieldCount, fieldsBy, fieldsOf}
+use Rattle.timestamp.specs.Utc.{withFields, utcOf}
+use Rattle.timestamp.proofs.Valid.{Valid, valid, offset-known}
+
+pub utcMinutes-west : (z : ℤ) (h i : ℕ) → ltZ z (pos 0) ≡ true → 1440 + (h * 60 + i) + natAbs z ≡ utcMinutes z h i
+utcMinutes-west (pos n) h i e = absurd (omega (arith, ltb-true n 0 e))
+utcMinutes-west (negsuc n) h i e = refl
+
+pub utcMinutes-east : (z : ℤ) (h i : ℕ) → ltZ z (pos 0) ≡ false → 1440 + (h * 60 + i) - natAbs z ≡ utcMinutes z h i
+utcMinutes-east (pos n) h i e = refl
+utcMinutes-east (negsuc n) h i e = absurd (false≢true (sym e))
+
+-- the sign and the magnitude of an offset
+pub signedOf-parts : (z : ℤ) → signed (ltZ z (pos 0)) (natAbs z) ≡ signedOf z
+signedOf-parts (pos zero) = refl
+signedOf-parts (pos (suc n)) = rw (le-ltb (suc n) 0 (omega arith))
+signedOf-parts (negsuc n) = refl
+
+pub dayBefore-day : (y m d : ℕ) → 1 < d → date y m (d - 1) ≡ dayBefore y m d
+unfolding dayBefore
+dayBefore-day y m d h = rw (lt-ltb 1 d h, dayBefore)
+
+pub dayBefore-month : (y m d : ℕ) → d ≤ 1 → 1 < m → date y (m - 1) (daysInMonth y (m - 1)) ≡ dayBefore y m d
+unfolding dayBefore
+dayBefore-month y m d h k = rw (le-ltb 1 d h, lt-ltb 1 m k, dayBefore)
+
+pub dayBefore-year : (y m d : ℕ) → d ≤ 1 → m ≤ 1 → date (y - 1) 12 31 ≡ dayBefore y m d
+unfolding dayBefore
+dayBefore-year y m d h k = rw (le-ltb 1 d h, le-ltb 1 m k, dayBefore)
+
+pub dayAfter-day : (y m d : ℕ) → d < daysInMonth y m → date y m (d + 1) ≡ dayAfter y m d
+unfolding dayAfter
+dayAfter-day y m d h = rw (lt-ltb d (daysInMonth y m) h, dayAfter)
+
+pub dayAfter-month : (y m d : ℕ) → daysInMonth y m ≤ d → m < 12 → date y (m + 1) 1 ≡ dayAfter y m d
+unfolding dayAfter
+dayAfter-month y m d h k = rw (le-ltb d (daysInMonth y m) h, lt-ltb m 12 k, dayAfter)
+
+pub dayAfter-year : (y m d : ℕ) → daysInMonth y m ≤ d → 12 ≤ m → date (y + 1) 1 1 ≡ dayAfter y m d
+unfolding dayAfter
+dayAfter-year y m d h k = rw (le-ltb d (daysInMonth y m) h, le-ltb m 12 k, dayAfter)
+
+pub nearDay-after : (k y m d : ℕ) → (k ≡ 0 → ⊥) → (k ≡ 1 → ⊥) → dayAfter y m d ≡ nearDay k y m d
+nearDay-after zero y m d f g = absurd (f refl)
+nearDay-after (suc zero) y m d f g = absurd (g refl)
+nearDay-after (suc (suc k)) y m d f g = refl
+
+-- the second stays
+withFields-second : (t : Timestamp) (x : Date) (n : ℕ) → withFields t (fieldsAt x n []) ≡ withFields t (fieldsAt x n (t .second ∷ []))
+withFields-second t (date y m d) n = refl
+
+utc-at-minute : (t : Timestamp) (p : Precision) (z : ℤ) → 5 ≤ fieldCount p →
+    withFields t (utcFields (utcMinutes z (t .hour) (t .minute)) (t .year) (t .month) (t .day) [])
+    ≡ withFields t (utc (some z) (fieldsBy p (t .year) (t .month) (t .day) (t .hour) (t .minute) (t .second)))
+utc-at-minute t Year z h = absurd (omega arith)
+utc-at-minute t Month z h = absurd (omega arith)
+utc-at-minute t Day z h = absurd (omega arith)
+utc-at-minute t Minute z h = refl
+utc-at-minute t Second z h = withFields-second t (nearDay (utcMinutes z (t .hour) (t .minute) / 1440) (t .year) (t .month) (t .day)) (utcMinutes z (t .hour) (t .minute))
+
+withFields-same : (t : Timestamp) (p : Precision) → t ≡ withFields t (fieldsBy p (t .year) (t .month) (t .day) (t .hour) (t .minute) (t .second))
+withFields-same t Year = refl
+withFields-same t Month = refl
+withFields-same t Day = refl
+withFields-same t Minute = refl
+withFields-same t Second = refl
+
+module _ (t : Timestamp) where
+  valid-known : (z : ℤ) → t .offset ≡ Minutes z → isTimestamp (offsetMinutes (t .offset)) (fieldsOf t) (fractionDigits (t .fraction)) ≡ true →
+      Valid (t .precision) (t .year) (t .month) (t .day) (t .hour) (t .minute) (t .second) (some z) (fractionDigits (t .fraction))
+  valid-known z e v =
+      valid (t .precision) (t .year) (t .month) (t .day) (t .hour) (t .minute) (t .second) (some z) (fractionDigits (t .fraction))
+      (subst (λ (o : Offset). isTimestamp (offsetMinutes o) (fieldsOf t) (fractionDigits (t .fraction)) ≡ true) e v)
+
+  -- what check 7 tells where the offset is known
+  pub known : (z : ℤ) → t .offset ≡ Minutes z → isTimestamp (offsetMinutes (t .offset)) (fieldsOf t) (fractionDigits (t .fraction)) ≡ true →
+      (5 ≤ fieldCount (t .precision)) × (natAbs z ≤ 1439) × (1 ≤ t .year) × (t .year ≤ 9999) × (t .hour < 24) × (t .minute < 60)
+  known z e v =
+      let w = valid-known z e v in
+      let k = offset-known (t .precision) (t .year) (t .month) (t .day) (t .hour) (t .minute) (t .second) z (w .offset) in
+      (k .0, k .1, w .year .0, w .year .1, w .time (k .0) .0, w .time (k .0) .1)
+
+  pub utc-known : (z : ℤ) → t .offset ≡ Minutes z → 5 ≤ fieldCount (t .precision) →
+      withFields t (utcFields (utcMinutes z (t .hour) (t .minute)) (t .year) (t .month) (t .day) []) ≡ withFields t (utc (offsetMinutes (t .offset)) (fieldsOf t))
+  utc-known z e h = utc-at-minute t (t .precision) z h ∙ ap (λ (o : Offset). withFields t (utc (offsetMinutes o) (fieldsOf t))) (sym e)
+
+  pub utc-unknown : t .offset ≡ Unknown → t ≡ withFields t (utc (offsetMinutes (t .offset)) (fieldsOf t))
+  utc-unknown e = withFields-same t (t .precision) ∙ ap (λ (o : Offset). withFields t (utc (offsetMinutes o) (fieldsOf t))) (sym e)
+
+  pub utcOf-valid : isTimestamp (offsetMinutes (t .offset)) (fieldsOf t) (fractionDigits (t .fraction)) ≡ true → withFields t (utc (offsetMinutes (t .offset)) (fieldsOf t)) ≡ utcOf t
+  unfolding utcOf
+  utcOf-valid e = rw (e, utcOf)
+
+  pub utcOf-other : isTimestamp (offsetMinutes (t .offset)) (fieldsOf t) (fractionDigits (t .fraction)) ≡ false → t ≡ utcOf t
+  unfolding utcOf
+  utcOf-other e = rw (e, utcOf)

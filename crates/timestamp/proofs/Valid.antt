@@ -1,0 +1,111 @@
+-- Check 7, put together from its parts.
+-- Assumes nothing.
+use Prim.Native.Nat.{ℕ, zero, suc, _+_, _^_, _≤_, _<_}
+use native.Mathlib.Omega.{arith}
+use native.Mathlib.Nat.{add-zero, zero-add}
+use mathlib.Core.Path.{_≡_, refl, sym, _∙_, ap}
+use mathlib.Core.Bool.{Bool, true, false, _&&_, _||_, and-assoc, and-true, and-false}
+use mathlib.Core.List.{List, [], _∷_}
+use mathlib.Core.Option.{Option, some}
+use borrow.Author.Tests.{leb-true, ltb-true, le-leb, le-ltb, eqb-true}
+use lib.Dec.{leb, ltb, eqb}
+use lib.ListN.{length, getD}
+use lib.IntN.{ℤ, pos, negsuc, natAbs}
+use Rattle.ion.specs.Value.{Fraction}
+use Rattle.ion.specs.Calendar.{daysInMonth, isMonth}
+use Rattle.ion.specs.Scalars.{isYear, areFields}
+use Rattle.ion.proofs.Tests.{both}
+use Rattle.encoding.specs.Timestamp.{offsetFits, fractionFits, isTimestamp}
+use Rattle.timestamp.specs.declared.Precision.{Precision}
+use Rattle.timestamp.specs.declared.Precision.the-variants.{Year, Month, Day, Minute, Second}
+use Rattle.timestamp.specs.Arguments.{fieldCount, fieldsBy}
+
+pub length-fieldsBy : (p : Precision) (y m d h i s : ℕ) → length (fieldsBy p y m d h i s) ≡ fieldCount p
+length-fieldsBy Year y m d h i s = refl
+length-fieldsBy Month y m d h i s = refl
+length-fieldsBy Day y m d h i s = refl
+length-fieldsBy Minute y m d h i s = refl
+length-fieldsBy Second y m d h i s = refl
+
+pub offsetFits-magnitude : (z : ℤ) (fs : List ℕ) (n : ℕ) → length fs ≡ n → (leb 5 n && leb (natAbs z) 1439) ≡ offsetFits (some z) fs
+offsetFits-magnitude (pos n) fs k e = rw e
+offsetFits-magnitude (negsuc n) fs k e = rw e
+
+-- a year that the writer takes is one that the grammar has
+year-first : (y : ℕ) (b c : Bool) → ((isYear y && b) && ((leb 1 y && leb y 9999) && c)) ≡ ((leb 1 y && leb y 9999) && (b && c))
+year-first y b c = at (leb 1 y && leb y 9999) (isYear y) (λ e. le-leb y 10000 (omega (arith, leb-true y 9999 (both {a = leb 1 y} e .1))))
+  where
+  at : (l a : Bool) → (l ≡ true → a ≡ true) → ((a && b) && (l && c)) ≡ (l && (b && c))
+  at true a h = rw (h refl)
+  at false a h = and-false (a && b)
+
+-- the tests from the year down, each where the count of fields reaches it
+pub isTimestamp-tests : (p : Precision) (y m d h i s : ℕ) (o : Option ℤ) (x : Fraction) →
+    ((leb 1 y && leb y 9999) && ((ltb (fieldCount p) 2 || isMonth m) && ((ltb (fieldCount p) 3 || (leb 1 d && leb d (daysInMonth y m))) && ((ltb (fieldCount p) 5 || (ltb h 24 && ltb i 60)) && ((ltb (fieldCount p) 6 || ltb s 60) && (offsetFits o (fieldsBy p y m d h i s) && fractionFits x (fieldsBy p y m d h i s)))))))
+    ≡ isTimestamp o (fieldsBy p y m d h i s) x
+unfolding isTimestamp areFields
+isTimestamp-tests Year y m d h i s o x = sym (rw (← and-true (isYear y)) (simp year-first))
+isTimestamp-tests Month y m d h i s o x = sym (simp year-first)
+isTimestamp-tests Day y m d h i s o x = sym (simp year-first (simp and-assoc))
+isTimestamp-tests Minute y m d h i s o x = sym (simp year-first (simp and-assoc))
+isTimestamp-tests Second y m d h i s o x = sym (simp year-first (simp and-assoc))
+
+-- what a timestamp that passes tells, as far as its fields go
+pub record Valid (p : Precision) (y m d h i s : ℕ) (o : Option ℤ) (x : Fraction) : Type 0 where
+  pub year : (1 ≤ y) × (y ≤ 9999)
+  pub month : 2 ≤ fieldCount p → (1 ≤ m) × (m ≤ 12)
+  pub day : 3 ≤ fieldCount p → (1 ≤ d) × (d ≤ daysInMonth y m)
+  pub time : 5 ≤ fieldCount p → (h < 24) × (i < 60)
+  pub second : 6 ≤ fieldCount p → s < 60
+  pub offset : offsetFits o (fieldsBy p y m d h i s) ≡ true
+  pub fraction : fractionFits x (fieldsBy p y m d h i s) ≡ true
+
+from-field : (k n : ℕ) (b : Bool) → (ltb n k || b) ≡ true → k ≤ n → b ≡ true
+from-field k n b e h = rw (le-ltb n k h) at e
+
+pub valid : (p : Precision) (y m d h i s : ℕ) (o : Option ℤ) (x : Fraction) → isTimestamp o (fieldsBy p y m d h i s) x ≡ true → Valid p y m d h i s o x
+valid p y m d h i s o x e =
+    let n = fieldCount p in
+    let a = both {a = leb 1 y && leb y 9999} (isTimestamp-tests p y m d h i s o x ∙ e) in
+    let ys = both {a = leb 1 y} (a .0) in
+    let b = both {a = ltb n 2 || isMonth m} (a .1) in
+    let c = both {a = ltb n 3 || (leb 1 d && leb d (daysInMonth y m))} (b .1) in
+    let f = both {a = ltb n 5 || (ltb h 24 && ltb i 60)} (c .1) in
+    let g = both {a = ltb n 6 || ltb s 60} (f .1) in
+    let r = both {a = offsetFits o (fieldsBy p y m d h i s)} (g .1) in
+    record {
+      year = (leb-true 1 y (ys .0), leb-true y 9999 (ys .1));
+      month = λ k. let q = both {a = leb 1 m} (from-field 2 n (isMonth m) (b .0) k) in (leb-true 1 m (q .0), leb-true m 12 (q .1));
+      day = λ k. let q = both {a = leb 1 d} (from-field 3 n (leb 1 d && leb d (daysInMonth y m)) (c .0) k) in (leb-true 1 d (q .0), leb-true d (daysInMonth y m) (q .1));
+      time = λ k. let q = both {a = ltb h 24} (from-field 5 n (ltb h 24 && ltb i 60) (f .0) k) in (ltb-true h 24 (q .0), ltb-true i 60 (q .1));
+      second = λ k. ltb-true s 60 (from-field 6 n (ltb s 60) (g .0) k);
+      offset = r .0;
+      fraction = r .1;
+    }
+
+-- a known offset needs the minute
+pub offset-known : (p : Precision) (y m d h i s : ℕ) (z : ℤ) → offsetFits (some z) (fieldsBy p y m d h i s) ≡ true → (5 ≤ fieldCount p) × (natAbs z ≤ 1439)
+offset-known p y m d h i s z e =
+    let k = both {a = leb 5 (fieldCount p)} (offsetFits-magnitude z (fieldsBy p y m d h i s) (fieldCount p) (length-fieldsBy p y m d h i s) ∙ e) in
+    (leb-true 5 (fieldCount p) (k .0), leb-true (natAbs z) 1439 (k .1))
+
+-- the powers of ten that 64 bits hold, up to eighteen zeros
+abbrev powers : List ℕ
+powers =
+    1 ∷ 10 ∷ 100 ∷ 1000 ∷ 10000 ∷ 100000 ∷ 1000000 ∷ 10000000 ∷ 100000000 ∷ 1000000000 ∷ 10000000000 ∷ 100000000000 ∷ 1000000000000
+    ∷ 10000000000000 ∷ 100000000000000 ∷ 1000000000000000 ∷ 10000000000000000 ∷ 100000000000000000 ∷ 1000000000000000000 ∷ []
+
+-- each number is ten to its place, counted from k
+abbrev areTens : ℕ → List ℕ → Bool
+areTens k [] = true
+areTens k (x ∷ xs) = eqb x (10 ^ k) && areTens (suc k) xs
+
+areTens-at : (xs : List ℕ) (k i : ℕ) → areTens k xs ≡ true → i < length xs → getD xs i 0 ≡ 10 ^ (k + i)
+areTens-at [] k i e h = absurd (omega arith)
+areTens-at (x ∷ xs) k zero e h = eqb-true x (10 ^ k) (both {a = eqb x (10 ^ k)} e .0) ∙ rw add-zero
+areTens-at (x ∷ xs) k (suc i) e h =
+    let n : suc k + i ≡ k + suc i = omega arith in
+    areTens-at xs (suc k) i (both {a = eqb x (10 ^ k)} e .1) (omega arith) ∙ rw n
+
+pub power-of-ten : (k : ℕ) → k ≤ 18 → getD powers k 0 ≡ 10 ^ k
+power-of-ten k h = areTens-at powers 0 k refl (omega arith) ∙ rw zero-add

@@ -1,0 +1,14 @@
+-- `timestamp::at_minute` meets its contract, by what `near_day` ensures.
+-- Assumes nothing.
+use borrow.Author.Needs.{needs}
+use Rattle.timestamp.proofs.at_minute.Statement.{statement}
+use Rattle.timestamp.proofs.at_minute.Tie as tie
+
+near-day-requires : tie.Need-near-day-requires
+near-day-requires c κs = search needs
+
+returns : tie.Need-returns
+returns c = rw (← c .near-day .ensures)
+
+pub at-minute-spec : {M : Type 1} → statement M
+at-minute-spec = tie.close (tie.spec near-day-requires returns)

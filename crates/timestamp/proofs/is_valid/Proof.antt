@@ -1,0 +1,49 @@
+-- `timestamp::is_valid` meets its contract: the tests in field order are the rules of check 7.
+-- Assumes nothing.
+use mathlib.Core.Path.{_≡_, sym, _∙_}
+use lib.ListN.{length}
+use Rattle.timestamp.specs.Arguments.{offsetMinutes, fractionDigits, fieldsOf}
+use Rattle.timestamp.proofs.Valid.{length-fieldsBy, isTimestamp-tests}
+use borrow.Author.Needs.{needs}
+use Rattle.timestamp.proofs.is_valid.Statement.{statement}
+use Rattle.timestamp.proofs.is_valid.Tie as tie
+
+field-count-requires : tie.Need-field-count-requires
+field-count-requires c κs = search needs
+
+is-year-requires : tie.Need-is-year-requires
+is-year-requires c κs = search needs
+
+is-month-requires : tie.Need-is-month-requires
+is-month-requires c κs = search needs
+
+is-day-requires : tie.Need-is-day-requires
+is-day-requires c κs = search needs
+
+offset-fits-requires : tie.Need-offset-fits-requires
+offset-fits-requires c κs = search needs
+
+fraction-fits-requires : tie.Need-fraction-fits-requires
+fraction-fits-requires c κs = search needs
+
+returns : tie.Need-returns
+returns c =
+    let d = c .before .before .before .before .before in
+    let y = d .before .before in
+    let n = y .before .field-count .ensures in
+    let t = y .before .before .args .t in
+    let l : length (fieldsOf t) ≡ y .before .field-count .result = length-fieldsBy (t .precision) (t .year) (t .month) (t .day) (t .hour) (t .minute) (t .second) ∙ sym n in
+    rw (c .fraction-fits .ensures (fieldsOf t) l, c .before .offset-fits .ensures (fieldsOf t) l, d .is-day .ensures, d .before .is-month .ensures, y .is-year .ensures, n)
+    (isTimestamp-tests (t .precision) (t .year) (t .month) (t .day) (t .hour) (t .minute) (t .second) (offsetMinutes (t .offset)) (fractionDigits (t .fraction)))
+
+pub is-valid-spec : {M : Type 1} → statement M
+is-valid-spec =
+    tie.close
+    (tie.spec
+    field-count-requires
+    is-year-requires
+    is-month-requires
+    is-day-requires
+    offset-fits-requires
+    fraction-fits-requires
+    returns)

@@ -1,0 +1,48 @@
+-- How small the numbers of a timestamp are that passed check 7 and has its UTC fields: as far as the count of its bytes goes by it.
+-- Assumes nothing.
+use Prim.Native.Nat.{ℕ, _+_, _%_, _^_, _≤_, _<_}
+use mathlib.Core.List.{List, [], _∷_, _++_, map}
+use mathlib.Core.Option.{Option, none, some}
+use lib.IntN.{ℤ, natAbs}
+use Rattle.ion.specs.Value.{timestampCode, Fraction, noFraction, fraction}
+use Rattle.encoding.specs.Fields.{varUIntsBytes}
+use Rattle.encoding.specs.Headers.{typeByte, framedBytes}
+use Rattle.encoding.specs.Timestamp.{offsetBytes, fractionBytes}
+use Rattle.timestamp.specs.declared.Timestamp.{Timestamp}
+use Rattle.timestamp.specs.Arguments.{offsetMinutes, fractionDigits, fieldsOf}
+
+-- two bytes hold it
+abbrev pub SmallOffset : Option ℤ → Type 0
+SmallOffset none = Unit {0}
+SmallOffset (some z) = natAbs z < 8192
+
+-- one byte holds each
+abbrev pub AllSmall : List ℕ → Type 0
+AllSmall [] = Unit {0}
+AllSmall (n ∷ ns) = (n < 128) × AllSmall ns
+
+-- the last seven bits of each, with the end flag
+abbrev pub endBytes : List ℕ → List ℕ
+endBytes ns = map (λ (n : ℕ). 0x80 + n % 128) ns
+
+-- two bytes hold the year
+abbrev pub SmallFields : List ℕ → Type 0
+SmallFields [] = Unit {0}
+SmallFields (y ∷ fs) = (y < 16384) × AllSmall fs
+
+-- one byte holds the exponent, which is below zero, and eight the coefficient with its sign
+abbrev pub SmallFraction : Fraction → Type 0
+SmallFraction noFraction = Unit {0}
+SmallFraction (fraction k c) = (1 ≤ k) × (k < 64) × (c < 2 ^ 63)
+
+pub record Small (t : Timestamp) : Type 0 where
+  pub offset : SmallOffset (offsetMinutes (t .offset))
+  pub fields : SmallFields (fieldsOf t)
+  pub fraction : SmallFraction (fractionDigits (t .fraction))
+
+-- the body of a timestamp whose fields are UTC
+abbrev pub bodyOf : Timestamp → List ℕ
+bodyOf t = offsetBytes (offsetMinutes (t .offset)) ++ (varUIntsBytes (fieldsOf t) ++ fractionBytes (fractionDigits (t .fraction)))
+
+abbrev pub valueOf : Timestamp → List ℕ
+valueOf t = framedBytes (typeByte timestampCode) (bodyOf t)

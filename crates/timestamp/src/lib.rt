@@ -1,0 +1,484 @@
+// Timestamps: document 01's modules types/timestamp and binary/timestamp.
+// The fields are local, and as wide as they come: a year of 70000 is a bad year and never cut to 4464.
+ghost use mathlib.Core.Path.{_≡_};
+ghost use mathlib.Core.Bool.{Bool, true, false, _&&_, _||_, not};
+ghost use mathlib.Core.List.{List, [], _∷_};
+ghost use Prim.Native.Nat.{ℕ, _+_, _-_, _*_, _/_, _%_, _^_, _≤_, _<_};
+ghost use lib.Dec.{ltb, leb, eqb};
+ghost use lib.ListN.{length, take};
+ghost use lib.IntN.{natAbs};
+ghost use Rattle.ion.specs.Calendar.{isLeapYear, daysInMonth, isMonth};
+ghost use Rattle.ion.specs.Value.{signed};
+ghost use Rattle.buffer.specs.Laid.{placed, fitted};
+ghost use Rattle.encoding.specs.Fields.{varUIntBytes, signBit, varIntBytes};
+ghost use Rattle.encoding.specs.Argument.{checkedBytes};
+ghost use Rattle.encoding.specs.Timestamp.{offsetBytes, fractionBytes, dayBefore, dayAfter, nearDay, utcMinutes, utcFields, utc, offsetFits, fractionFits, isTimestamp};
+ghost use Rattle.timestamp.specs.Arguments.{offsetMinutes, fractionDigits, fieldCount, fieldsOf, argumentOf};
+ghost use Rattle.timestamp.specs.Utc.{dateOf, withFields, utcOf};
+ghost use Rattle.timestamp.specs.Small.{SmallOffset, SmallFraction, Small, endBytes, bodyOf, valueOf};
+
+// The last field that is given. The fields below it mean nothing.
+pub enum Precision {
+    Year,
+    Month,
+    Day,
+    Minute,
+    Second,
+}
+
+// Local minus UTC.
+pub enum Offset {
+    Unknown,
+    Minutes(i32),
+}
+
+// How many digits stand behind the seconds, and the number that they make.
+pub enum Fraction {
+    None,
+    Digits(u32, u64),
+}
+
+pub struct Timestamp {
+    pub precision: Precision,
+    pub year: u32,
+    pub month: u32,
+    pub day: u32,
+    pub hour: u32,
+    pub minute: u32,
+    pub second: u32,
+    pub offset: Offset,
+    pub fraction: Fraction,
+}
+
+const TYPE_CODE: u8 = 0x60;
+
+const END_FLAG: u8 = 0x80;
+
+// Of a VarInt.
+const SIGN: u8 = 0x40;
+
+struct Date {
+    year: u32,
+    month: u32,
+    day: u32,
+}
+
+// Ten to each count of digits that a fraction may have.
+const POWERS_OF_TEN: [u64; 19] = [
+    1,
+    10,
+    100,
+    1_000,
+    10_000,
+    100_000,
+    1_000_000,
+    10_000_000,
+    100_000_000,
+    1_000_000_000,
+    10_000_000_000,
+    100_000_000_000,
+    1_000_000_000_000,
+    10_000_000_000_000,
+    100_000_000_000_000,
+    1_000_000_000_000_000,
+    10_000_000_000_000_000,
+    100_000_000_000_000_000,
+    1_000_000_000_000_000_000,
+];
+
+// In a year that is no leap year.
+const DAYS_IN_MONTH: [u32; 13] = [0, 31, 28, 31, 30, 31, 30, 31, 31, 30, 31, 30, 31];
+
+fn is_leap_year(year: u32) -> bool
+    ensures { λ r. ⌜ r ≡ isLeapYear year ⌝ }
+{
+    (year % 4 == 0) & ((year % 100 != 0) | (year % 400 == 0))
+}
+
+// The days of a month of the Gregorian calendar; 0 for a month that is not.
+pub fn days_in_month(year: u32, month: u32) -> u32
+    ensures { λ r. ⌜ r ≡ daysInMonth year month ⌝ }
+{
+    if (month == 2) & is_leap_year(year) {
+        return 29;
+    }
+    if 12 < month {
+        return 0;
+    }
+    DAYS_IN_MONTH[month as usize]
+}
+
+fn is_year(year: u32) -> bool
+    ensures { λ r. ⌜ r ≡ (leb 1 year && leb year 9999) ⌝ }
+{
+    (1 <= year) & (year <= 9999)
+}
+
+fn is_month(month: u32) -> bool
+    ensures { λ r. ⌜ r ≡ isMonth month ⌝ }
+{
+    (1 <= month) & (month <= 12)
+}
+
+// A day of a month that is one.
+fn is_day(year: u32, month: u32, day: u32) -> bool
+    ensures { λ r. ⌜ r ≡ (leb 1 day && leb day (daysInMonth year month)) ⌝ }
+{
+    (1 <= day) & (day <= days_in_month(year, month))
+}
+
+// From the year down.
+fn field_count(precision: Precision) -> u32
+    ensures { λ r. ⌜ r ≡ fieldCount precision ⌝ }
+{
+    match precision {
+        Precision::Year => 1,
+        Precision::Month => 2,
+        Precision::Day => 3,
+        Precision::Minute => 5,
+        Precision::Second => 6,
+    }
+}
+
+fn offset_magnitude(minutes: i32) -> u32
+    ensures { λ r. ⌜ r ≡ natAbs minutes ⌝ }
+{
+    fields::sign::magnitude(minutes as i64) as u32
+}
+
+// Unknown, or -1439 to 1439 minutes with the minute given.
+fn offset_fits(offset: Offset, fields: u32) -> bool
+    ensures { λ r. ⌜ ((fs : List ℕ) → length fs ≡ fields → r ≡ offsetFits (offsetMinutes offset) fs) ⌝ }
+{
+    match offset {
+        Offset::Unknown => true,
+        Offset::Minutes(minutes) => (5 <= fields) & (offset_magnitude(minutes) <= 1439),
+    }
+}
+
+// At most 18 digits, which hold the coefficient.
+fn digits_hold(digits: u32, coefficient: u64) -> bool
+    ensures { λ r. ⌜ r ≡ (leb digits 18 && ltb coefficient (10 ^ digits)) ⌝ }
+{
+    if 18 < digits {
+        return false;
+    }
+    coefficient < POWERS_OF_TEN[digits as usize]
+}
+
+// None, or 1 to 18 digits with the second given.
+fn fraction_fits(fraction: Fraction, fields: u32) -> bool
+    ensures { λ r. ⌜ ((fs : List ℕ) → length fs ≡ fields → r ≡ fractionFits (fractionDigits fraction) fs) ⌝ }
+{
+    match fraction {
+        Fraction::None => true,
+        Fraction::Digits(digits, coefficient) => {
+            (fields == 6) & ((1 <= digits) & digits_hold(digits, coefficient))
+        }
+    }
+}
+
+// Check 7 of document 01's table: year 1 to 9999, a day of the calendar, hour, minute and second as far as the precision goes,
+// then the offset and the fraction.
+pub fn is_valid(t: Timestamp) -> bool
+    ensures { λ r. ⌜ r ≡ isTimestamp (offsetMinutes (t .offset)) (fieldsOf t) (fractionDigits (t .fraction)) ⌝ }
+{
+    let precision = t.precision;
+    let offset = t.offset;
+    let fraction = t.fraction;
+    let fields = field_count(precision);
+    is_year(t.year)
+        & (((fields < 2) | is_month(t.month))
+            & (((fields < 3) | is_day(t.year, t.month, t.day))
+                & (((fields < 5) | ((t.hour < 24) & (t.minute < 60)))
+                    & (((fields < 6) | (t.second < 60))
+                        & (offset_fits(offset, fields) & fraction_fits(fraction, fields))))))
+}
+
+fn day_before(year: u32, month: u32, day: u32) -> Date
+    requires { ⌜ 1 ≤ year ⌝ }
+    ensures { λ r. ⌜ dateOf r ≡ dayBefore year month day ⌝ }
+{
+    if 1 < day {
+        return Date { year: year, month: month, day: day - 1 };
+    }
+    if 1 < month {
+        return Date { year: year, month: month - 1, day: days_in_month(year, month - 1) };
+    }
+    Date { year: year - 1, month: 12, day: 31 }
+}
+
+fn day_after(year: u32, month: u32, day: u32) -> Date
+    requires { ⌜ year ≤ 9999 ⌝ }
+    ensures { λ r. ⌜ dateOf r ≡ dayAfter year month day ⌝ }
+{
+    if day < days_in_month(year, month) {
+        return Date { year: year, month: month, day: day + 1 };
+    }
+    if month < 12 {
+        return Date { year: year, month: month + 1, day: 1 };
+    }
+    Date { year: year + 1, month: 1, day: 1 }
+}
+
+// 0 for the day before, 1 for the day itself, 2 for the day after.
+fn near_day(which: u32, year: u32, month: u32, day: u32) -> Date
+    requires { ⌜ (1 ≤ year) × (year ≤ 9999) ⌝ }
+    ensures { λ r. ⌜ dateOf r ≡ nearDay which year month day ⌝ }
+{
+    match which {
+        0 => day_before(year, month, day),
+        1 => Date { year: year, month: month, day: day },
+        _ => day_after(year, month, day),
+    }
+}
+
+// Local minus offset, in minutes from the start of the day before.
+fn utc_minutes(offset: i32, hour: u32, minute: u32) -> u32
+    requires { ⌜ (natAbs offset ≤ 1439) × (hour < 24) × (minute < 60) ⌝ }
+    ensures { λ r. ⌜ r ≡ utcMinutes offset hour minute ⌝ }
+{
+    let local = 1440 + (hour * 60 + minute);
+    let distance = offset_magnitude(offset);
+    if offset < 0 {
+        return local + distance;
+    }
+    local - distance
+}
+
+// The fields of the minute that lies so many minutes behind the start of the day before.
+fn at_minute(t: Timestamp, minutes: u32) -> Timestamp
+    requires { ⌜ (1 ≤ t .year) × (t .year ≤ 9999) ⌝ }
+    ensures { λ r. ⌜ r ≡ withFields t (utcFields minutes (t .year) (t .month) (t .day) []) ⌝ }
+{
+    let day = near_day(minutes / 1440, t.year, t.month, t.day);
+    let precision = t.precision;
+    let offset = t.offset;
+    let fraction = t.fraction;
+    Timestamp {
+        precision: precision,
+        year: day.year,
+        month: day.month,
+        day: day.day,
+        hour: minutes % 1440 / 60,
+        minute: minutes % 1440 % 60,
+        second: t.second,
+        offset: offset,
+        fraction: fraction,
+    }
+}
+
+// Of a timestamp that passes check 7.
+fn utc_of_valid(t: Timestamp) -> Timestamp
+    requires { ⌜ isTimestamp (offsetMinutes (t .offset)) (fieldsOf t) (fractionDigits (t .fraction)) ≡ true ⌝ }
+    ensures { λ r. ⌜ r ≡ withFields t (utc (offsetMinutes (t .offset)) (fieldsOf t)) ⌝ }
+{
+    let offset = t.offset;
+    match offset {
+        Offset::Unknown => t,
+        Offset::Minutes(minutes) => at_minute(t, utc_minutes(minutes, t.hour, t.minute)),
+    }
+}
+
+// The UTC fields in the place of the local ones, with the offset kept; a timestamp that does not pass check 7 stays as it is.
+pub fn to_utc(t: Timestamp) -> Timestamp
+    ensures { λ r. ⌜ r ≡ utcOf t ⌝ }
+{
+    if !is_valid(t) {
+        return t;
+    }
+    utc_of_valid(t)
+}
+
+fn put_two(buf: &mut [u8], at: usize, first: u8, second: u8) -> usize
+    ensures { λ r. ⌜ _≡_ {A = ℕ × List ℕ} (r, now (buf .exit)) (placed (now (buf .entry)) at (first ∷ second ∷ [])) ⌝ }
+{
+    if !buffer::has_room(buf.len(), at, 2) {
+        return 0;
+    }
+    buf[at] = first;
+    buf[at + 1] = second;
+    2
+}
+
+fn sign_bit(negative: bool) -> u8
+    ensures { λ r. ⌜ (r ≡ signBit negative) × (r ≤ 64) ⌝ }
+{
+    if negative {
+        return SIGN;
+    }
+    0
+}
+
+// A VarInt: one byte below 64, two below 8192.
+fn put_var_int(buf: &mut [u8], at: usize, negative: bool, magnitude: u32) -> usize
+    requires { ⌜ magnitude < 8192 ⌝ }
+    ensures { λ r. ⌜ _≡_ {A = ℕ × List ℕ} (r, now (buf .exit)) (placed (now (buf .entry)) at (varIntBytes (signed negative magnitude))) ⌝ }
+{
+    let sign = sign_bit(negative);
+    if magnitude < 64 {
+        return buffer::put(buf, at, END_FLAG + sign + magnitude as u8);
+    }
+    put_two(buf, at, sign + (magnitude / 128) as u8, END_FLAG + (magnitude % 128) as u8)
+}
+
+// Unknown is negative zero.
+fn put_offset(buf: &mut [u8], at: usize, offset: Offset) -> usize
+    requires { ⌜ SmallOffset (offsetMinutes offset) ⌝ }
+    ensures { λ r. ⌜ _≡_ {A = ℕ × List ℕ} (r, now (buf .exit)) (placed (now (buf .entry)) at (offsetBytes (offsetMinutes offset))) ⌝ }
+{
+    match offset {
+        Offset::Unknown => put_var_int(buf, at, true, 0),
+        Offset::Minutes(minutes) => put_var_int(buf, at, minutes < 0, offset_magnitude(minutes)),
+    }
+}
+
+// A VarUInt: one byte below 128, two below 16384.
+fn put_year(buf: &mut [u8], at: usize, year: u32) -> usize
+    requires { ⌜ year < 16384 ⌝ }
+    ensures { λ r. ⌜ _≡_ {A = ℕ × List ℕ} (r, now (buf .exit)) (placed (now (buf .entry)) at (varUIntBytes year)) ⌝ }
+{
+    if year < 128 {
+        return buffer::put(buf, at, END_FLAG + year as u8);
+    }
+    put_two(buf, at, (year / 128) as u8, END_FLAG + (year % 128) as u8)
+}
+
+// The first `count` of the fields from the month down, a byte each.
+fn put_small(buf: &mut [u8], at: usize, count: usize, month: u32, day: u32, hour: u32, minute: u32, second: u32) -> usize
+    requires { ⌜ (count ≤ 5) × (at + count ≤ length (now buf)) ⌝ }
+    ensures { λ r. ⌜ _≡_ {A = ℕ × List ℕ} (r, now (buf .exit)) (placed (now (buf .entry)) at (take count (endBytes (month ∷ day ∷ hour ∷ minute ∷ second ∷ [])))) ⌝ }
+{
+    if count < 1 {
+        return 0;
+    }
+    buf[at] = END_FLAG + (month % 128) as u8;
+    if count < 2 {
+        return 1;
+    }
+    buf[at + 1] = END_FLAG + (day % 128) as u8;
+    if count < 3 {
+        return 2;
+    }
+    buf[at + 2] = END_FLAG + (hour % 128) as u8;
+    if count < 4 {
+        return 3;
+    }
+    buf[at + 3] = END_FLAG + (minute % 128) as u8;
+    if count < 5 {
+        return 4;
+    }
+    buf[at + 4] = END_FLAG + (second % 128) as u8;
+    5
+}
+
+// An exponent below zero in one byte, then the coefficient as an Int.
+fn put_fraction(buf: &mut [u8], at: usize, fraction: Fraction) -> usize
+    requires { ⌜ SmallFraction (fractionDigits fraction) × (at + length (fractionBytes (fractionDigits fraction)) ≤ length (now buf)) ⌝ }
+    ensures { λ r. ⌜ _≡_ {A = ℕ × List ℕ} (r, now (buf .exit)) (placed (now (buf .entry)) at (fractionBytes (fractionDigits fraction))) ⌝ }
+{
+    match fraction {
+        Fraction::None => 0,
+        Fraction::Digits(digits, coefficient) => {
+            let exponent = buffer::put(buf, at, END_FLAG + SIGN + digits as u8);
+            exponent + fields::int::write_u64(buf, at + exponent, coefficient)
+        }
+    }
+}
+
+fn offset_size(offset: Offset) -> usize
+    requires { ⌜ SmallOffset (offsetMinutes offset) ⌝ }
+    ensures { λ r. ⌜ r ≡ length (offsetBytes (offsetMinutes offset)) ⌝ }
+{
+    match offset {
+        Offset::Unknown => 1,
+        Offset::Minutes(minutes) => (64 <= offset_magnitude(minutes)) as usize + 1,
+    }
+}
+
+fn year_size(year: u32) -> usize
+    requires { ⌜ year < 16384 ⌝ }
+    ensures { λ r. ⌜ r ≡ length (varUIntBytes year) ⌝ }
+{
+    (128 <= year) as usize + 1
+}
+
+fn fraction_size(fraction: Fraction) -> usize
+    requires { ⌜ SmallFraction (fractionDigits fraction) ⌝ }
+    ensures { λ r. ⌜ r ≡ length (fractionBytes (fractionDigits fraction)) ⌝ }
+{
+    match fraction {
+        Fraction::None => 0,
+        Fraction::Digits(_, coefficient) => fields::int::encoded_size_of_u64(coefficient) + 1,
+    }
+}
+
+fn body_size(t: Timestamp) -> usize
+    requires { ⌜ Small t ⌝ }
+    ensures { λ r. ⌜ r ≡ length (bodyOf t) ⌝ }
+{
+    let precision = t.precision;
+    let offset = t.offset;
+    let fraction = t.fraction;
+    offset_size(offset) + (year_size(t.year) + (field_count(precision) as usize - 1) + fraction_size(fraction))
+}
+
+fn put_body(buf: &mut [u8], at: usize, t: Timestamp) -> usize
+    requires { ⌜ Small t × (at + length (bodyOf t) ≤ length (now buf)) ⌝ }
+    ensures { λ r. ⌜ _≡_ {A = ℕ × List ℕ} (r, now (buf .exit)) (placed (now (buf .entry)) at (bodyOf t)) ⌝ }
+{
+    let precision = t.precision;
+    let offset = t.offset;
+    let fraction = t.fraction;
+    let count = field_count(precision) as usize - 1;
+    let one = put_offset(buf, at, offset);
+    let two = one + put_year(buf, at + one, t.year);
+    let three = two + put_small(buf, at + two, count, t.month, t.day, t.hour, t.minute, t.second);
+    three + put_fraction(buf, at + three, fraction)
+}
+
+fn value_size(t: Timestamp) -> usize
+    requires { ⌜ Small t ⌝ }
+    ensures { λ r. ⌜ r ≡ length (valueOf t) ⌝ }
+{
+    let body = body_size(t);
+    fields::header::encoded_size_of(body) + body
+}
+
+fn put_value(buf: &mut [u8], at: usize, t: Timestamp) -> usize
+    requires { ⌜ Small t ⌝ }
+    ensures { λ r. ⌜ _≡_ {A = ℕ × List ℕ} (r, now (buf .exit)) (placed (now (buf .entry)) at (valueOf t)) ⌝ }
+{
+    let body = body_size(t);
+    let size = fields::header::encoded_size_of(body) + body;
+    if !buffer::has_room(buf.len(), at, size) {
+        return 0;
+    }
+    let header = fields::header::write(buf, at, TYPE_CODE, body);
+    header + put_body(buf, at + header, t)
+}
+
+// The bytes that t takes, header and body, where they are at most `room`; none for one that does not pass check 7.
+pub fn size(t: Timestamp, room: usize) -> usize
+    ensures { λ r. ⌜ r ≡ fitted room (checkedBytes (argumentOf t)) ⌝ }
+{
+    if !is_valid(t) {
+        return 0;
+    }
+    let size = value_size(utc_of_valid(t));
+    if room < size {
+        return 0;
+    }
+    size
+}
+
+// 6 and the length of the body; the body is the offset as a VarInt, the UTC fields as VarUInts, then any fraction as a decimal's body.
+// Nothing is put for a timestamp that does not pass check 7.
+pub fn write(buf: &mut [u8], at: usize, t: Timestamp) -> usize
+    ensures { λ r. ⌜ _≡_ {A = ℕ × List ℕ} (r, now (buf .exit)) (placed (now (buf .entry)) at (checkedBytes (argumentOf t))) ⌝ }
+{
+    if !is_valid(t) {
+        return 0;
+    }
+    put_value(buf, at, utc_of_valid(t))
+}

@@ -1,0 +1,3 @@
+pub mod Plain
+pub mod Ints
+pub mod Annotated

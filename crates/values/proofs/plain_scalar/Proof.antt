@@ -1,0 +1,130 @@
+-- `values::plain_scalar` meets its contract: by the case.
+-- Assumes nothing.
+use mathlib.Core.Path.{_≡_, sym, _∙_}
+use mir.Syntax.{w64}
+use mir.Val.{ofZ, toZ}
+use Rattle.values.proofs.Plain.{f32-bytes, f64-bytes}
+use borrow.Author.Needs.{needs}
+use Rattle.values.proofs.plain_scalar.Statement.{statement}
+use Rattle.values.proofs.plain_scalar.Tie as tie
+
+-- an i64 is read back from its bits
+kept : (c : tie.After-known-told3) → toZ w64 (ofZ w64 (c .before .value3 .given .0 .0)) ≡ c .before .value3 .given .0 .0
+kept c = search needs
+
+enum-known-value : tie.Need-enum-known-value
+enum-known-value c = search needs
+
+plain-null-requires : tie.Need-plain-null-requires
+plain-null-requires c κs = search needs
+
+enum-known-value-2 : tie.Need-enum-known-value-2
+enum-known-value-2 c = search needs
+
+plain-bool-requires : tie.Need-plain-bool-requires
+plain-bool-requires c κs = search needs
+
+enum-known-value-3 : tie.Need-enum-known-value-3
+enum-known-value-3 c = search needs
+
+plain-i64-requires : tie.Need-plain-i64-requires
+plain-i64-requires c κs = search needs
+
+enum-known-value-4 : tie.Need-enum-known-value-4
+enum-known-value-4 c = search needs
+
+write-f32-bits-requires : tie.Need-write-f32-bits-requires
+write-f32-bits-requires c κs = search needs
+
+enum-known-value-5 : tie.Need-enum-known-value-5
+enum-known-value-5 c = search needs
+
+write-f64-bits-requires : tie.Need-write-f64-bits-requires
+write-f64-bits-requires c κs = search needs
+
+enum-known-value-6 : tie.Need-enum-known-value-6
+enum-known-value-6 c = search needs
+
+plain-symbol-requires : tie.Need-plain-symbol-requires
+plain-symbol-requires c κs = search needs
+
+enum-known-value-7 : tie.Need-enum-known-value-7
+enum-known-value-7 c = search needs
+
+write-requires : tie.Need-write-requires
+write-requires c κs = search needs
+
+same-length : tie.Need-same-length
+same-length c = search needs
+
+returns : tie.Need-returns
+returns c = let d = c .before .before in rw (d .before .before .before .value .given .1) (d .plain-null .ensures)
+
+same-length-2 : tie.Need-same-length-2
+same-length-2 c = search needs
+
+returns-2 : tie.Need-returns-2
+returns-2 c = let d = c .before .before in rw (d .before .before .before .value2 .given .1) (d .plain-bool .ensures)
+
+same-length-3 : tie.Need-same-length-3
+same-length-3 c = search needs
+
+returns-3 : tie.Need-returns-3
+returns-3 c = let d = c .before .before in rw (d .before .before .before .value3 .given .1, ← (kept (d .before .before))) (d .plain-i64 .ensures)
+
+same-length-4 : tie.Need-same-length-4
+same-length-4 c = search needs
+
+returns-4 : tie.Need-returns-4
+returns-4 c = let d = c .before .before in rw (d .before .before .before .value4 .given .1, f32-bytes _) (d .write-f32-bits .ensures)
+
+same-length-5 : tie.Need-same-length-5
+same-length-5 c = search needs
+
+returns-5 : tie.Need-returns-5
+returns-5 c = let d = c .before .before in rw (d .before .before .before .value5 .given .1, f64-bytes _) (d .write-f64-bits .ensures)
+
+same-length-6 : tie.Need-same-length-6
+same-length-6 c = search needs
+
+returns-6 : tie.Need-returns-6
+returns-6 c = let d = c .before .before in rw (d .before .before .before .value6 .given .1) (d .plain-symbol .ensures)
+
+same-length-7 : tie.Need-same-length-7
+same-length-7 c = search needs
+
+returns-7 : tie.Need-returns-7
+returns-7 c = let d = c .before .before in rw (d .before .before .before .value7 .given .1) (d .write .ensures)
+
+pub plain-scalar-spec : {M : Type 1} → statement M
+plain-scalar-spec =
+    tie.close
+    (tie.spec
+    enum-known-value
+    plain-null-requires
+    enum-known-value-2
+    plain-bool-requires
+    enum-known-value-3
+    plain-i64-requires
+    enum-known-value-4
+    write-f32-bits-requires
+    enum-known-value-5
+    write-f64-bits-requires
+    enum-known-value-6
+    plain-symbol-requires
+    enum-known-value-7
+    write-requires
+    same-length
+    returns
+    same-length-2
+    returns-2
+    same-length-3
+    returns-3
+    same-length-4
+    returns-4
+    same-length-5
+    returns-5
+    same-length-6
+    returns-6
+    same-length-7
+    returns-7)
