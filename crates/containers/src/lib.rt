@@ -4,7 +4,6 @@ ghost use mathlib.Core.Bool.{Bool};
 ghost use mathlib.Core.List.{List, [], _∷_, _++_};
 ghost use Prim.Native.Nat.{ℕ, _+_, _-_, _*_, _/_, _<_, _≤_};
 ghost use lib.ListN.{length, take, drop, replicate};
-ghost use lib.Seq.{slice};
 ghost use Rattle.encoding.specs.Headers.{headerBytes, framedBytes, annotationBytes};
 ghost use Rattle.machine.specs.Machine.{reserve};
 ghost use Rattle.buffer.specs.Laid.{laid, placed};
@@ -81,7 +80,7 @@ fn put_header(buf: &mut [u8], at: usize, code: u8, body: usize)
 // A container without annotations: its header in the short form, and its body behind it.
 fn close_plain(buf: &mut [u8], used: usize, start: usize, code: u8) -> usize
     requires { ⌜ (code / 16 * 16 ≡ code) × (start + 2 ≤ used) × (used ≤ length (now buf)) ⌝ }
-    ensures { λ r. ⌜ _≡_ {A = ℕ × List ℕ} (r, now (buf .exit)) (spliced used start (framedBytes code (drop (start + 2) (take used (now (buf .entry))))) (now (buf .entry))) ⌝ }
+    ensures { λ r. ⌜ _≡_ {A = ℕ × List ℕ} (r, now (buf .exit)) (spliced used start (framedBytes code (take (used - (start + 2)) (drop (start + 2) (now (buf .entry))))) (now (buf .entry))) ⌝ }
 {
     let body = used - (start + RESERVE);
     let size = fields::header::encoded_size_of(body);
@@ -119,7 +118,7 @@ fn lay_wrapped(buf: &mut [u8], start: usize, header: usize, code: u8, body: usiz
 // A container with annotations: the wrapper's length counts the inner header in its final size.
 fn close_annotated(buf: &mut [u8], used: usize, start: usize, header: usize, code: u8) -> usize
     requires { ⌜ (code / 16 * 16 ≡ code) × (start + 2 ≤ header) × (header + 2 ≤ used) × (used ≤ length (now buf)) ⌝ }
-    ensures { λ r. ⌜ _≡_ {A = ℕ × List ℕ} (r, now (buf .exit)) (spliced used start (framedBytes 0xE0 (slice (start + 2) header (take used (now (buf .entry))) ++ framedBytes code (drop (header + 2) (take used (now (buf .entry)))))) (now (buf .entry))) ⌝ }
+    ensures { λ r. ⌜ _≡_ {A = ℕ × List ℕ} (r, now (buf .exit)) (spliced used start (wrapped (now (buf .entry)) start header code (used - (header + 2))) (now (buf .entry))) ⌝ }
 {
     let body = used - (header + RESERVE);
     let inner = fields::header::encoded_size_of(body);
