@@ -25,7 +25,7 @@ one-byte n h len l = go (ltb (n + h + len) 14) refl
   go false e = absurd (omega (arith, ap length (header-long 0 (n + h + len) (ltb-false (n + h + len) 14 e)), varUInt-least (n + h + len)))
 
 module _ (b : List ℕ) (start header code len h w : ℕ)
-    (s : start + 2 ≤ header) (f : header + 2 + len ≤ length b) (g : start + w + (header - (start + 2)) + h + len ≤ length b)
+    (s : start + 2 ≤ header) (f : header + 2 + len ≤ length b)
     (eh : h ≡ length (headerBytes 0 len)) (ew : w ≡ length (headerBytes 0 (header - (start + 2) + h + len))) where
   abbrev A : List ℕ
   A = part b (start + 2) (header - (start + 2))
@@ -66,38 +66,42 @@ module _ (b : List ℕ) (start header code len h w : ℕ)
   unfolding wrapped
   whole = let k = lengths in sym (ap (λ (x : List ℕ). framedBytes 0xE0 (A ++ x)) (framed-is code len B (k .body)) ∙ framed-is 0xE0 _ (A ++ (H ++ B)) (k .content))
 
-  -- the wrapper's header before all else
-  last : {l₃ l₄ : List ℕ} → l₃ ≡ laid b (start + w) (A ++ (H ++ B)) → l₄ ≡ laid l₃ start W → l₄ ≡ laid b start (wrapped b start header code len)
-  last e₃ e₄ =
-    let k = lengths in
-    then-before b start W (A ++ (H ++ B)) (start + w) (omega arith) (omega arith) e₃ e₄ ∙ ap (laid b start) whole
+  pub length-wrapped : length (wrapped b start header code len) ≡ w + (header - (start + 2) + h + len)
+  length-wrapped = let k = lengths in ap length (sym whole) ∙ (length-append W (A ++ (H ++ B)) ∙ omega arith)
 
-  -- the body first, then the inner header and the annotations before it
-  pub from-the-right : {l₁ l₂ l₃ l₄ : List ℕ} → 2 ≤ w
-      → l₁ ≡ laid b (start + w + (header - (start + 2)) + h) B
-      → l₂ ≡ laid l₁ (start + w + (header - (start + 2))) H
-      → l₃ ≡ laid l₂ (start + w) (part l₂ (start + 2) (header - (start + 2)))
-      → l₄ ≡ laid l₃ start W
-      → l₄ ≡ laid b start (wrapped b start header code len)
-  from-the-right {l₁} {l₂} {l₃} {l₄} u e₁ e₂ e₃ e₄ =
-    let k = lengths in
-    let i = start + w + (header - (start + 2)) in
-    let q₂ : l₂ ≡ laid b i (H ++ B) = then-before b i H B (i + h) (omega arith) (omega arith) e₁ e₂ in
-    let p : part l₂ (start + 2) (header - (start + 2)) ≡ A = rw q₂ (part-before b i (H ++ B) (omega arith) (start + 2) (header - (start + 2)) (omega arith)) in
-    last (then-before b (start + w) A (H ++ B) i (omega arith) (omega arith) q₂ (e₃ ∙ ap (laid l₂ (start + w)) p)) e₄
+  module _ (g : start + w + (header - (start + 2)) + h + len ≤ length b) where
+    -- the wrapper's header before all else
+    last : {l₃ l₄ : List ℕ} → l₃ ≡ laid b (start + w) (A ++ (H ++ B)) → l₄ ≡ laid l₃ start W → l₄ ≡ laid b start (wrapped b start header code len)
+    last e₃ e₄ =
+      let k = lengths in
+      then-before b start W (A ++ (H ++ B)) (start + w) (omega arith) (omega arith) e₃ e₄ ∙ ap (laid b start) whole
 
-  -- the annotations first, then the inner header and the body behind them
-  pub from-the-left : {l₁ l₂ l₃ l₄ : List ℕ} → w < 2
-      → l₁ ≡ laid b (start + w) A
-      → l₂ ≡ laid l₁ (start + w + (header - (start + 2))) H
-      → l₃ ≡ laid l₂ (start + w + (header - (start + 2)) + h) (part l₂ (header + 2) len)
-      → l₄ ≡ laid l₃ start W
-      → l₄ ≡ laid b start (wrapped b start header code len)
-  from-the-left {l₁} {l₂} {l₃} {l₄} u e₁ e₂ e₃ e₄ =
-    let k = lengths in
-    let o = one-byte (header - (start + 2)) h len (omega arith) in
-    let i = start + w + (header - (start + 2)) in
-    let j : length (A ++ H) ≡ header - (start + 2) + h = length-append A H ∙ omega arith in
-    let q₂ : l₂ ≡ laid b (start + w) (A ++ H) = then-behind b (start + w) A H i (omega arith) (omega arith) e₁ e₂ in
-    let p : part l₂ (header + 2) len ≡ B = rw q₂ (part-behind b (start + w) (A ++ H) (omega arith) (header + 2) len (omega arith)) in
-    last (then-behind b (start + w) (A ++ H) B (i + h) (omega arith) (omega arith) q₂ (e₃ ∙ ap (laid l₂ (i + h)) p) ∙ ap (laid b (start + w)) (append-assoc A H B)) e₄
+    -- the body first, then the inner header and the annotations before it
+    pub from-the-right : {l₁ l₂ l₃ l₄ : List ℕ} → 2 ≤ w
+        → l₁ ≡ laid b (start + w + (header - (start + 2)) + h) B
+        → l₂ ≡ laid l₁ (start + w + (header - (start + 2))) H
+        → l₃ ≡ laid l₂ (start + w) (part l₂ (start + 2) (header - (start + 2)))
+        → l₄ ≡ laid l₃ start W
+        → l₄ ≡ laid b start (wrapped b start header code len)
+    from-the-right {l₁} {l₂} {l₃} {l₄} u e₁ e₂ e₃ e₄ =
+      let k = lengths in
+      let i = start + w + (header - (start + 2)) in
+      let q₂ : l₂ ≡ laid b i (H ++ B) = then-before b i H B (i + h) (omega arith) (omega arith) e₁ e₂ in
+      let p : part l₂ (start + 2) (header - (start + 2)) ≡ A = rw q₂ (part-before b i (H ++ B) (omega arith) (start + 2) (header - (start + 2)) (omega arith)) in
+      last (then-before b (start + w) A (H ++ B) i (omega arith) (omega arith) q₂ (e₃ ∙ ap (laid l₂ (start + w)) p)) e₄
+
+    -- the annotations first, then the inner header and the body behind them
+    pub from-the-left : {l₁ l₂ l₃ l₄ : List ℕ} → w < 2
+        → l₁ ≡ laid b (start + w) A
+        → l₂ ≡ laid l₁ (start + w + (header - (start + 2))) H
+        → l₃ ≡ laid l₂ (start + w + (header - (start + 2)) + h) (part l₂ (header + 2) len)
+        → l₄ ≡ laid l₃ start W
+        → l₄ ≡ laid b start (wrapped b start header code len)
+    from-the-left {l₁} {l₂} {l₃} {l₄} u e₁ e₂ e₃ e₄ =
+      let k = lengths in
+      let o = one-byte (header - (start + 2)) h len (omega arith) in
+      let i = start + w + (header - (start + 2)) in
+      let j : length (A ++ H) ≡ header - (start + 2) + h = length-append A H ∙ omega arith in
+      let q₂ : l₂ ≡ laid b (start + w) (A ++ H) = then-behind b (start + w) A H i (omega arith) (omega arith) e₁ e₂ in
+      let p : part l₂ (header + 2) len ≡ B = rw q₂ (part-behind b (start + w) (A ++ H) (omega arith) (header + 2) len (omega arith)) in
+      last (then-behind b (start + w) (A ++ H) B (i + h) (omega arith) (omega arith) q₂ (e₃ ∙ ap (laid l₂ (i + h)) p) ∙ ap (laid b (start + w)) (append-assoc A H B)) e₄
