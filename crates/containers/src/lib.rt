@@ -184,13 +184,15 @@ fn open_annotated(buf: &mut [u8], at: usize, annotations: &[u8]) -> usize
     ensures { λ r. ⌜ _≡_ {A = ℕ × List ℕ} (r, now (buf .exit)) (placed (now (buf .entry)) at (0 ∷ 0 ∷ (annotationBytes (sidsOf (now (annotations .entry))) ++ (0 ∷ 0 ∷ [])))) ⌝ }
 {
     let noted = annotations::size(annotations, buf.len());
-    if (noted == 0) | !buffer::has_room(buf.len(), at, noted + 2 * RESERVE) {
+    if noted == 0 {
+        return 0;
+    }
+    if !buffer::has_room(buf.len(), at, noted + 2 * RESERVE) {
         return 0;
     }
     let first = put_reserve(buf, at);
-    let middle = annotations::write(buf, at + first, annotations);
-    let last = put_reserve(buf, at + first + middle);
-    first + middle + last
+    let to_header = first + annotations::write(buf, at + first, annotations);
+    to_header + put_reserve(buf, at + to_header)
 }
 
 // What an opening reserves: two zero bytes; with annotations two zero bytes, the annotations and two more.
