@@ -60,6 +60,12 @@ module _ (used p : ℕ) (out b : List ℕ) where
       _≡_ {A = ℕ × List ℕ} (end, l′) (spliced used p out b)
   spliced-by end e h u q q′ = rw (q′, q, e) (rw (splice-laid (omega arith) u) (sym (spliced-fits (omega arith))))
 
+-- a splice of nothing clears
+pub splice-nil : (used p : ℕ) (b : List ℕ) → p ≤ length b → splice used p [] b ≡ laid b p (zeros (used - p))
+splice-nil used p b h =
+  let e : p + 0 ≡ p = omega arith in
+  splice-run used p [] b (omega arith) ∙ ap (λ (n : ℕ). laid b p (zeros (used - n))) e
+
 -- at the used length nothing is freed
 pub splice-end : (used : ℕ) (out b : List ℕ) → used + length out ≤ length b → splice used used out b ≡ laid b used out
 splice-end used out b h =
