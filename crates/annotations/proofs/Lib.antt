@@ -1,2 +1,3 @@
-pub mod Sids
+pub mod Fitted
 pub mod Prefix
+pub mod Sids

@@ -10,7 +10,7 @@ use mathlib.Core.Logic.{⊎-elim}
 use lib.ListN.{length, getD, length-append}
 use Rattle.encoding.specs.Fields.{varUIntBytes, varUIntsBytes, AllU64}
 use Rattle.encoding.specs.Headers.{annotationBytes}
-use Rattle.fields.proofs.Sizes.{varUInt-most}
+use Rattle.fields.proofs.Sizes.{varUInt-least, varUInt-most}
 use Rattle.annotations.specs.Sids.{leastFirst, sidAt, sidCount, sidsUpTo, sidsOf}
 
 -- the byte before k - 1 others, of eight
@@ -89,3 +89,23 @@ sidBytes-most b bytes (suc n) = omega (arith, length-sidBytes-more b n, varUInt-
 pub length-annotations : (an : List ℕ) → length (annotationBytes an) ≡ length (varUIntBytes (length (varUIntsBytes an))) + length (varUIntsBytes an)
 unfolding annotationBytes
 length-annotations an = length-append (varUIntBytes (length (varUIntsBytes an))) (varUIntsBytes an)
+
+pub annotations-least : (an : List ℕ) → 1 ≤ length (annotationBytes an)
+annotations-least an = omega (arith, length-annotations an, varUInt-least (length (varUIntsBytes an)))
+
+-- ---- an empty list, and one that is not
+
+pub sids-none : (b : List ℕ) → length b ≡ 0 → sidsOf b ≡ []
+unfolding sidsOf sidsUpTo
+sids-none b e = rw e refl
+
+snoc-some : (ns : List ℕ) (n : ℕ) → (a : ℕ) × (an : List ℕ) × (ns ++ (n ∷ []) ≡ a ∷ an)
+snoc-some [] n = (n, [], refl)
+snoc-some (m ∷ ns) n = (m, ns ++ (n ∷ []), refl)
+
+pub sids-some : (b : List ℕ) → 0 < length b → (a : ℕ) × (an : List ℕ) × (sidsOf b ≡ a ∷ an)
+unfolding sidsOf sidsUpTo
+sids-some b h =
+  let e : sidCount b ≡ suc (sidCount b - 1) = omega arith in
+  let s = snoc-some (sidsUpTo b (sidCount b - 1)) (sidAt b (sidCount b - 1)) in
+  (s .0, s .1, ap (sidsUpTo b) e ∙ s .2)

@@ -1,0 +1,91 @@
+-- What a container that fits tells, and its close by parts of the buffer.
+-- By cases of the checks. Assumes nothing.
+use mathlib.Core.Path.{_≡_, refl, sym, _∙_, ap}
+use mathlib.Core.List.{List, [], _∷_, _++_}
+use mathlib.Core.Bool.{Bool, true, false, _&&_, _||_, and-true, and-eq-true-iff}
+use mathlib.Core.Logic.{_⊎_, inl, inr, ⊎-elim}
+use Prim.Native.Nat.{ℕ, _+_, _-_, _*_, _/_, _≤_, _<_}
+use native.Mathlib.Omega.{arith}
+use lib.Dec.{leb, eqb}
+use lib.ListN.{length, take, drop}
+use lib.Seq.{take-take}
+use borrow.Author.Tests.{eqb-true, leb-true, eq-eqb, ne-eqb}
+use Rattle.ion.specs.Value.{listCode, sexpCode, structCode}
+use Rattle.encoding.specs.Headers.{typeByte, framedBytes}
+use Rattle.machine.specs.declared.Container.{Container}
+use Rattle.machine.specs.Machine.{closedBytes, splice, containersFit}
+use Rattle.containers.specs.Containers.{containerFits, spliced, wrapped, closedOn, abandonedOn}
+use Rattle.containers.proofs.Moves.{part, slice-part}
+
+-- the innermost of several that fit, and the others below its start
+pub containersFit-cons : (limit : ℕ) (c : Container) (cs : List Container) → containersFit limit (c ∷ cs) ≡ (containerFits c limit && containersFit (c .start) cs)
+unfolding containersFit
+containersFit-cons limit c cs = regroup _ _ _ _
+  where
+  regroup : (x y z r : Bool) → (x && (y && (z && r))) ≡ ((x && (y && (z && true))) && r)
+  regroup false y z r = refl
+  regroup true false z r = refl
+  regroup true true false r = refl
+  regroup true true true r = refl
+
+pub containerFits-is : (c : Container) (limit : ℕ) → containerFits c limit
+    ≡ ((eqb (c .code) 0xB0 || (eqb (c .code) 0xC0 || eqb (c .code) 0xD0)) && ((eqb (c .header) (c .start) || leb (c .start + 4) (c .header)) && leb (c .header + 2) limit))
+unfolding containersFit
+containerFits-is c limit = rw (and-true (leb (c .header + 2) limit)) refl
+
+pub record Fit (c : Container) (limit : ℕ) : Type 0 where
+  pub high : c .code / 16 * 16 ≡ c .code
+  pub apart : (c .header ≡ c .start) ⊎ (c .start + 4 ≤ c .header)
+  pub within : c .header + 2 ≤ limit
+
+either : (a b : Bool) → (a || b) ≡ true → (a ≡ true) ⊎ (b ≡ true)
+either true b e = inl refl
+either false b e = inr e
+
+pub fit : (c : Container) (limit : ℕ) → containerFits c limit ≡ true → Fit c limit
+fit c limit e =
+  let k = and-eq-true-iff (eqb (c .code) 0xB0 || (eqb (c .code) 0xC0 || eqb (c .code) 0xD0)) _ .0 (sym (containerFits-is c limit) ∙ e) in
+  let p = and-eq-true-iff (eqb (c .header) (c .start) || leb (c .start + 4) (c .header)) _ .0 (k .1) in
+  record {
+    high = ⊎-elim (λ x. known 0xB0 refl x) (λ y. ⊎-elim (λ x. known 0xC0 refl x) (λ x. known 0xD0 refl x) (either _ _ y)) (either _ _ (k .0));
+    apart = ⊎-elim (λ x. inl (eqb-true (c .header) (c .start) x)) (λ x. inr (leb-true (c .start + 4) (c .header) x)) (either _ _ (p .0));
+    within = leb-true (c .header + 2) limit (p .1)
+  }
+  where
+  known : (t : ℕ) → t / 16 * 16 ≡ t → eqb (c .code) t ≡ true → c .code / 16 * 16 ≡ c .code
+  known t q x = rw (eqb-true (c .code) t x) q
+
+-- ---- the close
+
+module _ (c : Container) (used : ℕ) (b : List ℕ) where
+  pub closedOn-fits : (containerFits c used && leb used (length b)) ≡ true → closedOn c used b ≡ spliced used (c .start) (closedBytes c (take used b)) b
+  unfolding closedOn
+  closedOn-fits e = rw (closedOn, e) refl
+
+  pub closedOn-not : (containerFits c used && leb used (length b)) ≡ false → closedOn c used b ≡ (0, b)
+  unfolding closedOn
+  closedOn-not e = rw (closedOn, e) refl
+
+  module _ (w : c .header + 2 ≤ used) (u : used ≤ length b) where
+    body-part : drop (c .header + 2) (take used b) ≡ part b (c .header + 2) (used - (c .header + 2))
+    body-part = slice-part b (c .header + 2) used w u
+
+    pub closedBytes-plain : c .header ≡ c .start → closedBytes c (take used b) ≡ framedBytes (c .code) (part b (c .start + 2) (used - (c .start + 2)))
+    unfolding closedBytes
+    closedBytes-plain e = rw (closedBytes, eq-eqb (c .header) (c .start) e, body-part, e) refl
+
+    pub closedBytes-wrapped : c .start + 2 ≤ c .header → closedBytes c (take used b) ≡ wrapped b (c .start) (c .header) (c .code) (used - (c .header + 2))
+    unfolding closedBytes wrapped
+    closedBytes-wrapped h =
+      rw (closedBytes, ne-eqb (c .header) (c .start) (λ e. omega arith), body-part, take-take (c .header) used b (omega arith), slice-part b (c .start + 2) (c .header) h (omega arith)) refl
+
+-- ---- the abandonment
+
+module _ (used start : ℕ) (b : List ℕ) where
+  pub abandonedOn-fits : (leb start used && leb used (length b)) ≡ true → abandonedOn used start b ≡ (true, splice used start [] b)
+  unfolding abandonedOn
+  abandonedOn-fits e = rw (abandonedOn, e) refl
+
+  pub abandonedOn-not : (leb start used && leb used (length b)) ≡ false → abandonedOn used start b ≡ (false, b)
+  unfolding abandonedOn
+  abandonedOn-not e = rw (abandonedOn, e) refl

@@ -1,0 +1,73 @@
+-- The laws of a splice: it is a run laid at its place and zeros behind it, up to the old used length; at the used length it is the run alone.
+-- By the laws of laid bytes. Assumes nothing.
+use mathlib.Core.Path.{_≡_, refl, sym, _∙_, ap}
+use mathlib.Core.List.{List, [], _∷_, _++_, append-assoc}
+use Prim.Native.Nat.{ℕ, zero, suc, _+_, _-_, _≤_, _<_, max}
+use native.Mathlib.Omega.{arith}
+use lib.ListN.{length, take, drop, replicate, length-append, length-replicate}
+use borrow.Author.Tests.{le-leb, lt-leb}
+use Rattle.encoding.specs.Headers.{headerBytes, framedBytes}
+use Rattle.machine.specs.Machine.{splice}
+use Rattle.buffer.specs.Laid.{laid}
+use Rattle.buffer.proofs.Laid.{laid-is, laid-nil, laid-more, laid-before}
+use Rattle.fields.proofs.Headers.{length-header}
+use Rattle.containers.specs.Containers.{spliced}
+
+-- ---- two runs side by side, the second at a place that the code computes
+
+module _ (b : List ℕ) (at : ℕ) (xs ys : List ℕ) (n : ℕ) (e : n ≡ at + length xs) (h : at + (length xs + length ys) ≤ length b) {l l′ : List ℕ} where
+  pub then-behind : l ≡ laid b at xs → l′ ≡ laid l n ys → l′ ≡ laid b at (xs ++ ys)
+  then-behind p q = q ∙ rw (p, e) (laid-more b at xs (omega arith) ys)
+
+  pub then-before : l ≡ laid b n ys → l′ ≡ laid l at xs → l′ ≡ laid b at (xs ++ ys)
+  then-before p q = q ∙ rw (p, e) (laid-before b at xs (omega arith) ys h)
+
+-- ---- a splice
+
+abbrev zeros : ℕ → List ℕ
+zeros n = replicate n 0
+
+pub framed-is : (t n : ℕ) (body : List ℕ) → length body ≡ n → framedBytes t body ≡ headerBytes t n ++ body
+unfolding framedBytes
+framed-is t n body e = ap (λ (k : ℕ). headerBytes t k ++ body) e
+
+pub length-framed : (t : ℕ) (body : List ℕ) → length (framedBytes t body) ≡ length (headerBytes 0 (length body)) + length body
+unfolding framedBytes
+length-framed t body = length-append (headerBytes t (length body)) body ∙ ap (λ (n : ℕ). n + length body) (length-header t (length body))
+
+module _ (used p : ℕ) (out b : List ℕ) where
+  splice-run : p + length out ≤ length b → splice used p out b ≡ laid b p (out ++ zeros (used - (p + length out)))
+  unfolding splice
+  splice-run h =
+    let k = used - (p + length out) in
+    let e : p + length (out ++ zeros k) ≡ max used (p + length out) = simp (length-append, length-replicate {A = ℕ}) (omega arith) in
+    rw (laid-is b p (out ++ zeros k), e) (append-assoc (take p b) out _ ∙ ap (λ (l : List ℕ). take p b ++ l) (sym (append-assoc out (zeros k) _)))
+
+  -- the zeros are laid behind the run
+  pub splice-laid : p + length out ≤ length b → used ≤ length b → laid (laid b p out) (p + length out) (zeros (used - (p + length out))) ≡ splice used p out b
+  splice-laid h u = laid-more b p out h (zeros (used - (p + length out))) ∙ sym (splice-run h)
+
+  pub spliced-fits : p + length out ≤ length b → spliced used p out b ≡ (p + length out, splice used p out b)
+  unfolding spliced
+  spliced-fits h = rw (spliced, le-leb (p + length out) (length b) h) refl
+
+  pub spliced-full : length b < p + length out → spliced used p out b ≡ (0, b)
+  unfolding spliced
+  spliced-full h = rw (spliced, lt-leb (p + length out) (length b) h) refl
+
+  -- the run is laid, and the rest cleared
+  pub spliced-by : (end : ℕ) {l l′ : List ℕ} → end ≡ p + length out → end ≤ length b → used ≤ length b → l ≡ laid b p out → l′ ≡ laid l end (zeros (used - end)) →
+      _≡_ {A = ℕ × List ℕ} (end, l′) (spliced used p out b)
+  spliced-by end e h u q q′ = rw (q′, q, e) (rw (splice-laid (omega arith) u) (sym (spliced-fits (omega arith))))
+
+-- a splice of nothing clears
+pub splice-nil : (used p : ℕ) (b : List ℕ) → p ≤ length b → splice used p [] b ≡ laid b p (zeros (used - p))
+splice-nil used p b h =
+  let e : p + 0 ≡ p = omega arith in
+  splice-run used p [] b (omega arith) ∙ ap (λ (n : ℕ). laid b p (zeros (used - n))) e
+
+-- at the used length nothing is freed
+pub splice-end : (used : ℕ) (out b : List ℕ) → used + length out ≤ length b → splice used used out b ≡ laid b used out
+splice-end used out b h =
+  let e : used - (used + length out) ≡ 0 = omega arith in
+  sym (splice-laid used used out b h (omega arith)) ∙ (rw e (laid-nil (laid b used out) (used + length out)))

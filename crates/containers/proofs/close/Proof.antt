@@ -1,0 +1,87 @@
+-- `containers::close` meets its contract: the plain close and the annotated one put the bytes of the definition.
+-- Assumes nothing.
+use mathlib.Core.Path.{_≡_, refl, sym, _∙_, ap}
+use mathlib.Core.List.{List}
+use mathlib.Core.Bool.{Bool, true, _&&_, and-eq-true-iff}
+use mathlib.Core.Logic.{⊎-elim}
+use Prim.Native.Nat.{ℕ, _+_, _-_, _≤_}
+use native.Mathlib.Omega.{arith}
+use lib.Dec.{leb}
+use lib.ListN.{length, take}
+use borrow.Author.Tests.{not-true, not-false, leb-true}
+use Rattle.containers.specs.Containers.{containerFits, spliced}
+use Rattle.containers.proofs.Closed.{Fit, fit, closedOn-fits, closedOn-not, closedBytes-plain, closedBytes-wrapped}
+use borrow.Author.Needs.{needs}
+use Rattle.containers.proofs.close.Statement.{statement}
+use Rattle.containers.proofs.close.Tie as tie
+
+record Known (c : tie.Else1) : Type 0 where
+  flag : (containerFits (c .before .before .before .args .c) (c .before .before .before .args .used) && leb (c .before .before .before .args .used) (length (c .before .before .before .args .buf .now))) ≡ true
+  known : Fit (c .before .before .before .args .c) (c .before .before .before .args .used)
+  room : c .before .before .before .args .used ≤ length (c .before .before .before .args .buf .now)
+
+known : (c : tie.Else1) → Known c
+known c =
+  let a = c .before .before .before .args in
+  let e = rw (c .before .fits2 .ensures) at (not-false (c .before .fits2 .result && leb (a .used) (length (a .buf .now))) (c .if1 .left)) in
+  let k = and-eq-true-iff (containerFits (a .c) (a .used)) (leb (a .used) (length (a .buf .now))) .0 e in
+  record { flag = e; known = fit (a .c) (a .used) (k .0); room = leb-true (a .used) (length (a .buf .now)) (k .1) }
+
+-- a header that is not at the start lies behind a reserve
+apart : (c : tie.Else2) → c .before .before .before .before .before .args .c .start + 2 ≤ c .before .before .before .before .before .args .c .header
+apart c = ⊎-elim (λ e. absurd (c .if2 .left e)) (λ h. omega arith) (known (c .before .before) .known .apart)
+
+fits-requires : tie.Need-fits-requires
+fits-requires c κs = search needs
+
+returns : tie.Need-returns
+returns c = let a = c .before .before .before .args in sym (closedOn-not (a .c) (a .used) (a .buf .now) (rw (c .before .fits2 .ensures) at (not-true (c .before .fits2 .result && leb (a .used) (length (a .buf .now))) (c .if1 .taken))))
+
+close-plain-requires : tie.Need-close-plain-requires
+close-plain-requires c κs =
+  let k = known (c .before .before .before) in
+  let f = k .known in
+  (f .high, omega arith, k .room)
+
+same-length : tie.Need-same-length
+same-length c = search needs
+
+returns-2 : tie.Need-returns-2
+returns-2 c =
+  let d = c .before .before .before .before .before .before in
+  let k = known d in
+  let a = d .before .before .before .args in
+  c .before .before .close-plain .ensures
+  ∙ sym (closedOn-fits (a .c) (a .used) (a .buf .now) (k .flag)
+  ∙ ap (λ (out : List ℕ). spliced (a .used) (a .c .start) out (a .buf .now)) (closedBytes-plain (a .c) (a .used) (a .buf .now) (k .known .within) (k .room) (c .before .before .before .before .if2 .taken)))
+
+close-annotated-requires : tie.Need-close-annotated-requires
+close-annotated-requires c κs =
+  let k = known (c .before .before .before) in
+  let f = k .known in
+  (f .high, apart (c .before), f .within, k .room)
+
+same-length-2 : tie.Need-same-length-2
+same-length-2 c = search needs
+
+returns-3 : tie.Need-returns-3
+returns-3 c =
+  let d = c .before .before .before .before .before .before in
+  let k = known d in
+  let a = d .before .before .before .args in
+  c .before .before .close-annotated .ensures
+  ∙ sym (closedOn-fits (a .c) (a .used) (a .buf .now) (k .flag)
+  ∙ ap (λ (out : List ℕ). spliced (a .used) (a .c .start) out (a .buf .now)) (closedBytes-wrapped (a .c) (a .used) (a .buf .now) (k .known .within) (k .room) (apart (c .before .before .before .before))))
+
+pub close-spec : {M : Type 1} → statement M
+close-spec =
+    tie.close
+    (tie.spec
+    fits-requires
+    returns
+    close-plain-requires
+    same-length
+    returns-2
+    close-annotated-requires
+    same-length-2
+    returns-3)
