@@ -13,25 +13,14 @@ use borrow.Author.Tests.{eqb-true, leb-true, eq-eqb, ne-eqb}
 use Rattle.ion.specs.Value.{listCode, sexpCode, structCode}
 use Rattle.encoding.specs.Headers.{typeByte, framedBytes}
 use Rattle.machine.specs.declared.Container.{Container}
-use Rattle.machine.specs.Machine.{closedBytes, splice, containersFit}
-use Rattle.containers.specs.Containers.{containerFits, spliced, wrapped, closedOn, abandonedOn}
+use Rattle.machine.specs.Machine.{closedBytes, splice, containerFits, containersFit}
+use Rattle.containers.specs.Containers.{spliced, wrapped, closedOn, abandonedOn}
 use Rattle.containers.proofs.Moves.{part, slice-part}
 
 -- the innermost of several that fit, and the others below its start
-pub containersFit-cons : (limit : ℕ) (c : Container) (cs : List Container) → containersFit limit (c ∷ cs) ≡ (containerFits c limit && containersFit (c .start) cs)
+pub containersFit-cons : (limit : ℕ) (c : Container) (cs : List Container) → containersFit limit (c ∷ cs) ≡ (containerFits limit c && containersFit (c .start) cs)
 unfolding containersFit
-containersFit-cons limit c cs = regroup _ _ _ _
-  where
-  regroup : (x y z r : Bool) → (x && (y && (z && r))) ≡ ((x && (y && (z && true))) && r)
-  regroup false y z r = refl
-  regroup true false z r = refl
-  regroup true true false r = refl
-  regroup true true true r = refl
-
-pub containerFits-is : (c : Container) (limit : ℕ) → containerFits c limit
-    ≡ ((eqb (c .code) 0xB0 || (eqb (c .code) 0xC0 || eqb (c .code) 0xD0)) && ((eqb (c .header) (c .start) || leb (c .start + 4) (c .header)) && leb (c .header + 2) limit))
-unfolding containersFit
-containerFits-is c limit = rw (and-true (leb (c .header + 2) limit)) refl
+containersFit-cons limit c cs = refl
 
 pub record Fit (c : Container) (limit : ℕ) : Type 0 where
   pub high : c .code / 16 * 16 ≡ c .code
@@ -42,9 +31,10 @@ either : (a b : Bool) → (a || b) ≡ true → (a ≡ true) ⊎ (b ≡ true)
 either true b e = inl refl
 either false b e = inr e
 
-pub fit : (c : Container) (limit : ℕ) → containerFits c limit ≡ true → Fit c limit
+pub fit : (c : Container) (limit : ℕ) → containerFits limit c ≡ true → Fit c limit
+unfolding containerFits
 fit c limit e =
-  let k = and-eq-true-iff (eqb (c .code) 0xB0 || (eqb (c .code) 0xC0 || eqb (c .code) 0xD0)) _ .0 (sym (containerFits-is c limit) ∙ e) in
+  let k = and-eq-true-iff (eqb (c .code) 0xB0 || (eqb (c .code) 0xC0 || eqb (c .code) 0xD0)) _ .0 e in
   let p = and-eq-true-iff (eqb (c .header) (c .start) || leb (c .start + 4) (c .header)) _ .0 (k .1) in
   record {
     high = ⊎-elim (λ x. known 0xB0 refl x) (λ y. ⊎-elim (λ x. known 0xC0 refl x) (λ x. known 0xD0 refl x) (either _ _ y)) (either _ _ (k .0));
@@ -58,11 +48,11 @@ fit c limit e =
 -- ---- the close
 
 module _ (c : Container) (used : ℕ) (b : List ℕ) where
-  pub closedOn-fits : (containerFits c used && leb used (length b)) ≡ true → closedOn c used b ≡ spliced used (c .start) (closedBytes c (take used b)) b
+  pub closedOn-fits : (containerFits used c && leb used (length b)) ≡ true → closedOn c used b ≡ spliced used (c .start) (closedBytes c (take used b)) b
   unfolding closedOn
   closedOn-fits e = rw (closedOn, e) refl
 
-  pub closedOn-not : (containerFits c used && leb used (length b)) ≡ false → closedOn c used b ≡ (0, b)
+  pub closedOn-not : (containerFits used c && leb used (length b)) ≡ false → closedOn c used b ≡ (0, b)
   unfolding closedOn
   closedOn-not e = rw (closedOn, e) refl
 

@@ -8,11 +8,7 @@ use lib.ListN.{length, take, drop}
 use Rattle.ion.specs.Value.{annotationCode}
 use Rattle.encoding.specs.Headers.{typeByte, framedBytes}
 use Rattle.machine.specs.declared.Container.{Container}
-use Rattle.machine.specs.Machine.{closedBytes, splice, containersFit}
-
--- Type code B0, C0 or D0; header equals start or lies 4 or more beyond it; header plus 2 at most the limit.
-abbrev pub containerFits : Container → ℕ → Bool
-containerFits c limit = containersFit limit (c ∷ [])
+use Rattle.machine.specs.Machine.{closedBytes, splice, containerFits}
 
 -- `out` in the place of the used bytes from p on: the used length on return, and the buffer. Where it does not fit, 0 and the buffer as it was.
 unfoldable pub spliced : ℕ → ℕ → List ℕ → List ℕ → ℕ × List ℕ
@@ -20,7 +16,7 @@ spliced used p out b = elim (leb (p + length out) (length b)) [ true ↦ (p + le
 
 -- a container that does not fit alters nothing
 unfoldable pub closedOn : Container → ℕ → List ℕ → ℕ × List ℕ
-closedOn c used b = elim (containerFits c used && leb used (length b)) [ true ↦ spliced used (c .start) (closedBytes c (take used b)) b | false ↦ (0, b) ]
+closedOn c used b = elim (containerFits used c && leb used (length b)) [ true ↦ spliced used (c .start) (closedBytes c (take used b)) b | false ↦ (0, b) ]
 
 -- whether the bytes from the start on were given back, and the buffer
 unfoldable pub abandonedOn : ℕ → ℕ → List ℕ → Bool × List ℕ

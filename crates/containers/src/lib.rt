@@ -8,7 +8,7 @@ ghost use Rattle.encoding.specs.Headers.{headerBytes, framedBytes, annotationBy
 ghost use Rattle.machine.specs.Machine.{reserve};
 ghost use Rattle.buffer.specs.Laid.{laid, placed};
 ghost use Rattle.annotations.specs.Sids.{sidsOf};
-ghost use Rattle.containers.specs.Containers.{containerFits, spliced, wrapped, closedOn, abandonedOn};
+ghost use Rattle.containers.specs.Containers.{spliced, wrapped, closedOn, abandonedOn};
 
 // The type bytes of the containers and of an annotation wrapper.
 const LIST: u8 = 0xB0;
@@ -133,22 +133,12 @@ fn close_annotated(buf: &mut [u8], used: usize, start: usize, header: usize, cod
     end
 }
 
-// Whether a container fits below `limit`: a known type code, the header at the start or behind a wrapper's reserve and annotations, and its reserve.
-pub fn fits(c: machine::Container, limit: usize) -> bool
-    ensures { λ r. ⌜ r ≡ containerFits c limit ⌝ }
-{
-    let known = (c.code == LIST) | ((c.code == SEXP) | (c.code == STRUCT));
-    let apart = buffer::has_room(c.header, c.start, 4);
-    let within = buffer::has_room(limit, c.header, RESERVE);
-    known & (((c.header == c.start) | apart) & within)
-}
-
 // The container that ends at `used`, with its headers in their final form: the used length on return. Freed bytes become zero.
 // 0, and the buffer as it was, where the container does not fit or the result would pass the buffer.
 pub fn close(buf: &mut [u8], used: usize, c: machine::Container) -> usize
     ensures { λ r. ⌜ _≡_ {A = ℕ × List ℕ} (r, now (buf .exit)) (closedOn c used (now (buf .entry))) ⌝ }
 {
-    if !(fits(c, used) & (used <= buf.len())) {
+    if !(place::container_fits(c, used) & (used <= buf.len())) {
         return 0;
     }
     if c.header == c.start {

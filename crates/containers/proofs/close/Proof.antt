@@ -9,33 +9,34 @@ use native.Mathlib.Omega.{arith}
 use lib.Dec.{leb}
 use lib.ListN.{length, take}
 use borrow.Author.Tests.{not-true, not-false, leb-true}
-use Rattle.containers.specs.Containers.{containerFits, spliced}
+use Rattle.containers.specs.Containers.{spliced}
+use Rattle.machine.specs.Machine.{containerFits}
 use Rattle.containers.proofs.Closed.{Fit, fit, closedOn-fits, closedOn-not, closedBytes-plain, closedBytes-wrapped}
 use borrow.Author.Needs.{needs}
 use Rattle.containers.proofs.close.Statement.{statement}
 use Rattle.containers.proofs.close.Tie as tie
 
 record Known (c : tie.Else1) : Type 0 where
-  flag : (containerFits (c .before .before .before .args .c) (c .before .before .before .args .used) && leb (c .before .before .before .args .used) (length (c .before .before .before .args .buf .now))) ≡ true
+  flag : (containerFits (c .before .before .before .args .used) (c .before .before .before .args .c) && leb (c .before .before .before .args .used) (length (c .before .before .before .args .buf .now))) ≡ true
   known : Fit (c .before .before .before .args .c) (c .before .before .before .args .used)
   room : c .before .before .before .args .used ≤ length (c .before .before .before .args .buf .now)
 
 known : (c : tie.Else1) → Known c
 known c =
   let a = c .before .before .before .args in
-  let e = rw (c .before .fits2 .ensures) at (not-false (c .before .fits2 .result && leb (a .used) (length (a .buf .now))) (c .if1 .left)) in
-  let k = and-eq-true-iff (containerFits (a .c) (a .used)) (leb (a .used) (length (a .buf .now))) .0 e in
+  let e = rw (c .before .container-fits .ensures) at (not-false (c .before .container-fits .result && leb (a .used) (length (a .buf .now))) (c .if1 .left)) in
+  let k = and-eq-true-iff (containerFits (a .used) (a .c)) (leb (a .used) (length (a .buf .now))) .0 e in
   record { flag = e; known = fit (a .c) (a .used) (k .0); room = leb-true (a .used) (length (a .buf .now)) (k .1) }
 
 -- a header that is not at the start lies behind a reserve
 apart : (c : tie.Else2) → c .before .before .before .before .before .args .c .start + 2 ≤ c .before .before .before .before .before .args .c .header
 apart c = ⊎-elim (λ e. absurd (c .if2 .left e)) (λ h. omega arith) (known (c .before .before) .known .apart)
 
-fits-requires : tie.Need-fits-requires
-fits-requires c κs = search needs
+container-fits-requires : tie.Need-container-fits-requires
+container-fits-requires c κs = search needs
 
 returns : tie.Need-returns
-returns c = let a = c .before .before .before .args in sym (closedOn-not (a .c) (a .used) (a .buf .now) (rw (c .before .fits2 .ensures) at (not-true (c .before .fits2 .result && leb (a .used) (length (a .buf .now))) (c .if1 .taken))))
+returns c = let a = c .before .before .before .args in sym (closedOn-not (a .c) (a .used) (a .buf .now) (rw (c .before .container-fits .ensures) at (not-true (c .before .container-fits .result && leb (a .used) (length (a .buf .now))) (c .if1 .taken))))
 
 close-plain-requires : tie.Need-close-plain-requires
 close-plain-requires c κs =
@@ -77,7 +78,7 @@ pub close-spec : {M : Type 1} → statement M
 close-spec =
     tie.close
     (tie.spec
-    fits-requires
+    container-fits-requires
     returns
     close-plain-requires
     same-length
