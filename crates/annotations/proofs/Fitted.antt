@@ -23,6 +23,6 @@ module _ (room : ℕ) (out : List ℕ) where
   pub fitted-or : ((length out ≤ room) × (fitted room out ≡ length out)) ⊎ ((room < length out) × (fitted room out ≡ 0))
   fitted-or = go (leb (length out) room) refl
     where
-    go : (t : Bool) → leb (length out) room ≡ t → ((length out ≤ room) × (fitted room out ≡ length out)) ⊎ ((room < length out) × (fitted room out ≡ 0))
-    go true e = let h = leb-true (length out) room e in inl (h, fitted-fits h)
-    go false e = let h = leb-false (length out) room e in inr (h, fitted-full h)
+      go : (t : Bool) → leb (length out) room ≡ t → ((length out ≤ room) × (fitted room out ≡ length out)) ⊎ ((room < length out) × (fitted room out ≡ 0))
+      go true e = let h = leb-true (length out) room e in inl (h, fitted-fits h)
+      go false e = let h = leb-false (length out) room e in inr (h, fitted-full h)

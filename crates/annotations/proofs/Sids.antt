@@ -106,6 +106,6 @@ snoc-some (m ∷ ns) n = (m, ns ++ (n ∷ []), refl)
 pub sids-some : (b : List ℕ) → 0 < length b → (a : ℕ) × (an : List ℕ) × (sidsOf b ≡ a ∷ an)
 unfolding sidsOf sidsUpTo
 sids-some b h =
-  let e : sidCount b ≡ suc (sidCount b - 1) = omega arith in
-  let s = snoc-some (sidsUpTo b (sidCount b - 1)) (sidAt b (sidCount b - 1)) in
-  (s .0, s .1, ap (sidsUpTo b) e ∙ s .2)
+    let e : sidCount b ≡ suc (sidCount b - 1) = omega arith in
+    let s = snoc-some (sidsUpTo b (sidCount b - 1)) (sidAt b (sidCount b - 1)) in
+    (s .0, s .1, ap (sidsUpTo b) e ∙ s .2)

@@ -34,16 +34,16 @@ either false b e = inr e
 pub fit : (c : Container) (limit : ℕ) → containerFits limit c ≡ true → Fit c limit
 unfolding containerFits
 fit c limit e =
-  let k = and-eq-true-iff (eqb (c .code) 0xB0 || (eqb (c .code) 0xC0 || eqb (c .code) 0xD0)) _ .0 e in
-  let p = and-eq-true-iff (eqb (c .header) (c .start) || leb (c .start + 4) (c .header)) _ .0 (k .1) in
-  record {
-    high = ⊎-elim (λ x. known 0xB0 refl x) (λ y. ⊎-elim (λ x. known 0xC0 refl x) (λ x. known 0xD0 refl x) (either _ _ y)) (either _ _ (k .0));
-    apart = ⊎-elim (λ x. inl (eqb-true (c .header) (c .start) x)) (λ x. inr (leb-true (c .start + 4) (c .header) x)) (either _ _ (p .0));
-    within = leb-true (c .header + 2) limit (p .1)
-  }
+    let k = and-eq-true-iff (eqb (c .code) 0xB0 || (eqb (c .code) 0xC0 || eqb (c .code) 0xD0)) _ .0 e in
+    let p = and-eq-true-iff (eqb (c .header) (c .start) || leb (c .start + 4) (c .header)) _ .0 (k .1) in
+    record {
+      high = ⊎-elim (λ x. known 0xB0 refl x) (λ y. ⊎-elim (λ x. known 0xC0 refl x) (λ x. known 0xD0 refl x) (either _ _ y)) (either _ _ (k .0));
+      apart = ⊎-elim (λ x. inl (eqb-true (c .header) (c .start) x)) (λ x. inr (leb-true (c .start + 4) (c .header) x)) (either _ _ (p .0));
+      within = leb-true (c .header + 2) limit (p .1);
+    }
   where
-  known : (t : ℕ) → t / 16 * 16 ≡ t → eqb (c .code) t ≡ true → c .code / 16 * 16 ≡ c .code
-  known t q x = rw (eqb-true (c .code) t x) q
+    known : (t : ℕ) → t / 16 * 16 ≡ t → eqb (c .code) t ≡ true → c .code / 16 * 16 ≡ c .code
+    known t q x = rw (eqb-true (c .code) t x) q
 
 -- ---- the close
 
@@ -67,7 +67,7 @@ module _ (c : Container) (used : ℕ) (b : List ℕ) where
     pub closedBytes-wrapped : c .start + 2 ≤ c .header → closedBytes c (take used b) ≡ wrapped b (c .start) (c .header) (c .code) (used - (c .header + 2))
     unfolding closedBytes wrapped
     closedBytes-wrapped h =
-      rw (closedBytes, ne-eqb (c .header) (c .start) (λ e. omega arith), body-part, take-take (c .header) used b (omega arith), slice-part b (c .start + 2) (c .header) h (omega arith)) refl
+        rw (closedBytes, ne-eqb (c .header) (c .start) (λ e. omega arith), body-part, take-take (c .header) used b (omega arith), slice-part b (c .start + 2) (c .header) h (omega arith)) refl
 
 -- ---- the abandonment
 

@@ -39,9 +39,9 @@ module _ (used p : ℕ) (out b : List ℕ) where
   splice-run : p + length out ≤ length b → splice used p out b ≡ laid b p (out ++ zeros (used - (p + length out)))
   unfolding splice
   splice-run h =
-    let k = used - (p + length out) in
-    let e : p + length (out ++ zeros k) ≡ max used (p + length out) = simp (length-append, length-replicate {A = ℕ}) (omega arith) in
-    rw (laid-is b p (out ++ zeros k), e) (append-assoc (take p b) out _ ∙ ap (λ (l : List ℕ). take p b ++ l) (sym (append-assoc out (zeros k) _)))
+      let k = used - (p + length out) in
+      let e : p + length (out ++ zeros k) ≡ max used (p + length out) = simp (length-append, length-replicate {A = ℕ}) (omega arith) in
+      rw (laid-is b p (out ++ zeros k), e) (append-assoc (take p b) out _ ∙ ap (λ (l : List ℕ). take p b ++ l) (sym (append-assoc out (zeros k) _)))
 
   -- the zeros are laid behind the run
   pub splice-laid : p + length out ≤ length b → used ≤ length b → laid (laid b p out) (p + length out) (zeros (used - (p + length out))) ≡ splice used p out b
@@ -63,11 +63,11 @@ module _ (used p : ℕ) (out b : List ℕ) where
 -- a splice of nothing clears
 pub splice-nil : (used p : ℕ) (b : List ℕ) → p ≤ length b → splice used p [] b ≡ laid b p (zeros (used - p))
 splice-nil used p b h =
-  let e : p + 0 ≡ p = omega arith in
-  splice-run used p [] b (omega arith) ∙ ap (λ (n : ℕ). laid b p (zeros (used - n))) e
+    let e : p + 0 ≡ p = omega arith in
+    splice-run used p [] b (omega arith) ∙ ap (λ (n : ℕ). laid b p (zeros (used - n))) e
 
 -- at the used length nothing is freed
 pub splice-end : (used : ℕ) (out b : List ℕ) → used + length out ≤ length b → splice used used out b ≡ laid b used out
 splice-end used out b h =
-  let e : used - (used + length out) ≡ 0 = omega arith in
-  sym (splice-laid used used out b h (omega arith)) ∙ (rw e (laid-nil (laid b used out) (used + length out)))
+    let e : used - (used + length out) ≡ 0 = omega arith in
+    sym (splice-laid used used out b h (omega arith)) ∙ (rw e (laid-nil (laid b used out) (used + length out)))

@@ -20,9 +20,9 @@ use Rattle.containers.proofs.Splice.{then-behind, then-before, framed-i
 one-byte : (n h len : ℕ) → length (headerBytes 0 (n + h + len)) < 2 → length (headerBytes 0 len) ≡ 1
 one-byte n h len l = go (ltb (n + h + len) 14) refl
   where
-  go : (t : Bool) → ltb (n + h + len) 14 ≡ t → length (headerBytes 0 len) ≡ 1
-  go true e = ap length (header-short 0 len (omega (arith, ltb-true (n + h + len) 14 e)))
-  go false e = absurd (omega (arith, ap length (header-long 0 (n + h + len) (ltb-false (n + h + len) 14 e)), varUInt-least (n + h + len)))
+    go : (t : Bool) → ltb (n + h + len) 14 ≡ t → length (headerBytes 0 len) ≡ 1
+    go true e = ap length (header-short 0 len (omega (arith, ltb-true (n + h + len) 14 e)))
+    go false e = absurd (omega (arith, ap length (header-long 0 (n + h + len) (ltb-false (n + h + len) 14 e)), varUInt-least (n + h + len)))
 
 module _ (b : List ℕ) (start header code len h w : ℕ)
     (s : start + 2 ≤ header) (f : header + 2 + len ≤ length b)
@@ -49,18 +49,18 @@ module _ (b : List ℕ) (start header code len h w : ℕ)
 
   lengths : Lengths
   lengths =
-    let a = length-part b (start + 2) (header - (start + 2)) (omega arith) in
-    let m = length-part b (header + 2) len f in
-    let i = length-header code len ∙ sym eh in
-    let j : length (H ++ B) ≡ h + len = length-append H B ∙ omega arith in
-    record {
-      annotations = a;
-      body = m;
-      inner = i;
-      wrapper = length-header 0xE0 (header - (start + 2) + h + len) ∙ sym ew;
-      after = j;
-      content = length-append A (H ++ B) ∙ omega arith
-    }
+      let a = length-part b (start + 2) (header - (start + 2)) (omega arith) in
+      let m = length-part b (header + 2) len f in
+      let i = length-header code len ∙ sym eh in
+      let j : length (H ++ B) ≡ h + len = length-append H B ∙ omega arith in
+      record {
+        annotations = a;
+        body = m;
+        inner = i;
+        wrapper = length-header 0xE0 (header - (start + 2) + h + len) ∙ sym ew;
+        after = j;
+        content = length-append A (H ++ B) ∙ omega arith;
+      }
 
   whole : W ++ (A ++ (H ++ B)) ≡ wrapped b start header code len
   unfolding wrapped
@@ -73,8 +73,8 @@ module _ (b : List ℕ) (start header code len h w : ℕ)
     -- the wrapper's header before all else
     last : {l₃ l₄ : List ℕ} → l₃ ≡ laid b (start + w) (A ++ (H ++ B)) → l₄ ≡ laid l₃ start W → l₄ ≡ laid b start (wrapped b start header code len)
     last e₃ e₄ =
-      let k = lengths in
-      then-before b start W (A ++ (H ++ B)) (start + w) (omega arith) (omega arith) e₃ e₄ ∙ ap (laid b start) whole
+        let k = lengths in
+        then-before b start W (A ++ (H ++ B)) (start + w) (omega arith) (omega arith) e₃ e₄ ∙ ap (laid b start) whole
 
     -- the body first, then the inner header and the annotations before it
     pub from-the-right : {l₁ l₂ l₃ l₄ : List ℕ} → 2 ≤ w
@@ -84,11 +84,11 @@ module _ (b : List ℕ) (start header code len h w : ℕ)
         → l₄ ≡ laid l₃ start W
         → l₄ ≡ laid b start (wrapped b start header code len)
     from-the-right {l₁} {l₂} {l₃} {l₄} u e₁ e₂ e₃ e₄ =
-      let k = lengths in
-      let i = start + w + (header - (start + 2)) in
-      let q₂ : l₂ ≡ laid b i (H ++ B) = then-before b i H B (i + h) (omega arith) (omega arith) e₁ e₂ in
-      let p : part l₂ (start + 2) (header - (start + 2)) ≡ A = rw q₂ (part-before b i (H ++ B) (omega arith) (start + 2) (header - (start + 2)) (omega arith)) in
-      last (then-before b (start + w) A (H ++ B) i (omega arith) (omega arith) q₂ (e₃ ∙ ap (laid l₂ (start + w)) p)) e₄
+        let k = lengths in
+        let i = start + w + (header - (start + 2)) in
+        let q₂ : l₂ ≡ laid b i (H ++ B) = then-before b i H B (i + h) (omega arith) (omega arith) e₁ e₂ in
+        let p : part l₂ (start + 2) (header - (start + 2)) ≡ A = rw q₂ (part-before b i (H ++ B) (omega arith) (start + 2) (header - (start + 2)) (omega arith)) in
+        last (then-before b (start + w) A (H ++ B) i (omega arith) (omega arith) q₂ (e₃ ∙ ap (laid l₂ (start + w)) p)) e₄
 
     -- the annotations first, then the inner header and the body behind them
     pub from-the-left : {l₁ l₂ l₃ l₄ : List ℕ} → w < 2
@@ -98,10 +98,10 @@ module _ (b : List ℕ) (start header code len h w : ℕ)
         → l₄ ≡ laid l₃ start W
         → l₄ ≡ laid b start (wrapped b start header code len)
     from-the-left {l₁} {l₂} {l₃} {l₄} u e₁ e₂ e₃ e₄ =
-      let k = lengths in
-      let o = one-byte (header - (start + 2)) h len (omega arith) in
-      let i = start + w + (header - (start + 2)) in
-      let j : length (A ++ H) ≡ header - (start + 2) + h = length-append A H ∙ omega arith in
-      let q₂ : l₂ ≡ laid b (start + w) (A ++ H) = then-behind b (start + w) A H i (omega arith) (omega arith) e₁ e₂ in
-      let p : part l₂ (header + 2) len ≡ B = rw q₂ (part-behind b (start + w) (A ++ H) (omega arith) (header + 2) len (omega arith)) in
-      last (then-behind b (start + w) (A ++ H) B (i + h) (omega arith) (omega arith) q₂ (e₃ ∙ ap (laid l₂ (i + h)) p) ∙ ap (laid b (start + w)) (append-assoc A H B)) e₄
+        let k = lengths in
+        let o = one-byte (header - (start + 2)) h len (omega arith) in
+        let i = start + w + (header - (start + 2)) in
+        let j : length (A ++ H) ≡ header - (start + 2) + h = length-append A H ∙ omega arith in
+        let q₂ : l₂ ≡ laid b (start + w) (A ++ H) = then-behind b (start + w) A H i (omega arith) (omega arith) e₁ e₂ in
+        let p : part l₂ (header + 2) len ≡ B = rw q₂ (part-behind b (start + w) (A ++ H) (omega arith) (header + 2) len (omega arith)) in
+        last (then-behind b (start + w) (A ++ H) B (i + h) (omega arith) (omega arith) q₂ (e₃ ∙ ap (laid l₂ (i + h)) p) ∙ ap (laid b (start + w)) (append-assoc A H B)) e₄

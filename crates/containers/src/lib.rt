@@ -12,8 +12,11 @@ ghost use Rattle.containers.specs.Containers.{spliced, wrapped, closedOn
 
 // The type bytes of the containers and of an annotation wrapper.
 const LIST: u8 = 0xB0;
+
 const SEXP: u8 = 0xC0;
+
 const STRUCT: u8 = 0xD0;
+
 const WRAPPER: u8 = 0xE0;
 
 // The bytes reserved for a header.
@@ -96,7 +99,15 @@ fn close_plain(buf: &mut [u8], used: usize, start: usize, code: u8) -> usize
 
 // The wrapper's header, the annotations, the inner header and the body, each at its final place; `inner` and `wrapper` are the sizes of the headers.
 // Annotations and body move once each. The part that moves to the right makes way first: the body, unless the wrapper's header has one byte.
-fn lay_wrapped(buf: &mut [u8], start: usize, header: usize, code: u8, body: usize, inner: usize, wrapper: usize)
+fn lay_wrapped(
+    buf: &mut [u8],
+    start: usize,
+    header: usize,
+    code: u8,
+    body: usize,
+    inner: usize,
+    wrapper: usize,
+)
     requires { ⌜ (code / 16 * 16 ≡ code) × (start + 2 ≤ header) × (header + 2 + body ≤ length (now buf)) × (start + wrapper + (header - (start + 2)) + inner + body ≤ length (now buf)) × (inner ≡ length (headerBytes 0 body)) × (wrapper ≡ length (headerBytes 0 (header - (start + 2) + inner + body))) ⌝ }
     ensures { λ r. ⌜ now (buf .exit) ≡ laid (now (buf .entry)) start (wrapped (now (buf .entry)) start header code body) ⌝ }
 {

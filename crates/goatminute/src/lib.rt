@@ -8,7 +8,6 @@ ghost use Rattle.machine.specs.Numbers.{number, verdictOf};
 ghost use Rattle.machine.specs.Call.{name, versionMarker, emptying};
 ghost use Rattle.state_bytes.specs.StateBytes.{stateOf, storedHead, numberOf, entered};
 ghost use Rattle.goatminute.specs.Entries.{enteredAs, endedNumber, endedState, startEntered};
-
 use machine::Answer;
 use machine::Refusal;
 

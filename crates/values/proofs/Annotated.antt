@@ -69,8 +69,8 @@ module _ (an : List ℕ) (a : Argument) where
 
   pub annotated-checked : annotatedChecked an a ≡ annotatedAny an (checkedBytes a)
   annotated-checked = by-cases (anyHolds (argumentChecks a))
-    (λ e. annotated-refused e ∙ ap (annotatedAny an) (sym (checkedBytes-refused a e)))
-    (λ e. annotated-accepted e ∙ (sym (annotatedAny-some an (argumentBytes a) (argument-some a)) ∙ ap (annotatedAny an) (sym (checkedBytes-accepted a e))))
+      (λ e. annotated-refused e ∙ ap (annotatedAny an) (sym (checkedBytes-refused a e)))
+      (λ e. annotated-accepted e ∙ (sym (annotatedAny-some an (argumentBytes a) (argument-some a)) ∙ ap (annotatedAny an) (sym (checkedBytes-accepted a e))))
 
 -- with no annotations, its checked bytes
 pub annotated-plain : (a : Argument) → annotatedChecked [] a ≡ checkedBytes a
@@ -89,9 +89,9 @@ fits-or m n = by-cases (leb m n) (λ e. inl (leb-true m n e)) (λ e. inr (leb-fa
 
 pub before-none : (b : List ℕ) (at : ℕ) → placedBefore b at [] 0 ≡ (0, b)
 before-none b at = ⊎-elim
-  (λ h. placedBefore-fits b at [] 0 h ∙ placed-nil b at)
-  (λ l. placedBefore-full b at [] 0 l)
-  (fits-or (at + 0 + 0) (length b))
+    (λ h. placedBefore-fits b at [] 0 h ∙ placed-nil b at)
+    (λ l. placedBefore-full b at [] 0 l)
+    (fits-or (at + 0 + 0) (length b))
 
 -- a size of 0 says that there is no value or no room for it, and any other is the value's
 fitted-zero : (room : ℕ) (v : List ℕ) → fitted room v ≡ 0 → (length v ≡ 0) ⊎ (room < length v)
@@ -114,10 +114,13 @@ Outcome b at an v size =
     ⊎ ((0 < length v) × (prefixFor an size ≡ prefixBytes an (length v)) × (size ≡ length v) × (at + length (annotatedBytes an v) ≤ length b))
 
 outcome : (b : List ℕ) (at : ℕ) (an v : List ℕ) (size : ℕ) → 0 < length an → size ≡ fitted (length b) v → Outcome b at an v size
-outcome b at an v zero some e = inl (before-none b at, ⊎-elim
-    (λ z. ap (placed b at) (annotatedAny-none an v z) ∙ placed-nil b at)
-    (λ l. ap (placed b at) (annotatedAny-some an v (omega arith)) ∙ placed-full b at (annotatedBytes an v) (omega (arith, annotated-longer an v)))
-    (fitted-zero (length b) v (sym e)))
+outcome b at an v zero some e = inl (
+  before-none b at,
+  ⊎-elim
+      (λ z. ap (placed b at) (annotatedAny-none an v z) ∙ placed-nil b at)
+      (λ l. ap (placed b at) (annotatedAny-some an v (omega arith)) ∙ placed-full b at (annotatedBytes an v) (omega (arith, annotated-longer an v)))
+      (fitted-zero (length b) v (sym e)),
+)
 outcome b at [] v (suc n) some e = absurd (omega arith)
 outcome b at (a ∷ an) v (suc n) some e =
     let q : suc n ≡ length v = e ∙ fitted-pos (length b) v (omega arith) in
@@ -155,22 +158,22 @@ module _ (b : List ℕ) (at : ℕ) (an v : List ℕ) (some : 0 < length an) (siz
     (p : ℕ) (l : List ℕ) (w : _≡_ {A = ℕ × List ℕ} (p, l) (placedBefore b at (prefixFor an size) size)) where
   no-wrapper : p ≡ 0 → _≡_ {A = ℕ × List ℕ} (0, l) (placed b at (annotatedAny an v))
   no-wrapper z = ⊎-elim
-    (λ o. ap (λ (x : ℕ × List ℕ). (0, x .1)) (w ∙ o .0) ∙ sym (o .1))
-    (λ o. absurd (omega (arith, prefix-some an (length v), prefix-count b at v p l an some (o .3) (w ∙ rw (o .1, o .2) refl) .0)))
-    (outcome b at an v size some e)
+      (λ o. ap (λ (x : ℕ × List ℕ). (0, x .1)) (w ∙ o .0) ∙ sym (o .1))
+      (λ o. absurd (omega (arith, prefix-some an (length v), prefix-count b at v p l an some (o .3) (w ∙ rw (o .1, o .2) refl) .0)))
+      (outcome b at an v size some e)
 
   fits : 0 < p → (0 < length v) × (at + length (annotatedBytes an v) ≤ length b) × (_≡_ {A = ℕ × List ℕ} (p, l) (placedBefore b at (prefixBytes an (length v)) (length v)))
   fits q = ⊎-elim
-    (λ o. absurd (omega (arith, ap (λ (x : ℕ × List ℕ). x .0) (w ∙ o .0))))
-    (λ o. (o .0, o .3, w ∙ rw (o .1, o .2) refl))
-    (outcome b at an v size some e)
+      (λ o. absurd (omega (arith, ap (λ (x : ℕ × List ℕ). x .0) (w ∙ o .0))))
+      (λ o. (o .0, o .3, w ∙ rw (o .1, o .2) refl))
+      (outcome b at an v size some e)
 
   pub wrapped : Wrapped b at v (annotatedAny an v) p l
   wrapped = record {
     none = no-wrapper;
     room = λ q. let f = fits q in prefix-count b at v p l an some (f .1) (f .2) .1;
     behind = λ q m l′ g. let f = fits q in value-then b at v p l an some (f .1) (f .2) m l′ g ∙ ap (placed b at) (sym (annotatedAny-some an v (f .0)));
-    count = λ q m l′ g. let f = fits q in omega (arith, prefix-count b at v p l an some (f .1) (f .2) .1, placed-most l (at + p) v m l′ g)
+    count = λ q m l′ g. let f = fits q in omega (arith, prefix-count b at v p l an some (f .1) (f .2) .1, placed-most l (at + p) v m l′ g);
   }
 
 -- the path of a scalar: `size` is its own, and annotations are lent

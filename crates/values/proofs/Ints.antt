@@ -35,9 +35,9 @@ uint-nil = refl
 trimmed-pos : (m : List ℕ) → 0 < length (trimmed m) → 0 < uint (trimmed m)
 trimmed-pos [] p = absurd (omega (arith, ap length trimmed-nil))
 trimmed-pos (b ∷ bs) p = ⊎-elim
-  (λ z. rw (trimmed-zero b bs z) (trimmed-pos bs (rw (trimmed-zero b bs z) at p)))
-  (λ q. rw (trimmed-first b bs q) (first-pos b bs q))
-  (eq-zero-or-pos b)
+    (λ z. rw (trimmed-zero b bs z) (trimmed-pos bs (rw (trimmed-zero b bs z) at p)))
+    (λ q. rw (trimmed-first b bs q) (first-pos b bs q))
+    (eq-zero-or-pos b)
 
 none-nil : (l : List ℕ) → length l ≡ 0 → l ≡ []
 none-nil [] e = refl
@@ -47,15 +47,15 @@ none-nil (x ∷ xs) e = absurd (omega arith)
 module _ (m : List ℕ) (r : ℕ) (e : r + length (trimmed m) ≡ length m) where
   pub is-zero : eqb r (length m) ≡ eqb (uint m) 0
   is-zero = ⊎-elim
-    (λ z. eq-eqb r (length m) (omega arith) ∙ sym (eq-eqb (uint m) 0 (sym (trimmed-same m) ∙ (ap uint (none-nil (trimmed m) z) ∙ uint-nil))))
-    (λ p. ne-eqb r (length m) (λ q. omega arith) ∙ sym (ne-eqb (uint m) 0 (λ q. omega (arith, trimmed-pos m p, trimmed-same m))))
-    (eq-zero-or-pos (length (trimmed m)))
+      (λ z. eq-eqb r (length m) (omega arith) ∙ sym (eq-eqb (uint m) 0 (sym (trimmed-same m) ∙ (ap uint (none-nil (trimmed m) z) ∙ uint-nil))))
+      (λ p. ne-eqb r (length m) (λ q. omega arith) ∙ sym (ne-eqb (uint m) 0 (λ q. omega (arith, trimmed-pos m p, trimmed-same m))))
+      (eq-zero-or-pos (length (trimmed m)))
 
   pub length-orZero : length (orZero (trimmed m)) ≡ length m - r + boolByte (eqb (length m - r) 0)
   length-orZero = ⊎-elim
-    (λ z. ap length (orZero-none (trimmed m) z) ∙ rw (eq-eqb (length m - r) 0 (omega arith)) (omega arith))
-    (λ p. ap length (orZero-some (trimmed m) p) ∙ rw (ne-eqb (length m - r) 0 (λ q. omega arith)) (omega arith))
-    (eq-zero-or-pos (length (trimmed m)))
+      (λ z. ap length (orZero-none (trimmed m) z) ∙ rw (eq-eqb (length m - r) 0 (omega arith)) (omega arith))
+      (λ p. ap length (orZero-some (trimmed m) p) ∙ rw (ne-eqb (length m - r) 0 (λ q. omega arith)) (omega arith))
+      (eq-zero-or-pos (length (trimmed m)))
 
 or-false : (b : Bool) → (b || false) ≡ b
 or-false true = refl

@@ -111,7 +111,12 @@ fn plain_uint(buf: &mut [u8], at: usize, code: u8, value: u64) -> usize
 fn plain_i64(buf: &mut [u8], at: usize, value: i64) -> usize
     ensures { λ r. ⌜ _≡_ {A = ℕ × List ℕ} (r, now (buf .exit)) (placed (now (buf .entry)) at (checkedBytes (writeI64 value))) ⌝ }
 {
-    plain_uint(buf, at, INT + NEGATIVE * (fields::sign::is_negative(value) as u8), fields::sign::magnitude(value))
+    plain_uint(
+        buf,
+        at,
+        INT + NEGATIVE * (fields::sign::is_negative(value) as u8),
+        fields::sign::magnitude(value),
+    )
 }
 
 fn plain_symbol(buf: &mut [u8], at: usize, sid: u64) -> usize
@@ -188,7 +193,10 @@ fn scalar_size(value: Scalar, room: usize) -> usize
     match value {
         Scalar::Null(_) => fit(1, room),
         Scalar::Bool(_) => fit(1, room),
-        Scalar::I64(n) => framed_size(fields::uint::encoded_size_of(fields::sign::magnitude(n)), room),
+        Scalar::I64(n) => framed_size(
+            fields::uint::encoded_size_of(fields::sign::magnitude(n)),
+            room,
+        ),
         Scalar::F32(bits) => fit(floats::f32_size(bits), room),
         Scalar::F64(bits) => fit(floats::f64_size(bits), room),
         Scalar::Symbol(sid) => framed_size(fields::uint::encoded_size_of(sid), room),
@@ -272,13 +280,24 @@ pub fn write_i64(buf: &mut [u8], at: usize, annotations: &[u8], value: i64) -> u
 }
 
 // The sign and a big-endian magnitude, whose leading zero bytes do not count. Negative zero is refused.
-pub fn write_int(buf: &mut [u8], at: usize, annotations: &[u8], negative: bool, magnitude: &[u8]) -> usize
+pub fn write_int(
+    buf: &mut [u8],
+    at: usize,
+    annotations: &[u8],
+    negative: bool,
+    magnitude: &[u8],
+) -> usize
     ensures { λ r. ⌜ _≡_ {A = ℕ × List ℕ} (r, now (buf .exit)) (placed (now (buf .entry)) at (annotatedChecked (sidsOf (now (annotations .entry))) (writeInt negative (now (magnitude .entry))))) ⌝ }
 {
     if annotations.len() == 0 {
         return plain_int(buf, at, negative, magnitude);
     }
-    let wrapper = write_wrapper(buf, at, annotations, int_size(negative, magnitude, buf.len()));
+    let wrapper = write_wrapper(
+        buf,
+        at,
+        annotations,
+        int_size(negative, magnitude, buf.len()),
+    );
     if wrapper == 0 {
         return 0;
     }
@@ -303,13 +322,25 @@ pub fn write_f64(buf: &mut [u8], at: usize, annotations: &[u8], bits: u64) -> us
     annotated_scalar(buf, at, annotations, Scalar::F64(bits))
 }
 
-pub fn write_decimal(buf: &mut [u8], at: usize, annotations: &[u8], negative: bool, coefficient: &[u8], exponent: i64) -> usize
+pub fn write_decimal(
+    buf: &mut [u8],
+    at: usize,
+    annotations: &[u8],
+    negative: bool,
+    coefficient: &[u8],
+    exponent: i64,
+) -> usize
     ensures { λ r. ⌜ _≡_ {A = ℕ × List ℕ} (r, now (buf .exit)) (placed (now (buf .entry)) at (annotatedChecked (sidsOf (now (annotations .entry))) (writeDecimal negative (now (coefficient .entry)) exponent))) ⌝ }
 {
     if annotations.len() == 0 {
         return decimal::write(buf, at, negative, coefficient, exponent);
     }
-    let wrapper = write_wrapper(buf, at, annotations, decimal::size(negative, coefficient, exponent, buf.len()));
+    let wrapper = write_wrapper(
+        buf,
+        at,
+        annotations,
+        decimal::size(negative, coefficient, exponent, buf.len()),
+    );
     if wrapper == 0 {
         return 0;
     }

@@ -1,2 +1,3 @@
+pub mod Containers
 pub mod Run
 pub mod Scalars

@@ -1,12 +1,12 @@
 -- What the machine answers and leaves, by how far a call gets: refused by place, refused by its own lines, or accepted.
 -- Assumes nothing.
-use Prim.Native.Nat.{ℕ, zero, suc, _+_, _-_, _<_, _≤_, max}
+use Prim.Native.Nat.{ℕ, _+_, _-_, _<_, _≤_, max}
 use native.Mathlib.Omega.{arith}
 use mathlib.Core.Path.{_≡_, refl, sym, _∙_, ap}
-use mathlib.Core.Bool.{Bool, true, false, false≢true, not, _&&_, _||_}
-use mathlib.Core.List.{List, [], _∷_, _++_, append-assoc, append-nil}
+use mathlib.Core.Bool.{Bool, true, false, false≢true}
+use mathlib.Core.List.{List, [], _∷_, _++_, append-assoc}
 use lib.Dec.{ltb, eqb}
-use lib.ListN.{length, take, drop, replicate, length-append}
+use lib.ListN.{length, take, drop}
 use borrow.Author.Tests.{le-ltb, lt-ltb, eq-eqb, ne-eqb, eqb-true, eqb-false}
 use Rattle.ion.proofs.Tests.{by-cases}
 use Rattle.encoding.specs.Argument.{Argument, argumentChecks, anyHolds}
@@ -16,10 +16,9 @@ use Rattle.buffer.proofs.Laid.{placed-or}
 use Rattle.machine.specs.declared.State.{State}
 use Rattle.machine.specs.declared.Container.{Container}
 use Rattle.machine.specs.Call.{Call}
-use Rattle.machine.specs.Machine.{Config, splice, put, effect, placeLines, lines, checks, Verdict, accepted, refused, firstFailing, isAccepted, verdict, after}
+use Rattle.machine.specs.Machine.{Config, splice, put, effect, placeLines, checks, Verdict, accepted, refused, firstFailing, isAccepted, verdict}
 use Rattle.machine.specs.declared.Refusal.{Refusal}
 use Rattle.machine.specs.declared.Refusal.the-variants.{NoRoom}
-use Rattle.machine.specs.declared.Written.{Written}
 use Rattle.writer.specs.Ended.{endedBy}
 use Rattle.machine.specs.declared.Answer.{Answer}
 use Rattle.machine.specs.declared.Answer.the-variants.{Accepted, Refused}
@@ -33,7 +32,7 @@ first-of-left : (l r : List (Bool × ℕ)) (n : ℕ) → firstFailing l ≡ refu
 first-of-left [] r n e = absurd (false≢true (sym (ap isAccepted e)))
 first-of-left (x ∷ xs) r n e = by-cases (x .0) (λ p. rw p (rw p at e)) (λ p. rw p (first-of-left xs r n (rw p at e)))
 
-first-of-right : (l r : List (Bool × ℕ)) → firstFailing l ≡ accepted → firstFailing (l ++ r) ≡ firstFailing r
+pub first-of-right : (l r : List (Bool × ℕ)) → firstFailing l ≡ accepted → firstFailing (l ++ r) ≡ firstFailing r
 first-of-right [] r e = refl
 first-of-right (x ∷ xs) r e = by-cases (x .0) (λ p. absurd (false≢true (ap isAccepted (rw p at e)))) (λ p. rw p (first-of-right xs r (rw p at e)))
 
@@ -109,7 +108,7 @@ module _ (c : Call) (s : State) (b : List ℕ) (m : Bool) (rest : List (Bool × 
 -- ---- a call that puts bytes at the end of the used ones
 
 -- all of them fit, or none was put
-placed-some : (b : List ℕ) (at : ℕ) (out : List ℕ) (n : ℕ) (l : List ℕ) → _≡_ {A = ℕ × List ℕ} (n, l) (placed b at out) → (n ≡ 0 → ⊥) → (at + length out ≤ length b) × (n ≡ length out) × (l ≡ laid b at out)
+pub placed-some : (b : List ℕ) (at : ℕ) (out : List ℕ) (n : ℕ) (l : List ℕ) → _≡_ {A = ℕ × List ℕ} (n, l) (placed b at out) → (n ≡ 0 → ⊥) → (at + length out ≤ length b) × (n ≡ length out) × (l ≡ laid b at out)
 placed-some b at out n l e h =
     ⊎-elim
     (λ w. let q : _≡_ {A = ℕ × List ℕ} (n, l) (length out, laid b at out) = e ∙ w .1 in (w .0, ap (λ (x : ℕ × List ℕ). x .0) q, ap (λ (x : ℕ × List ℕ). x .1) q))

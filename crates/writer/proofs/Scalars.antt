@@ -1,9 +1,9 @@
 -- A scalar call by how far it gets: refused by place, by one of its own checks or for room, or put at the end of the used bytes.
 -- Assumes nothing.
-use Prim.Native.Nat.{ℕ, _+_, _<_, _≤_}
+use Prim.Native.Nat.{ℕ, _+_, _<_}
 use native.Mathlib.Omega.{arith}
 use mathlib.Core.Path.{_≡_, refl, sym, _∙_, ap}
-use mathlib.Core.Bool.{Bool, true, false}
+use mathlib.Core.Bool.{true, false}
 use mathlib.Core.List.{List, [], _∷_, _++_}
 use lib.Dec.{eqb, ltb}
 use lib.IntN.{pos, negsuc}
@@ -11,8 +11,7 @@ use lib.ListN.{length, length-append}
 use borrow.Author.Tests.{eqb-true, eqb-false}
 use Rattle.ion.specs.Value.{positiveCode, negativeCode, decimalCode, timestampCode, symbolCode, stringCode, clobCode, blobCode}
 use Rattle.ion.proofs.Tests.{by-cases}
-use Rattle.encoding.specs.Fields.{fixedBytes}
-use Rattle.encoding.specs.Headers.{typeByte, headerBytes, framedBytes, annotatedBytes}
+use Rattle.encoding.specs.Headers.{typeByte, framedBytes, annotatedBytes}
 use Rattle.encoding.specs.Argument.{Argument, writeNull, writeBool, writeI64, writeInt, writeF32, writeF64, writeDecimal, writeTimestamp, writeSymbol, writeString, writeClob, writeBlob, float32Bytes, narrows, float64Bytes, argumentBytes, argumentChecks, anyHolds}
 use Rattle.encoding.proofs.Headers.{annotated-longer}
 use Rattle.fields.proofs.Headers.{header-least}
@@ -21,7 +20,7 @@ use Rattle.buffer.proofs.Laid.{placed-nil}
 use Rattle.machine.specs.declared.State.{State}
 use Rattle.machine.specs.declared.Refusal.{Refusal}
 use Rattle.machine.specs.Call.{write}
-use Rattle.machine.specs.Machine.{lacksName, checks, Verdict, accepted, refused, firstFailing}
+use Rattle.machine.specs.Machine.{checks, refused, firstFailing}
 use Rattle.machine.specs.Numbers.{number, outcomeOf, run}
 use Rattle.writer.specs.Ended.{endedBy}
 use Rattle.writer.specs.Refused.{ownRefusal}
@@ -29,7 +28,7 @@ use Rattle.writer.proofs.Run.{outcome, config, run-refused, own-refusal
 
 -- ---- no scalar has no bytes
 
-framed-least : (t : ℕ) (body : List ℕ) → 0 < length (framedBytes t body)
+pub framed-least : (t : ℕ) (body : List ℕ) → 0 < length (framedBytes t body)
 unfolding framedBytes
 framed-least t body = simp length-append (omega (arith, header-least t (length body)))
 

@@ -1,3 +1,4 @@
 pub mod Ended
+pub mod Kinds
 pub mod Refused
 pub mod Start

@@ -20,9 +20,9 @@ record Known (c : tie.Else1) : Type 0 where
 
 known : (c : tie.Else1) → Known c
 known c =
-  let a = c .before .before .args in
-  let k = and-eq-true-iff (leb (a .start) (a .used)) (leb (a .used) (length (a .buf .now))) .0 (not-false _ (c .if1 .left)) in
-  record { low = leb-true (a .start) (a .used) (k .0); high = leb-true (a .used) (length (a .buf .now)) (k .1) }
+    let a = c .before .before .args in
+    let k = and-eq-true-iff (leb (a .start) (a .used)) (leb (a .used) (length (a .buf .now))) .0 (not-false _ (c .if1 .left)) in
+    record { low = leb-true (a .start) (a .used) (k .0); high = leb-true (a .used) (length (a .buf .now)) (k .1) }
 
 returns : tie.Need-returns
 returns c = let a = c .before .before .args in sym (abandonedOn-not (a .used) (a .start) (a .buf .now) (not-true _ (c .if1 .taken)))
@@ -35,10 +35,10 @@ same-length c = search needs
 
 returns-2 : tie.Need-returns-2
 returns-2 c =
-  let d = c .before .before .before .before in
-  let a = d .before .before .args in
-  let k = known d in
-  rw (c .before .before .clear .ensures) (sym (abandonedOn-fits (a .used) (a .start) (a .buf .now) (not-false _ (d .if1 .left)) ∙ ap (λ (l : List _). (true, l)) (splice-nil (a .used) (a .start) (a .buf .now) (omega arith))))
+    let d = c .before .before .before .before in
+    let a = d .before .before .args in
+    let k = known d in
+    rw (c .before .before .clear .ensures) (sym (abandonedOn-fits (a .used) (a .start) (a .buf .now) (not-false _ (d .if1 .left)) ∙ ap (λ (l : List _). (true, l)) (splice-nil (a .used) (a .start) (a .buf .now) (omega arith))))
 
 pub abandon-spec : {M : Type 1} → statement M
 abandon-spec = tie.close (tie.spec returns clear-requires same-length returns-2)

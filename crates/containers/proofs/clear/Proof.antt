@@ -31,20 +31,20 @@ loop-less c = omega arith
 
 loop-again : tie.Need-loop-again Inv-loop μ-loop
 loop-again c =
-  let a = c .before .before .args in
-  let l = c .before .loop in
-  let e : l .i + 1 - a .from ≡ l .i - a .from + 1 = omega arith in
-  (omega arith, omega arith, simp length-set (l .inv .2), rw (l .inv .3, e) (clear-turn (a .buf .now) (a .from) (l .i - a .from) (l .i) (omega arith) (omega arith)))
+    let a = c .before .before .args in
+    let l = c .before .loop in
+    let e : l .i + 1 - a .from ≡ l .i - a .from + 1 = omega arith in
+    (omega arith, omega arith, simp length-set (l .inv .2), rw (l .inv .3, e) (clear-turn (a .buf .now) (a .from) (l .i - a .from) (l .i) (omega arith) (omega arith)))
 
 same-length : tie.Need-same-length Inv-loop μ-loop
 same-length c = omega arith
 
 returns : tie.Need-returns Inv-loop μ-loop
 returns c =
-  let a = c .before .before .args in
-  let l = c .before .loop in
-  let e : l .i - a .from ≡ a .to - a .from = omega arith in
-  l .inv .3 ∙ ap (λ (n : ℕ). laid (a .buf .now) (a .from) (replicate n 0)) e
+    let a = c .before .before .args in
+    let l = c .before .loop in
+    let e : l .i - a .from ≡ a .to - a .from = omega arith in
+    l .inv .3 ∙ ap (λ (n : ℕ). laid (a .buf .now) (a .from) (replicate n 0)) e
 
 pub clear-spec : {M : Type 1} → statement M
 clear-spec =

@@ -23,10 +23,10 @@ record Known (c : tie.Else1) : Type 0 where
 
 known : (c : tie.Else1) → Known c
 known c =
-  let a = c .before .before .before .args in
-  let e = rw (c .before .container-fits .ensures) at (not-false (c .before .container-fits .result && leb (a .used) (length (a .buf .now))) (c .if1 .left)) in
-  let k = and-eq-true-iff (containerFits (a .used) (a .c)) (leb (a .used) (length (a .buf .now))) .0 e in
-  record { flag = e; known = fit (a .c) (a .used) (k .0); room = leb-true (a .used) (length (a .buf .now)) (k .1) }
+    let a = c .before .before .before .args in
+    let e = rw (c .before .container-fits .ensures) at (not-false (c .before .container-fits .result && leb (a .used) (length (a .buf .now))) (c .if1 .left)) in
+    let k = and-eq-true-iff (containerFits (a .used) (a .c)) (leb (a .used) (length (a .buf .now))) .0 e in
+    record { flag = e; known = fit (a .c) (a .used) (k .0); room = leb-true (a .used) (length (a .buf .now)) (k .1) }
 
 -- a header that is not at the start lies behind a reserve
 apart : (c : tie.Else2) → c .before .before .before .before .before .args .c .start + 2 ≤ c .before .before .before .before .before .args .c .header
@@ -40,39 +40,39 @@ returns c = let a = c .before .before .before .args in sym (closedOn-not (a .c) 
 
 close-plain-requires : tie.Need-close-plain-requires
 close-plain-requires c κs =
-  let k = known (c .before .before .before) in
-  let f = k .known in
-  (f .high, omega arith, k .room)
+    let k = known (c .before .before .before) in
+    let f = k .known in
+    (f .high, omega arith, k .room)
 
 same-length : tie.Need-same-length
 same-length c = search needs
 
 returns-2 : tie.Need-returns-2
 returns-2 c =
-  let d = c .before .before .before .before .before .before in
-  let k = known d in
-  let a = d .before .before .before .args in
-  c .before .before .close-plain .ensures
-  ∙ sym (closedOn-fits (a .c) (a .used) (a .buf .now) (k .flag)
-  ∙ ap (λ (out : List ℕ). spliced (a .used) (a .c .start) out (a .buf .now)) (closedBytes-plain (a .c) (a .used) (a .buf .now) (k .known .within) (k .room) (c .before .before .before .before .if2 .taken)))
+    let d = c .before .before .before .before .before .before in
+    let k = known d in
+    let a = d .before .before .before .args in
+    c .before .before .close-plain .ensures
+    ∙ sym (closedOn-fits (a .c) (a .used) (a .buf .now) (k .flag)
+    ∙ ap (λ (out : List ℕ). spliced (a .used) (a .c .start) out (a .buf .now)) (closedBytes-plain (a .c) (a .used) (a .buf .now) (k .known .within) (k .room) (c .before .before .before .before .if2 .taken)))
 
 close-annotated-requires : tie.Need-close-annotated-requires
 close-annotated-requires c κs =
-  let k = known (c .before .before .before) in
-  let f = k .known in
-  (f .high, apart (c .before), f .within, k .room)
+    let k = known (c .before .before .before) in
+    let f = k .known in
+    (f .high, apart (c .before), f .within, k .room)
 
 same-length-2 : tie.Need-same-length-2
 same-length-2 c = search needs
 
 returns-3 : tie.Need-returns-3
 returns-3 c =
-  let d = c .before .before .before .before .before .before in
-  let k = known d in
-  let a = d .before .before .before .args in
-  c .before .before .close-annotated .ensures
-  ∙ sym (closedOn-fits (a .c) (a .used) (a .buf .now) (k .flag)
-  ∙ ap (λ (out : List ℕ). spliced (a .used) (a .c .start) out (a .buf .now)) (closedBytes-wrapped (a .c) (a .used) (a .buf .now) (k .known .within) (k .room) (apart (c .before .before .before .before))))
+    let d = c .before .before .before .before .before .before in
+    let k = known d in
+    let a = d .before .before .before .args in
+    c .before .before .close-annotated .ensures
+    ∙ sym (closedOn-fits (a .c) (a .used) (a .buf .now) (k .flag)
+    ∙ ap (λ (out : List ℕ). spliced (a .used) (a .c .start) out (a .buf .now)) (closedBytes-wrapped (a .c) (a .used) (a .buf .now) (k .known .within) (k .room) (apart (c .before .before .before .before))))
 
 pub close-spec : {M : Type 1} → statement M
 close-spec =

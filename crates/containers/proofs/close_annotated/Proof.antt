@@ -24,15 +24,15 @@ record Known (c : tie.After-encoded-size-of2) : Type 0 where
 
 known : (c : tie.After-encoded-size-of2) → Known c
 known c =
-  let a = c .before .before .before .args in
-  let i = c .before .encoded-size-of in
-  let k = inner-most (c .before) in
-  let body = a .used - (a .header + 2) in
-  let m = header-most 0 (a .header - (a .start + 2) + i .result + body) (omega arith) in
-  record {
-    most = omega arith;
-    whole = length-wrapped (a .buf .now) (a .start) (a .header) (a .code) body (i .result) (c .encoded-size-of2 .result) (omega arith) (omega arith) (i .ensures) (c .encoded-size-of2 .ensures)
-  }
+    let a = c .before .before .before .args in
+    let i = c .before .encoded-size-of in
+    let k = inner-most (c .before) in
+    let body = a .used - (a .header + 2) in
+    let m = header-most 0 (a .header - (a .start + 2) + i .result + body) (omega arith) in
+    record {
+      most = omega arith;
+      whole = length-wrapped (a .buf .now) (a .start) (a .header) (a .code) body (i .result) (c .encoded-size-of2 .result) (omega arith) (omega arith) (i .ensures) (c .encoded-size-of2 .ensures);
+    }
 
 add-body : tie.Need-add-body
 add-body c = search needs
@@ -63,15 +63,15 @@ add-end c = let k = known c in omega arith
 
 add-end-2 : tie.Need-add-end-2
 add-end-2 c =
-  let i = inner-most (c .before) in
-  let k = known c in
-  omega arith
+    let i = inner-most (c .before) in
+    let k = known c in
+    omega arith
 
 returns : tie.Need-returns
 returns c =
-  let k = known (c .before) in
-  let a = c .before .before .before .before .args in
-  sym (spliced-full (a .used) (a .start) (wrapped (a .buf .now) (a .start) (a .header) (a .code) (a .used - (a .header + 2))) (a .buf .now) (omega arith))
+    let k = known (c .before) in
+    let a = c .before .before .before .before .args in
+    sym (spliced-full (a .used) (a .start) (wrapped (a .buf .now) (a .start) (a .header) (a .code) (a .used - (a .header + 2))) (a .buf .now) (omega arith))
 
 lay-wrapped-requires : tie.Need-lay-wrapped-requires
 lay-wrapped-requires c κs = search needs
@@ -84,10 +84,10 @@ same-length c = search needs
 
 returns-2 : tie.Need-returns-2
 returns-2 c =
-  let d = c .before .before .before .before .before .before .before .before .before in
-  let k = known d in
-  let a = d .before .before .before .args in
-  spliced-by (a .used) (a .start) (wrapped (a .buf .now) (a .start) (a .header) (a .code) (a .used - (a .header + 2))) (a .buf .now) _ (omega arith) (omega arith) (omega arith) (c .before .before .before .before .before .before .lay-wrapped .ensures) (c .before .before .clear .ensures)
+    let d = c .before .before .before .before .before .before .before .before .before in
+    let k = known d in
+    let a = d .before .before .before .args in
+    spliced-by (a .used) (a .start) (wrapped (a .buf .now) (a .start) (a .header) (a .code) (a .used - (a .header + 2))) (a .buf .now) _ (omega arith) (omega arith) (omega arith) (c .before .before .before .before .before .before .lay-wrapped .ensures) (c .before .before .clear .ensures)
 
 pub close-annotated-spec : {M : Type 1} → statement M
 close-annotated-spec =

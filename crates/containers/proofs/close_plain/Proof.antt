@@ -22,15 +22,15 @@ record Known (c : tie.After-encoded-size-of) : Type 0 where
 
 known : (c : tie.After-encoded-size-of) → Known c
 known c =
-  let a = c .before .before .args in
-  let n = a .used - (a .start + 2) in
-  let m = header-most 0 n (omega arith) in
-  let e = length-part (a .buf .now) (a .start + 2) n (omega arith) in
-  record {
-    most = omega arith;
-    body = e;
-    whole = length-framed (a .code) (part (a .buf .now) (a .start + 2) n) ∙ rw (e, c .encoded-size-of .ensures) refl
-  }
+    let a = c .before .before .args in
+    let n = a .used - (a .start + 2) in
+    let m = header-most 0 n (omega arith) in
+    let e = length-part (a .buf .now) (a .start + 2) n (omega arith) in
+    record {
+      most = omega arith;
+      body = e;
+      whole = length-framed (a .code) (part (a .buf .now) (a .start + 2) n) ∙ rw (e, c .encoded-size-of .ensures) refl;
+    }
 
 add-body : tie.Need-add-body
 add-body c = search needs
@@ -49,9 +49,9 @@ add-end-2 c = let k = known c in omega arith
 
 returns : tie.Need-returns
 returns c =
-  let k = known (c .before) in
-  let a = c .before .before .before .args in
-  sym (spliced-full (a .used) (a .start) (framedBytes (a .code) (part (a .buf .now) (a .start + 2) (a .used - (a .start + 2)))) (a .buf .now) (omega arith))
+    let k = known (c .before) in
+    let a = c .before .before .before .args in
+    sym (spliced-full (a .used) (a .start) (framedBytes (a .code) (part (a .buf .now) (a .start + 2) (a .used - (a .start + 2)))) (a .buf .now) (omega arith))
 
 add-move-bytes : tie.Need-add-move-bytes
 add-move-bytes c = search needs
@@ -73,16 +73,16 @@ same-length c = search needs
 
 returns-2 : tie.Need-returns-2
 returns-2 c =
-  let d = c .before .before .before .before .before .before .before .before .before .before .before .before .before in
-  let k = known d in
-  let a = d .before .before .args in
-  let n = a .used - (a .start + 2) in
-  let B = part (a .buf .now) (a .start + 2) n in
-  let q = length-header (a .code) n in
-  spliced-by (a .used) (a .start) (framedBytes (a .code) B) (a .buf .now) (a .start + d .encoded-size-of .result + n) (omega arith) (omega arith) (omega arith)
-  (then-before (a .buf .now) (a .start) (headerBytes (a .code) n) B (a .start + d .encoded-size-of .result) (omega arith) (omega arith) (c .before .before .before .before .before .before .before .before .before .before .move-bytes .ensures) (c .before .before .before .before .before .before .put-header .ensures)
+    let d = c .before .before .before .before .before .before .before .before .before .before .before .before .before in
+    let k = known d in
+    let a = d .before .before .args in
+    let n = a .used - (a .start + 2) in
+    let B = part (a .buf .now) (a .start + 2) n in
+    let q = length-header (a .code) n in
+    spliced-by (a .used) (a .start) (framedBytes (a .code) B) (a .buf .now) (a .start + d .encoded-size-of .result + n) (omega arith) (omega arith) (omega arith)
+    (then-before (a .buf .now) (a .start) (headerBytes (a .code) n) B (a .start + d .encoded-size-of .result) (omega arith) (omega arith) (c .before .before .before .before .before .before .before .before .before .before .move-bytes .ensures) (c .before .before .before .before .before .before .put-header .ensures)
     ∙ ap (laid (a .buf .now) (a .start)) (sym (framed-is (a .code) n B (k .body))))
-  (c .before .before .clear .ensures)
+    (c .before .before .clear .ensures)
 
 pub close-plain-spec : {M : Type 1} → statement M
 close-plain-spec =

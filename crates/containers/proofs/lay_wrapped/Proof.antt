@@ -54,10 +54,10 @@ same-length c = search needs
 
 returns : tie.Need-returns
 returns c =
-  let s = c .before .before .before .before .before .before .before .before .before .before .before .before .before .before .before .before .before .before in
-  let a = s .args in
-  from-the-left (a .buf .now) (a .start) (a .header) (a .code) (a .body) (a .inner) (a .wrapper) (omega arith) (omega arith) (s .pre .4) (s .pre .5) (omega arith)
-  (c .before .before .before .before .before .before .before .before .before .before .before .before .before .before .before .before .if1 .taken) (c .before .before .before .before .before .before .before .before .before .before .before .before .before .before .move-bytes .ensures) (c .before .before .before .before .before .before .before .before .before .before .put-header .ensures) (c .before .before .before .before .before .before .move-bytes2 .ensures) (c .before .before .put-header2 .ensures)
+    let s = c .before .before .before .before .before .before .before .before .before .before .before .before .before .before .before .before .before .before in
+    let a = s .args in
+    from-the-left (a .buf .now) (a .start) (a .header) (a .code) (a .body) (a .inner) (a .wrapper) (omega arith) (omega arith) (s .pre .4) (s .pre .5) (omega arith)
+    (c .before .before .before .before .before .before .before .before .before .before .before .before .before .before .before .before .if1 .taken) (c .before .before .before .before .before .before .before .before .before .before .before .before .before .before .move-bytes .ensures) (c .before .before .before .before .before .before .before .before .before .before .put-header .ensures) (c .before .before .before .before .before .before .move-bytes2 .ensures) (c .before .before .put-header2 .ensures)
 
 add-move-bytes-5 : tie.Need-add-move-bytes-5
 add-move-bytes-5 c = search needs
@@ -94,10 +94,10 @@ same-length-2 c = search needs
 
 returns-2 : tie.Need-returns-2
 returns-2 c =
-  let s = c .before .before .before .before .before .before .before .before .before .before .before .before .before .before .before .before .before .before in
-  let a = s .args in
-  from-the-right (a .buf .now) (a .start) (a .header) (a .code) (a .body) (a .inner) (a .wrapper) (omega arith) (omega arith) (s .pre .4) (s .pre .5) (omega arith)
-  (c .before .before .before .before .before .before .before .before .before .before .before .before .before .before .before .before .if1 .left) (c .before .before .before .before .before .before .before .before .before .before .before .before .before .before .move-bytes3 .ensures) (c .before .before .before .before .before .before .before .before .before .before .put-header3 .ensures) (c .before .before .before .before .before .before .move-bytes4 .ensures) (c .before .before .put-header4 .ensures)
+    let s = c .before .before .before .before .before .before .before .before .before .before .before .before .before .before .before .before .before .before in
+    let a = s .args in
+    from-the-right (a .buf .now) (a .start) (a .header) (a .code) (a .body) (a .inner) (a .wrapper) (omega arith) (omega arith) (s .pre .4) (s .pre .5) (omega arith)
+    (c .before .before .before .before .before .before .before .before .before .before .before .before .before .before .before .before .if1 .left) (c .before .before .before .before .before .before .before .before .before .before .before .before .before .before .move-bytes3 .ensures) (c .before .before .before .before .before .before .before .before .before .before .put-header3 .ensures) (c .before .before .before .before .before .before .move-bytes4 .ensures) (c .before .before .put-header4 .ensures)
 
 pub lay-wrapped-spec : {M : Type 1} → statement M
 lay-wrapped-spec =

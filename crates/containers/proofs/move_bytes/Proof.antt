@@ -29,9 +29,9 @@ returns-2 c = search needs
 
 returns-3 : tie.Need-returns-3
 returns-3 c =
-  let a = c .before .before .before .args in
-  let e : a .to ≡ a .from = omega arith in
-  laid-same (a .buf .now) (a .to) (a .count) (omega arith) ∙ ap (λ (n : ℕ). laid (a .buf .now) (a .to) (part (a .buf .now) n (a .count))) e
+    let a = c .before .before .before .args in
+    let e : a .to ≡ a .from = omega arith in
+    laid-same (a .buf .now) (a .to) (a .count) (omega arith) ∙ ap (λ (n : ℕ). laid (a .buf .now) (a .to) (part (a .buf .now) n (a .count))) e
 
 pub move-bytes-spec : {M : Type 1} → statement M
 move-bytes-spec =

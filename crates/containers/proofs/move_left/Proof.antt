@@ -39,19 +39,19 @@ loop-less c = omega arith
 
 loop-again : tie.Need-loop-again Inv-loop μ-loop
 loop-again c =
-  let a = c .before .before .before .args in
-  let l = c .before .before .loop in
-  (omega arith, simp length-set (l .inv .1), rw (l .inv .2) (left-turn (a .buf .now) (a .from) (a .to) (a .count) (l .i) (omega arith) (omega arith) (omega arith)))
+    let a = c .before .before .before .args in
+    let l = c .before .before .loop in
+    (omega arith, simp length-set (l .inv .1), rw (l .inv .2) (left-turn (a .buf .now) (a .from) (a .to) (a .count) (l .i) (omega arith) (omega arith) (omega arith)))
 
 same-length : tie.Need-same-length Inv-loop μ-loop
 same-length c = omega arith
 
 returns : tie.Need-returns Inv-loop μ-loop
 returns c =
-  let a = c .before .before .args in
-  let l = c .before .loop in
-  let e : l .i ≡ a .count = omega arith in
-  l .inv .2 ∙ ap (λ (n : ℕ). laid (a .buf .now) (a .to) (part (a .buf .now) (a .from) n)) e
+    let a = c .before .before .args in
+    let l = c .before .loop in
+    let e : l .i ≡ a .count = omega arith in
+    l .inv .2 ∙ ap (λ (n : ℕ). laid (a .buf .now) (a .to) (part (a .buf .now) (a .from) n)) e
 
 pub move-left-spec : {M : Type 1} → statement M
 move-left-spec =

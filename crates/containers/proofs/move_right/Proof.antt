@@ -20,9 +20,9 @@ abbrev μ-loop : tie.MeasureT-loop
 
 loop-holds : tie.Need-loop-holds Inv-loop μ-loop
 loop-holds c =
-  let a = c .args in
-  let n = length-part (a .buf .now) (a .from) (a .count) (omega arith) in
-  (omega arith, refl, rw (drop-of-length-le (part (a .buf .now) (a .from) (a .count)) {i = a .count} (omega arith)) (sym (laid-nil (a .buf .now) (a .to + a .count))))
+    let a = c .args in
+    let n = length-part (a .buf .now) (a .from) (a .count) (omega arith) in
+    (omega arith, refl, rw (drop-of-length-le (part (a .buf .now) (a .from) (a .count)) {i = a .count} (omega arith)) (sym (laid-nil (a .buf .now) (a .to + a .count))))
 
 sub-i : tie.Need-sub-i Inv-loop μ-loop
 sub-i c = omega arith
@@ -44,22 +44,22 @@ loop-less c = omega arith
 
 loop-again : tie.Need-loop-again Inv-loop μ-loop
 loop-again c =
-  let a = c .before .before .before .args in
-  let l = c .before .before .loop in
-  let e : l .i ≡ l .i - 1 + 1 = omega arith in
-  let q : l .buf ≡ laid (a .buf .now) (a .to + (l .i - 1 + 1)) (rest (a .buf .now) (a .from) (a .count) (l .i - 1 + 1)) =
+    let a = c .before .before .before .args in
+    let l = c .before .before .loop in
+    let e : l .i ≡ l .i - 1 + 1 = omega arith in
+    let q : l .buf ≡ laid (a .buf .now) (a .to + (l .i - 1 + 1)) (rest (a .buf .now) (a .from) (a .count) (l .i - 1 + 1)) =
     l .inv .2 ∙ ap (λ (n : ℕ). laid (a .buf .now) (a .to + n) (rest (a .buf .now) (a .from) (a .count) n)) e in
-  (omega arith, simp length-set (l .inv .1), rw q (right-turn (a .buf .now) (a .from) (a .to) (a .count) (l .i - 1) (omega arith) (omega arith) (omega arith)))
+    (omega arith, simp length-set (l .inv .1), rw q (right-turn (a .buf .now) (a .from) (a .to) (a .count) (l .i - 1) (omega arith) (omega arith) (omega arith)))
 
 same-length : tie.Need-same-length Inv-loop μ-loop
 same-length c = omega arith
 
 returns : tie.Need-returns Inv-loop μ-loop
 returns c =
-  let a = c .before .before .args in
-  let l = c .before .loop in
-  let e : l .i ≡ 0 = omega arith in
-  l .inv .2 ∙ rw (e, add-zero) refl
+    let a = c .before .before .args in
+    let l = c .before .loop in
+    let e : l .i ≡ 0 = omega arith in
+    l .inv .2 ∙ rw (e, add-zero) refl
 
 pub move-right-spec : {M : Type 1} → statement M
 move-right-spec =

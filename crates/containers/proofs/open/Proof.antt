@@ -26,8 +26,8 @@ same-length c = search needs
 
 returns : tie.Need-returns
 returns c =
-  let a = c .before .before .before .before .before .before .before .args in
-  c .before .before .put-reserve .ensures ∙ ap (λ (an : List ℕ). placed (a .buf .now) (a .at) (reserve an)) (sym (sids-none (a .annotations .now) (c .before .before .before .before .if1 .taken)))
+    let a = c .before .before .before .before .before .before .before .args in
+    c .before .before .put-reserve .ensures ∙ ap (λ (an : List ℕ). placed (a .buf .now) (a .at) (reserve an)) (sym (sids-none (a .annotations .now) (c .before .before .before .before .if1 .taken)))
 
 open-annotated-requires : tie.Need-open-annotated-requires
 open-annotated-requires c κs = search needs
@@ -37,9 +37,9 @@ same-length-2 c = search needs
 
 returns-2 : tie.Need-returns-2
 returns-2 c =
-  let a = c .before .before .before .before .before .before .before .args in
-  let s = sids-some (a .annotations .now) (omega arith) in
-  c .before .before .open-annotated .ensures ∙ ap (placed (a .buf .now) (a .at)) (reserve-some (sidsOf (a .annotations .now)) (s .0) (s .1) (s .2))
+    let a = c .before .before .before .before .before .before .before .args in
+    let s = sids-some (a .annotations .now) (omega arith) in
+    c .before .before .open-annotated .ensures ∙ ap (placed (a .buf .now) (a .at)) (reserve-some (sidsOf (a .annotations .now)) (s .0) (s .1) (s .2))
 
 pub open-spec : {M : Type 1} → statement M
 open-spec =

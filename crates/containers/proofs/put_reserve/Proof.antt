@@ -19,8 +19,8 @@ has-room-requires c κs = search needs
 
 returns : tie.Need-returns
 returns c =
-  let a = c .before .before .before .args in
-  sym (placed-full (a .buf .now) (a .at) (0 ∷ 0 ∷ []) (no-room (c .before .has-room .result) (a .buf .now) _ (c .before .has-room .ensures) (c .if1 .taken)))
+    let a = c .before .before .before .args in
+    sym (placed-full (a .buf .now) (a .at) (0 ∷ 0 ∷ []) (no-room (c .before .has-room .result) (a .buf .now) _ (c .before .has-room .ensures) (c .if1 .taken)))
 
 add-clear : tie.Need-add-clear
 add-clear c = let h = fits (c .before) in omega arith
@@ -33,10 +33,10 @@ same-length c = search needs
 
 returns-2 : tie.Need-returns-2
 returns-2 c =
-  let d = c .before .before .before .before in
-  let a = d .before .before .before .args in
-  let e : a .at + 2 - a .at ≡ 2 = omega arith in
-  placed-by (a .buf .now) (a .at) (0 ∷ 0 ∷ []) 2 _ (fits d) refl (c .before .before .clear .ensures ∙ ap (λ (n : ℕ). laid (a .buf .now) (a .at) (replicate n 0)) e)
+    let d = c .before .before .before .before in
+    let a = d .before .before .before .args in
+    let e : a .at + 2 - a .at ≡ 2 = omega arith in
+    placed-by (a .buf .now) (a .at) (0 ∷ 0 ∷ []) 2 _ (fits d) refl (c .before .before .clear .ensures ∙ ap (λ (n : ℕ). laid (a .buf .now) (a .at) (replicate n 0)) e)
 
 pub put-reserve-spec : {M : Type 1} → statement M
 put-reserve-spec =

@@ -17,8 +17,8 @@ path : (d : tie.After-write-wrapper) →
     let v = scalarArgument (a .value) in
     Wrapped (a .buf .now) (a .at) (checkedBytes v) (annotatedChecked (sidsOf (a .annotations .now)) v) (d .write-wrapper .result) (d .write-wrapper .last .0)
 path d =
-  let a = d .before .before .before .before .before .args in
-  wrapped-scalar (a .buf .now) (a .at) (a .annotations .now) (scalarArgument (a .value)) (d .before .before .before .before .before .pre) _ (d .before .scalar-size .ensures) _ _ (d .write-wrapper .ensures)
+    let a = d .before .before .before .before .before .args in
+    wrapped-scalar (a .buf .now) (a .at) (a .annotations .now) (scalarArgument (a .value)) (d .before .before .before .before .before .pre) _ (d .before .scalar-size .ensures) _ _ (d .write-wrapper .ensures)
 
 scalar-size-requires : tie.Need-scalar-size-requires
 scalar-size-requires c κs = search needs

@@ -22,9 +22,9 @@ fit-requires c κs = search needs
 
 returns : tie.Need-returns
 returns c =
-  λ t bytes e.
-  let h : length (headerBytes 0 (length bytes)) ≡ length (headerBytes 0 (c .before .before .args .body)) = ap (λ (n : ℕ). length (headerBytes 0 n)) e in
-  c .fit .ensures (framedBytes t bytes) (omega (arith, length-framed t bytes, c .before .encoded-size-of .ensures))
+    λ t bytes e.
+    let h : length (headerBytes 0 (length bytes)) ≡ length (headerBytes 0 (c .before .before .args .body)) = ap (λ (n : ℕ). length (headerBytes 0 n)) e in
+    c .fit .ensures (framedBytes t bytes) (omega (arith, length-framed t bytes, c .before .encoded-size-of .ensures))
 
 pub framed-size-spec : {M : Type 1} → statement M
 framed-size-spec = tie.close (tie.spec encoded-size-of-requires add-fit fit-requires returns)

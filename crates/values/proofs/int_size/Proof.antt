@@ -18,8 +18,8 @@ is-negative-zero-requires c κs = search needs
 
 returns : tie.Need-returns
 returns c =
-  let a = c .before .before .before .args in
-  rw (int-refused (a .negative) (a .magnitude .now) (sym (c .before .is-negative-zero .ensures) ∙ c .if1 .taken)) (fitted-nil (a .room))
+    let a = c .before .before .before .args in
+    rw (int-refused (a .negative) (a .magnitude .now) (sym (c .before .is-negative-zero .ensures) ∙ c .if1 .taken)) (fitted-nil (a .room))
 
 leading-zero-bytes-requires : tie.Need-leading-zero-bytes-requires
 leading-zero-bytes-requires c κs = search needs
@@ -32,20 +32,20 @@ cast-framed-size c = search needs
 
 add-framed-size : tie.Need-add-framed-size
 add-framed-size c =
-  let m = c .before .before .before .before .args .magnitude .now in
-  omega (arith, boolByte-most (eqb (length m - c .leading-zero-bytes .result) 0))
+    let m = c .before .before .before .before .args .magnitude .now in
+    omega (arith, boolByte-most (eqb (length m - c .leading-zero-bytes .result) 0))
 
 framed-size-requires : tie.Need-framed-size-requires
 framed-size-requires c κs =
-  let m = c .before .before .before .before .args .magnitude .now in
-  omega (arith, boolByte-most (eqb (length m - c .leading-zero-bytes .result) 0))
+    let m = c .before .before .before .before .args .magnitude .now in
+    omega (arith, boolByte-most (eqb (length m - c .leading-zero-bytes .result) 0))
 
 returns-2 : tie.Need-returns-2
 returns-2 c =
-  let z = c .before in
-  let d = z .before in
-  let a = d .before .before .before .args in
-  rw (int-accepted (a .negative) (a .magnitude .now) (sym (d .before .is-negative-zero .ensures) ∙ d .if1 .left))
+    let z = c .before in
+    let d = z .before in
+    let a = d .before .before .before .args in
+    rw (int-accepted (a .negative) (a .magnitude .now) (sym (d .before .is-negative-zero .ensures) ∙ d .if1 .left))
     (c .framed-size .ensures _ (orZero (trimmed (a .magnitude .now))) (length-orZero (a .magnitude .now) (z .leading-zero-bytes .result) (z .leading-zero-bytes .ensures)))
 
 pub int-size-spec : {M : Type 1} → statement M

@@ -12,8 +12,8 @@ leading-zero-bytes-requires c κs = search needs
 
 returns : tie.Need-returns
 returns c =
-  let a = c .before .before .args in
-  ap (λ (z : Bool). a .negative && z) (is-zero (a .magnitude .now) (c .leading-zero-bytes .result) (c .leading-zero-bytes .ensures))
+    let a = c .before .before .args in
+    ap (λ (z : Bool). a .negative && z) (is-zero (a .magnitude .now) (c .leading-zero-bytes .result) (c .leading-zero-bytes .ensures))
 
 pub is-negative-zero-spec : {M : Type 1} → statement M
 is-negative-zero-spec = tie.close (tie.spec leading-zero-bytes-requires returns)

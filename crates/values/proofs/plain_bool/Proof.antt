@@ -23,8 +23,8 @@ same-length c = search needs
 
 returns : tie.Need-returns
 returns c =
-  let a = c .before .before .before .before .before .args in
-  c .before .before .put .ensures ∙ ap (placed (a .buf .now) (a .at)) (sym (bool-bytes (a .value)))
+    let a = c .before .before .before .before .before .args in
+    c .before .before .put .ensures ∙ ap (placed (a .buf .now) (a .at)) (sym (bool-bytes (a .value)))
 
 pub plain-bool-spec : {M : Type 1} → statement M
 plain-bool-spec = tie.close (tie.spec cast-put add-put put-requires same-length returns)

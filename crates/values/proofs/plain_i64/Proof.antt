@@ -34,9 +34,9 @@ same-length c = search needs
 
 returns : tie.Need-returns
 returns c =
-  let m = c .before .before .before in
-  let a = m .before .before .before .before .args in
-  c .before .before .plain-uint .ensures ∙ ap (placed (a .buf .now) (a .at)) (rw (m .magnitude .ensures, m .before .is-negative .ensures, toZ-ofZ w64 (a .value) (m .before .before .before .before .fits .value)) (sym (i64-bytes (a .value))))
+    let m = c .before .before .before in
+    let a = m .before .before .before .before .args in
+    c .before .before .plain-uint .ensures ∙ ap (placed (a .buf .now) (a .at)) (rw (m .magnitude .ensures, m .before .is-negative .ensures, toZ-ofZ w64 (a .value) (m .before .before .before .before .fits .value)) (sym (i64-bytes (a .value))))
 
 pub plain-i64-spec : {M : Type 1} → statement M
 plain-i64-spec =

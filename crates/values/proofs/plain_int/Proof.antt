@@ -24,17 +24,17 @@ use Rattle.values.proofs.plain_int.Tie as tie
 body : (d : tie.Else1) (l : List ℕ) → let a = d .before .before .before .before .args in
     l ≡ orZero (trimmed (a .magnitude .now)) → framedBytes ((0x20 + 0x10 * boolByte (a .negative)) / 16 * 16) l ≡ checkedBytes (writeInt (a .negative) (a .magnitude .now))
 body d l e =
-  let a = d .before .before .before .before .args in
-  ap (framedBytes ((0x20 + 0x10 * boolByte (a .negative)) / 16 * 16)) e
-  ∙ rw (sign-byte (a .negative)) (sym (int-accepted (a .negative) (a .magnitude .now) (sym (d .before .is-negative-zero .ensures) ∙ d .if1 .left)))
+    let a = d .before .before .before .before .args in
+    ap (framedBytes ((0x20 + 0x10 * boolByte (a .negative)) / 16 * 16)) e
+    ∙ rw (sign-byte (a .negative)) (sym (int-accepted (a .negative) (a .magnitude .now) (sym (d .before .is-negative-zero .ensures) ∙ d .if1 .left)))
 
 is-negative-zero-requires : tie.Need-is-negative-zero-requires
 is-negative-zero-requires c κs = search needs
 
 returns : tie.Need-returns
 returns c =
-  let a = c .before .before .before .before .args in
-  sym (ap (placed (a .buf .now) (a .at)) (int-refused (a .negative) (a .magnitude .now) (sym (c .before .is-negative-zero .ensures) ∙ c .if1 .taken)) ∙ placed-nil (a .buf .now) (a .at))
+    let a = c .before .before .before .before .args in
+    sym (ap (placed (a .buf .now) (a .at)) (int-refused (a .negative) (a .magnitude .now) (sym (c .before .is-negative-zero .ensures) ∙ c .if1 .taken)) ∙ placed-nil (a .buf .now) (a .at))
 
 cast-code : tie.Need-cast-code
 cast-code c = search needs
@@ -59,10 +59,10 @@ same-length c = search needs
 
 returns-2 : tie.Need-returns-2
 returns-2 c =
-  let z = c .before .before .before .before .before .before in
-  let d = z .before in
-  let a = d .before .before .before .before .args in
-  c .before .before .plain-bytes .ensures ∙ ap (placed (a .buf .now) (a .at)) (body d _ (sym (orZero-none (trimmed (a .magnitude .now)) (omega arith))))
+    let z = c .before .before .before .before .before .before in
+    let d = z .before in
+    let a = d .before .before .before .before .args in
+    c .before .before .plain-bytes .ensures ∙ ap (placed (a .buf .now) (a .at)) (body d _ (sym (orZero-none (trimmed (a .magnitude .now)) (omega arith))))
 
 sub-plain-bytes : tie.Need-sub-plain-bytes
 sub-plain-bytes c = search needs
@@ -81,12 +81,12 @@ same-length-2 c = search needs
 
 returns-3 : tie.Need-returns-3
 returns-3 c =
-  let z = c .before .before .before .before .before .before in
-  let d = z .before in
-  let a = d .before .before .before .before .args in
-  let m = a .magnitude .now in
-  c .before .before .plain-bytes2 .ensures
-  ∙ ap (placed (a .buf .now) (a .at)) (body d _ (trimmed-part m (z .leading-zero-bytes .result) (z .leading-zero-bytes .ensures) ∙ sym (orZero-some (trimmed m) (omega arith))))
+    let z = c .before .before .before .before .before .before in
+    let d = z .before in
+    let a = d .before .before .before .before .args in
+    let m = a .magnitude .now in
+    c .before .before .plain-bytes2 .ensures
+    ∙ ap (placed (a .buf .now) (a .at)) (body d _ (trimmed-part m (z .leading-zero-bytes .result) (z .leading-zero-bytes .ensures) ∙ sym (orZero-some (trimmed m) (omega arith))))
 
 pub plain-int-spec : {M : Type 1} → statement M
 plain-int-spec =

@@ -20,9 +20,9 @@ same-length c = search needs
 
 returns : tie.Need-returns
 returns c =
-  let n = c .before .before .before .null-byte in
-  let a = c .before .before .before .before .before .before .args in
-  c .before .before .put .ensures ∙ ap (placed (a .buf .now) (a .at)) (ap (λ (v : ℕ). v ∷ []) (n .ensures) ∙ sym (null-bytes (a .t)))
+    let n = c .before .before .before .null-byte in
+    let a = c .before .before .before .before .before .before .args in
+    c .before .before .put .ensures ∙ ap (placed (a .buf .now) (a .at)) (ap (λ (v : ℕ). v ∷ []) (n .ensures) ∙ sym (null-bytes (a .t)))
 
 pub plain-null-spec : {M : Type 1} → statement M
 plain-null-spec = tie.close (tie.spec null-byte-requires put-requires same-length returns)

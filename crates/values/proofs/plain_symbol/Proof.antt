@@ -15,8 +15,8 @@ same-length c = search needs
 
 returns : tie.Need-returns
 returns c =
-  let a = c .before .before .before .before .before .args in
-  c .before .before .plain-uint .ensures ∙ ap (placed (a .buf .now) (a .at)) (sym (symbol-bytes (a .sid)))
+    let a = c .before .before .before .before .before .args in
+    c .before .before .plain-uint .ensures ∙ ap (placed (a .buf .now) (a .at)) (sym (symbol-bytes (a .sid)))
 
 pub plain-symbol-spec : {M : Type 1} → statement M
 plain-symbol-spec = tie.close (tie.spec plain-uint-requires same-length returns)

@@ -22,18 +22,18 @@ record Known (c : tie.Else1) : Type 0 where
 
 known : (c : tie.Else1) → Known c
 known c =
-  let a = c .before .before .before .before .args in
-  let n = c .before .before .encoded-size-of in
-  record {
-    size = omega (arith, n .ensures, uint-most (a .value) (search needs));
-    room = room (c .before .has-room .result) (a .buf .now) _ (c .before .has-room .ensures) (c .if1 .left)
-  }
+    let a = c .before .before .before .before .args in
+    let n = c .before .before .encoded-size-of in
+    record {
+      size = omega (arith, n .ensures, uint-most (a .value) (search needs));
+      room = room (c .before .has-room .result) (a .buf .now) _ (c .before .has-room .ensures) (c .if1 .left);
+    }
 
 -- the whole, by the size of the number
 whole : (code n k : ℕ) → n < 2 ^ 64 → k ≡ length (uintBytes n) → (code + k) ∷ fixedBytes k n ≡ framedBytes code (uintBytes n)
 whole code n k h e =
-  ap (λ (l : _). (code + k) ∷ l) (sym (uint-fixed n k e))
-  ∙ (ap (λ (j : ℕ). (code + j) ∷ uintBytes n) e ∙ sym (framed-short code (uintBytes n) (omega (arith, uint-most n h))))
+    ap (λ (l : _). (code + k) ∷ l) (sym (uint-fixed n k e))
+    ∙ (ap (λ (j : ℕ). (code + j) ∷ uintBytes n) e ∙ sym (framed-short code (uintBytes n) (omega (arith, uint-most n h))))
 
 encoded-size-of-requires : tie.Need-encoded-size-of-requires
 encoded-size-of-requires c κs = search needs
@@ -46,10 +46,10 @@ has-room-requires c κs = search needs
 
 returns : tie.Need-returns
 returns c =
-  let a = c .before .before .before .before .args in
-  let n = c .before .before .encoded-size-of in
-  let h = no-room (c .before .has-room .result) (a .buf .now) _ (c .before .has-room .ensures) (c .if1 .taken) in
-  sym (placed-full (a .buf .now) (a .at) (framedBytes (a .code) (uintBytes (a .value)))
+    let a = c .before .before .before .before .args in
+    let n = c .before .before .encoded-size-of in
+    let h = no-room (c .before .has-room .result) (a .buf .now) _ (c .before .has-room .ensures) (c .if1 .taken) in
+    sym (placed-full (a .buf .now) (a .at) (framedBytes (a .code) (uintBytes (a .value)))
     (omega (arith, ap length (framed-short (a .code) (uintBytes (a .value)) (omega (arith, uint-most (a .value) (search needs)))))))
 
 cast-buf : tie.Need-cast-buf
@@ -69,25 +69,25 @@ write-fixed-requires c κs = search needs
 
 add-result : tie.Need-add-result
 add-result c =
-  let d = c .before .before .before .before in
-  let k = known d in
-  let n = d .before .before .encoded-size-of .result in
-  let v = d .before .before .before .before .args .value in
-  omega (arith, length-fixed n v, placed-most _ _ (fixedBytes n v) _ _ (c .before .before .write-fixed .ensures))
+    let d = c .before .before .before .before in
+    let k = known d in
+    let n = d .before .before .encoded-size-of .result in
+    let v = d .before .before .before .before .args .value in
+    omega (arith, length-fixed n v, placed-most _ _ (fixedBytes n v) _ _ (c .before .before .write-fixed .ensures))
 
 same-length : tie.Need-same-length
 same-length c = simp length-set at (c .before .before .write-fixed .kept .0)
 
 returns-2 : tie.Need-returns-2
 returns-2 c =
-  let d = c .before .before .before .before in
-  let k = known d in
-  let a = d .before .before .before .before .args in
-  let n = d .before .before .encoded-size-of in
-  let f = fixedBytes (n .result) (a .value) in
-  let l : length f ≡ n .result = length-fixed (n .result) (a .value) in
-  placed-then (a .buf .now) (a .at) ((a .code + n .result) ∷ []) 1 _ (placed-one (a .buf .now) (a .at) (a .code + n .result) (omega arith)) f _ _ (omega arith) (c .before .before .write-fixed .ensures)
-  ∙ ap (placed (a .buf .now) (a .at)) (whole (a .code) (a .value) (n .result) (search needs) (n .ensures))
+    let d = c .before .before .before .before in
+    let k = known d in
+    let a = d .before .before .before .before .args in
+    let n = d .before .before .encoded-size-of in
+    let f = fixedBytes (n .result) (a .value) in
+    let l : length f ≡ n .result = length-fixed (n .result) (a .value) in
+    placed-then (a .buf .now) (a .at) ((a .code + n .result) ∷ []) 1 _ (placed-one (a .buf .now) (a .at) (a .code + n .result) (omega arith)) f _ _ (omega arith) (c .before .before .write-fixed .ensures)
+    ∙ ap (placed (a .buf .now) (a .at)) (whole (a .code) (a .value) (n .result) (search needs) (n .ensures))
 
 pub plain-uint-spec : {M : Type 1} → statement M
 plain-uint-spec =

@@ -84,10 +84,10 @@ returns-2 c = let g = c .before .enum-told2 .given in rw (g .1) (c .fit2 .ensure
 
 returns-3 : tie.Need-returns-3
 returns-3 c =
-  let m = c .before .before in
-  let g = m .before .before .value .given in
-  let n : m .magnitude .result ≡ natAbs (g .0 .0) = m .magnitude .ensures ∙ ap natAbs (kept (m .before)) in
-  rw (g .1, i64-bytes (g .0 .0)) (c .framed-size .ensures _ (uintBytes (natAbs (g .0 .0))) (sym (c .before .encoded-size-of .ensures ∙ ap (λ (k : ℕ). length (uintBytes k)) n)))
+    let m = c .before .before in
+    let g = m .before .before .value .given in
+    let n : m .magnitude .result ≡ natAbs (g .0 .0) = m .magnitude .ensures ∙ ap natAbs (kept (m .before)) in
+    rw (g .1, i64-bytes (g .0 .0)) (c .framed-size .ensures _ (uintBytes (natAbs (g .0 .0))) (sym (c .before .encoded-size-of .ensures ∙ ap (λ (k : ℕ). length (uintBytes k)) n)))
 
 returns-4 : tie.Need-returns-4
 returns-4 c = let g = c .before .before .before .value2 .given in rw (g .1, f32-bytes (g .0 .0)) (c .fit3 .ensures (float32Bytes (g .0 .0)) (sym (c .before .f32-size .ensures)))

@@ -19,10 +19,10 @@ path : (d : tie.After-write-wrapper) →
     let v = framedBytes (a .code / 16 * 16) (a .bytes .now) in
     Wrapped (a .buf .now) (a .at) v (annotatedBytes (sidsOf (a .annotations .now)) v) (d .write-wrapper .result) (d .write-wrapper .last .0)
 path d =
-  let a = d .before .before .before .before .before .before .before .args in
-  let an = sidsOf (a .annotations .now) in
-  let v = framedBytes (a .code / 16 * 16) (a .bytes .now) in
-  rw (← (annotatedAny-some an v (framed-some (a .code / 16 * 16) (a .bytes .now))))
+    let a = d .before .before .before .before .before .before .before .args in
+    let an = sidsOf (a .annotations .now) in
+    let v = framedBytes (a .code / 16 * 16) (a .bytes .now) in
+    rw (← (annotatedAny-some an v (framed-some (a .code / 16 * 16) (a .bytes .now))))
     (wrapped (a .buf .now) (a .at) an v (sids-some (a .annotations .now) (omega arith)) _ (d .before .framed-size .ensures (a .code / 16 * 16) (a .bytes .now) refl) _ _ (d .write-wrapper .ensures))
 
 plain-bytes-requires : tie.Need-plain-bytes-requires
@@ -33,10 +33,10 @@ same-length c = search needs
 
 returns : tie.Need-returns
 returns c =
-  let a = c .before .before .before .before .before .before .before .before .args in
-  let v = framedBytes (a .code / 16 * 16) (a .bytes .now) in
-  c .before .before .plain-bytes .ensures
-  ∙ ap (placed (a .buf .now) (a .at)) (sym (annotatedBytes-none (sidsOf (a .annotations .now)) v (sids-none (a .annotations .now) (c .before .before .before .before .if1 .taken))))
+    let a = c .before .before .before .before .before .before .before .before .args in
+    let v = framedBytes (a .code / 16 * 16) (a .bytes .now) in
+    c .before .before .plain-bytes .ensures
+    ∙ ap (placed (a .buf .now) (a .at)) (sym (annotatedBytes-none (sidsOf (a .annotations .now)) v (sids-none (a .annotations .now) (c .before .before .before .before .if1 .taken))))
 
 framed-size-requires : tie.Need-framed-size-requires
 framed-size-requires c κs = search needs

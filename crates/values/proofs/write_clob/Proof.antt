@@ -18,8 +18,8 @@ same-length c = search needs
 returns : tie.Need-returns
 unfolding argumentBytes
 returns c =
-  let a = c .before .before .before .before .before .before .before .args in
-  c .before .before .write-bytes .ensures ∙ ap (placed (a .buf .now) (a .at)) (sym (annotated-accepted (sidsOf (a .annotations .now)) (writeClob (a .bytes .now)) refl))
+    let a = c .before .before .before .before .before .before .before .args in
+    c .before .before .write-bytes .ensures ∙ ap (placed (a .buf .now) (a .at)) (sym (annotated-accepted (sidsOf (a .annotations .now)) (writeClob (a .bytes .now)) refl))
 
 pub write-clob-spec : {M : Type 1} → statement M
 write-clob-spec = tie.close (tie.spec write-bytes-requires same-length returns)

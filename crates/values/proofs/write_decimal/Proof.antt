@@ -31,13 +31,13 @@ path : (d : tie.After-write-wrapper) →
     (annotatedChecked (sidsOf (a .annotations .now)) (writeDecimal (a .negative) (a .coefficient .now) (a .exponent))) (d .write-wrapper .result) (d .write-wrapper .last .0)
 unfolding read
 path d =
-  let s = d .before .before .before .before .before .before .before in
-  let a = s .args in
-  let v = writeDecimal (a .negative) (a .coefficient .now) (read s) in
-  subst
-  (λ (e : ℤ). Wrapped (a .buf .now) (a .at) (checkedBytes v) (annotatedChecked (sidsOf (a .annotations .now)) (writeDecimal (a .negative) (a .coefficient .now) e)) (d .write-wrapper .result) (d .write-wrapper .last .0))
-  (same s)
-  (wrapped-scalar (a .buf .now) (a .at) (a .annotations .now) v (omega arith) _ (d .before .size .ensures) _ _ (d .write-wrapper .ensures))
+    let s = d .before .before .before .before .before .before .before in
+    let a = s .args in
+    let v = writeDecimal (a .negative) (a .coefficient .now) (read s) in
+    subst
+    (λ (e : ℤ). Wrapped (a .buf .now) (a .at) (checkedBytes v) (annotatedChecked (sidsOf (a .annotations .now)) (writeDecimal (a .negative) (a .coefficient .now) e)) (d .write-wrapper .result) (d .write-wrapper .last .0))
+    (same s)
+    (wrapped-scalar (a .buf .now) (a .at) (a .annotations .now) v (omega arith) _ (d .before .size .ensures) _ _ (d .write-wrapper .ensures))
 
 write-requires : tie.Need-write-requires
 write-requires c κs = search needs
@@ -48,9 +48,9 @@ same-length c = search needs
 returns : tie.Need-returns
 unfolding read
 returns c =
-  let s = c .before .before .before .before .before .before .before .before in
-  let a = s .args in
-  rw (← (same s)) (unannotated (a .buf .now) (a .at) (a .annotations .now) (writeDecimal (a .negative) (a .coefficient .now) (read s)) (c .before .before .before .before .if1 .taken) _ _ (c .before .before .write .ensures))
+    let s = c .before .before .before .before .before .before .before .before in
+    let a = s .args in
+    rw (← (same s)) (unannotated (a .buf .now) (a .at) (a .annotations .now) (writeDecimal (a .negative) (a .coefficient .now) (read s)) (c .before .before .before .before .if1 .taken) _ _ (c .before .before .write .ensures))
 
 size-requires : tie.Need-size-requires
 size-requires c κs = search needs

@@ -18,8 +18,8 @@ same-length c = search needs
 
 returns : tie.Need-returns
 returns c =
-  let a = c .before .before .before .before .before .before .before .args in
-  unannotated (a .buf .now) (a .at) (a .annotations .now) (writeI64 (a .value)) (c .before .before .before .before .if1 .taken) _ _ (rw (← (toZ-ofZ w64 (a .value) (c .before .before .before .before .before .before .before .fits .value))) (c .before .before .plain-i64 .ensures))
+    let a = c .before .before .before .before .before .before .before .args in
+    unannotated (a .buf .now) (a .at) (a .annotations .now) (writeI64 (a .value)) (c .before .before .before .before .if1 .taken) _ _ (rw (← (toZ-ofZ w64 (a .value) (c .before .before .before .before .before .before .before .fits .value))) (c .before .before .plain-i64 .ensures))
 
 annotated-scalar-requires : tie.Need-annotated-scalar-requires
 annotated-scalar-requires c κs = search needs
@@ -29,8 +29,8 @@ same-length-2 c = search needs
 
 returns-2 : tie.Need-returns-2
 returns-2 c =
-  let s = c .before .before .before .before .before .before .before in
-  rw (← (toZ-ofZ w64 (s .args .value) (s .fits .value))) (c .before .before .annotated-scalar .ensures)
+    let s = c .before .before .before .before .before .before .before in
+    rw (← (toZ-ofZ w64 (s .args .value) (s .fits .value))) (c .before .before .annotated-scalar .ensures)
 
 pub write-i64-spec : {M : Type 1} → statement M
 write-i64-spec =

@@ -17,8 +17,8 @@ path : (d : tie.After-write-wrapper) →
     let v = writeInt (a .negative) (a .magnitude .now) in
     Wrapped (a .buf .now) (a .at) (checkedBytes v) (annotatedChecked (sidsOf (a .annotations .now)) v) (d .write-wrapper .result) (d .write-wrapper .last .0)
 path d =
-  let a = d .before .before .before .before .before .before .before .args in
-  wrapped-scalar (a .buf .now) (a .at) (a .annotations .now) (writeInt (a .negative) (a .magnitude .now)) (omega arith) _ (d .before .int-size .ensures) _ _ (d .write-wrapper .ensures)
+    let a = d .before .before .before .before .before .before .before .args in
+    wrapped-scalar (a .buf .now) (a .at) (a .annotations .now) (writeInt (a .negative) (a .magnitude .now)) (omega arith) _ (d .before .int-size .ensures) _ _ (d .write-wrapper .ensures)
 
 plain-int-requires : tie.Need-plain-int-requires
 plain-int-requires c κs = search needs
@@ -28,8 +28,8 @@ same-length c = search needs
 
 returns : tie.Need-returns
 returns c =
-  let a = c .before .before .before .before .before .before .before .before .args in
-  unannotated (a .buf .now) (a .at) (a .annotations .now) (writeInt (a .negative) (a .magnitude .now)) (c .before .before .before .before .if1 .taken) _ _ (c .before .before .plain-int .ensures)
+    let a = c .before .before .before .before .before .before .before .before .args in
+    unannotated (a .buf .now) (a .at) (a .annotations .now) (writeInt (a .negative) (a .magnitude .now)) (c .before .before .before .before .if1 .taken) _ _ (c .before .before .plain-int .ensures)
 
 int-size-requires : tie.Need-int-size-requires
 int-size-requires c κs = search needs

@@ -18,10 +18,10 @@ is-utf8-requires c κs = search needs
 
 returns : tie.Need-returns
 returns c =
-  let d = c .before in
-  let a = d .before .before .before .before .args in
-  let r : utf8 (a .bytes .now) ≡ false = sym (d .is-utf8 .ensures) ∙ not-true (d .is-utf8 .result) (c .if1 .taken) in
-  sym (ap (placed (a .buf .now) (a .at)) (annotated-refused (sidsOf (a .annotations .now)) (writeString (a .bytes .now)) (ap (λ (t : Bool). not t || false) r)) ∙ placed-nil (a .buf .now) (a .at))
+    let d = c .before in
+    let a = d .before .before .before .before .args in
+    let r : utf8 (a .bytes .now) ≡ false = sym (d .is-utf8 .ensures) ∙ not-true (d .is-utf8 .result) (c .if1 .taken) in
+    sym (ap (placed (a .buf .now) (a .at)) (annotated-refused (sidsOf (a .annotations .now)) (writeString (a .bytes .now)) (ap (λ (t : Bool). not t || false) r)) ∙ placed-nil (a .buf .now) (a .at))
 
 write-bytes-requires : tie.Need-write-bytes-requires
 write-bytes-requires c κs = search needs
@@ -32,11 +32,11 @@ same-length c = search needs
 returns-2 : tie.Need-returns-2
 unfolding argumentBytes
 returns-2 c =
-  let d = c .before .before .before .before in
-  let a = d .before .before .before .before .before .args in
-  let r : utf8 (a .bytes .now) ≡ true = sym (d .before .is-utf8 .ensures) ∙ not-false (d .before .is-utf8 .result) (d .if1 .left) in
-  c .before .before .write-bytes .ensures
-  ∙ ap (placed (a .buf .now) (a .at)) (sym (annotated-accepted (sidsOf (a .annotations .now)) (writeString (a .bytes .now)) (ap (λ (t : Bool). not t || false) r)))
+    let d = c .before .before .before .before in
+    let a = d .before .before .before .before .before .args in
+    let r : utf8 (a .bytes .now) ≡ true = sym (d .before .is-utf8 .ensures) ∙ not-false (d .before .is-utf8 .result) (d .if1 .left) in
+    c .before .before .write-bytes .ensures
+    ∙ ap (placed (a .buf .now) (a .at)) (sym (annotated-accepted (sidsOf (a .annotations .now)) (writeString (a .bytes .now)) (ap (λ (t : Bool). not t || false) r)))
 
 pub write-string-spec : {M : Type 1} → statement M
 write-string-spec =

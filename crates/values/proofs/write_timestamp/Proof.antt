@@ -14,8 +14,8 @@ same-length c = search needs
 
 returns : tie.Need-returns
 returns c =
-  let a = c .before .before .before .before .before .before .before .args in
-  unannotated (a .buf .now) (a .at) (a .annotations .now) (argumentOf (a .value)) (c .before .before .before .before .if1 .taken) _ _ (c .before .before .write .ensures)
+    let a = c .before .before .before .before .before .before .before .args in
+    unannotated (a .buf .now) (a .at) (a .annotations .now) (argumentOf (a .value)) (c .before .before .before .before .if1 .taken) _ _ (c .before .before .write .ensures)
 
 annotated-scalar-requires : tie.Need-annotated-scalar-requires
 annotated-scalar-requires c κs = search needs

@@ -13,8 +13,8 @@ use Rattle.values.proofs.write_wrapper.Tie as tie
 
 returns : tie.Need-returns
 returns c =
-  let a = c .before .before .before .args in
-  rw (c .if1 .taken) (sym (before-none (a .buf .now) (a .at)))
+    let a = c .before .before .before .args in
+    rw (c .if1 .taken) (sym (before-none (a .buf .now) (a .at)))
 
 write-prefix-requires : tie.Need-write-prefix-requires
 write-prefix-requires c κs = search needs
@@ -24,9 +24,9 @@ same-length c = search needs
 
 returns-2 : tie.Need-returns-2
 returns-2 c =
-  let a = c .before .before .before .before .before .before .before .args in
-  c .before .before .write-prefix .ensures
-  ∙ ap (λ (x : List ℕ). placedBefore (a .buf .now) (a .at) x (a .size)) (sym (prefixFor-some (sidsOf (a .annotations .now)) (a .size) (omega arith)))
+    let a = c .before .before .before .before .before .before .before .args in
+    c .before .before .write-prefix .ensures
+    ∙ ap (λ (x : List ℕ). placedBefore (a .buf .now) (a .at) x (a .size)) (sym (prefixFor-some (sidsOf (a .annotations .now)) (a .size) (omega arith)))
 
 pub write-wrapper-spec : {M : Type 1} → statement M
 write-wrapper-spec = tie.close (tie.spec returns write-prefix-requires same-length returns-2)
