@@ -73,6 +73,7 @@ module _ (t : Timestamp) where
     fields-bytes = ap varUIntsBytes (fieldsBy-year (t .precision)) ∙ rw (small-bytes belowCount belowYear (small-year .1))
 
     pub body-bytes : bodyOf t ≡ offsetBytes (offsetMinutes (t .offset)) ++ ((varUIntBytes (t .year) ++ take belowCount (endBytes belowYear)) ++ fractionBytes (fractionDigits (t .fraction)))
+    unfolding bodyOf
     body-bytes = rw fields-bytes
 
     pub body-length : length (bodyOf t) ≡ length (offsetBytes (offsetMinutes (t .offset))) + (length (varUIntBytes (t .year)) + belowCount + length (fractionBytes (fractionDigits (t .fraction))))

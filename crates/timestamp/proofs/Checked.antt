@@ -35,7 +35,7 @@ module _ (t : Timestamp) where
 
   -- u is t with its UTC fields
   pub accepted : isValid ≡ true → (u : Timestamp) → u ≡ withFields t (utc (offsetMinutes (t .offset)) (fieldsOf t)) → valueOf u ≡ checkedBytes (argumentOf t)
-  unfolding argumentBytes
+  unfolding argumentBytes valueOf
   accepted v u e =
       ap valueOf e
       ∙ (ap (framedBytes (typeByte timestampCode)) (utc-body t)
@@ -47,6 +47,7 @@ module _ (t : Timestamp) where
   -- the value by the lengths of header and body
   module _ (h : Small t) (body : ℕ) (q : body ≡ length (bodyOf t)) (header : ℕ) (k : header ≡ length (headerBytes 0 body)) where
     pub value-length : header + body ≡ length (valueOf t)
+    unfolding valueOf
     value-length = rw (length-framed (typeByte timestampCode) (bodyOf t), ← q, k)
 
     pub value-fits : Fits w64 (header + body)

@@ -70,6 +70,7 @@ nearDay-after (suc (suc k)) y m d f g = refl
 
 -- the second stays
 withFields-second : (t : Timestamp) (x : Date) (n : ℕ) → withFields t (fieldsAt x n []) ≡ withFields t (fieldsAt x n (t .second ∷ []))
+unfolding withFields
 withFields-second t (date y m d) n = refl
 
 utc-at-minute : (t : Timestamp) (p : Precision) (z : ℤ) → 5 ≤ fieldCount p →
@@ -82,6 +83,7 @@ utc-at-minute t Minute z h = refl
 utc-at-minute t Second z h = withFields-second t (nearDay (utcMinutes z (t .hour) (t .minute) / 1440) (t .year) (t .month) (t .day)) (utcMinutes z (t .hour) (t .minute))
 
 withFields-same : (t : Timestamp) (p : Precision) → t ≡ withFields t (fieldsBy p (t .year) (t .month) (t .day) (t .hour) (t .minute) (t .second))
+unfolding withFields
 withFields-same t Year = refl
 withFields-same t Month = refl
 withFields-same t Day = refl

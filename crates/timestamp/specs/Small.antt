@@ -41,8 +41,8 @@ pub record Small (t : Timestamp) : Type 0 where
   pub fraction : SmallFraction (fractionDigits (t .fraction))
 
 -- the body of a timestamp whose fields are UTC
-abbrev pub bodyOf : Timestamp → List ℕ
+unfoldable pub bodyOf : Timestamp → List ℕ
 bodyOf t = offsetBytes (offsetMinutes (t .offset)) ++ (varUIntsBytes (fieldsOf t) ++ fractionBytes (fractionDigits (t .fraction)))
 
-abbrev pub valueOf : Timestamp → List ℕ
+unfoldable pub valueOf : Timestamp → List ℕ
 valueOf t = framedBytes (typeByte timestampCode) (bodyOf t)

@@ -14,7 +14,7 @@ abbrev pub dateOf : Date → CalendarDate
 dateOf x = date (x .year) (x .month) (x .day)
 
 -- these fields, from the year down, in the place of its own
-abbrev pub withFields : Timestamp → List ℕ → Timestamp
+unfoldable pub withFields : Timestamp → List ℕ → Timestamp
 withFields t fs =
     record {
       precision = t .precision;

@@ -85,6 +85,7 @@ same-length : tie.Need-same-length
 same-length c = search needs
 
 returns-2 : tie.Need-returns-2
+unfolding valueOf
 returns-2 c =
     let v = c .before .before in
     let w = v .before .before .before .before in
