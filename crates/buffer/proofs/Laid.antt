@@ -1,9 +1,9 @@
 -- The laws of laid and placed bytes, by which a function that puts bytes in several steps is proved: each step is a run, and runs side by side are one run.
 -- By splitting the buffer before and behind the run. Assumes nothing.
 use mathlib.Core.Path.{_≡_, refl, sym, _∙_, ap}
-use mathlib.Core.List.{List, [], _∷_, _++_, append-assoc, append-nil}
+use mathlib.Core.List.{List, [], _∷_, _++_, append-assoc}
 use mathlib.Core.Bool.{Bool, true, false, not}
-use Prim.Native.Nat.{ℕ, zero, suc, _+_, _-_, _≤_, _<_}
+use Prim.Native.Nat.{ℕ, _+_, _≤_, _<_}
 use native.Mathlib.Omega.{arith}
 use native.Mathlib.Numerals.{add-one}
 use native.Mathlib.Nat.{add-assoc, add-zero}
@@ -11,7 +11,7 @@ use mathlib.Core.Logic.{_⊎_, inl, inr, ⊎-elim}
 use lib.Dec.{leb}
 use borrow.Author.Tests.{le-leb, lt-leb, leb-true, leb-false, not-true, not-false}
 use lib.ListN.{length, take, drop, set, length-append, length-drop, take-append-drop}
-use lib.Seq.{take-at, drop-at, drop-drop, length-take-le, set-split, take-take, take-append-le, drop-append-le, take-append-add}
+use lib.Seq.{take-at, drop-at, drop-drop, length-take-le, set-split, take-take, take-append-le}
 use Rattle.buffer.specs.Laid.{laid, placed}
 
 pub laid-nil : (b : List ℕ) (at : ℕ) → laid b at [] ≡ b
@@ -50,37 +50,42 @@ module _ (b : List ℕ) (at : ℕ) (xs : List ℕ) (h : at + length xs ≤ lengt
   -- and so do those behind it
   pub drop-laid : (n : ℕ) → drop (at + length xs + n) (laid b at xs) ≡ drop (at + length xs + n) b
   drop-laid n = sym (drop-drop n (at + length xs) (laid b at xs))
-    ∙ (ap (λ (l : List ℕ). drop n (drop (at + length xs) l)) laid-split
-    ∙ (ap (drop n) (drop-at (take at b ++ xs) _ (at + length xs) head-length) ∙ drop-drop n (at + length xs) b))
+      ∙ (ap (λ (l : List ℕ). drop n (drop (at + length xs) l)) laid-split
+      ∙ (ap (drop n) (drop-at (take at b ++ xs) _ (at + length xs) head-length) ∙ drop-drop n (at + length xs) b))
 
   -- two runs side by side, the left one first
   pub laid-more : (ys : List ℕ) → laid (laid b at xs) (at + length xs) ys ≡ laid b at (xs ++ ys)
   laid-more ys =
-    laid-is (laid b at xs) (at + length xs) ys
-    ∙ (rw (take-laid, drop-laid (length ys)) (rw (laid-is b at (xs ++ ys), length-append xs ys, ← (add-assoc at (length xs) (length ys)))
-        (append-assoc (take at b) xs _ ∙ ap (λ (l : List ℕ). take at b ++ l) (sym (append-assoc xs ys _)))))
+      laid-is (laid b at xs) (at + length xs) ys
+      ∙ (rw (take-laid, drop-laid (length ys)) (rw (laid-is b at (xs ++ ys), length-append xs ys, ← (add-assoc at (length xs) (length ys)))
+      (append-assoc (take at b) xs _ ∙ ap (λ (l : List ℕ). take at b ++ l) (sym (append-assoc xs ys _)))))
 
   -- and the right one first
   pub laid-before : (ys : List ℕ) → at + (length xs + length ys) ≤ length b → laid (laid b (at + length xs) ys) at xs ≡ laid b at (xs ++ ys)
   laid-before ys k =
-    let t : length (take (at + length xs) b) ≡ at + length xs = length-take-le (at + length xs) b h in
-    laid-is (laid b (at + length xs) ys) at xs
-    ∙ (rw (laid-is b (at + length xs) ys)
-        (rw (drop-at (take (at + length xs) b) (ys ++ drop (at + length xs + length ys) b) (at + length xs) t,
-             take-append-le at (take (at + length xs) b) (ys ++ drop (at + length xs + length ys) b) (omega arith),
-             take-take at (at + length xs) b (omega arith),
-             laid-is b at (xs ++ ys), length-append xs ys, ← (add-assoc at (length xs) (length ys)), append-assoc xs ys) refl))
+      let t : length (take (at + length xs) b) ≡ at + length xs = length-take-le (at + length xs) b h in
+      laid-is (laid b (at + length xs) ys) at xs
+      ∙ (rw (laid-is b (at + length xs) ys)
+      (rw (
+        drop-at (take (at + length xs) b) (ys ++ drop (at + length xs + length ys) b) (at + length xs) t,
+        take-append-le at (take (at + length xs) b) (ys ++ drop (at + length xs + length ys) b) (omega arith),
+        take-take at (at + length xs) b (omega arith),
+        laid-is b at (xs ++ ys),
+        length-append xs ys,
+        ← (add-assoc at (length xs) (length ys)),
+        append-assoc xs ys,
+      ) refl))
 
 -- a store behind a run, and one before it
 pub laid-snoc : (b : List ℕ) (at : ℕ) (xs : List ℕ) (n v : ℕ) → n ≡ at + length xs → n < length b → set (laid b at xs) n v ≡ laid b at (xs ++ (v ∷ []))
 laid-snoc b at xs n v e h =
-  laid-one (laid b at xs) n v (rw (length-laid b at xs (omega arith)) h)
-  ∙ (ap (λ (k : ℕ). laid (laid b at xs) k (v ∷ [])) e ∙ laid-more b at xs (omega arith) (v ∷ []))
+    laid-one (laid b at xs) n v (rw (length-laid b at xs (omega arith)) h)
+    ∙ (ap (λ (k : ℕ). laid (laid b at xs) k (v ∷ [])) e ∙ laid-more b at xs (omega arith) (v ∷ []))
 
 pub laid-cons : (b : List ℕ) (at : ℕ) (xs : List ℕ) (v : ℕ) → at + 1 + length xs ≤ length b → set (laid b (at + 1) xs) at v ≡ laid b at (v ∷ xs)
 laid-cons b at xs v h =
-  laid-one (laid b (at + 1) xs) at v (rw (length-laid b (at + 1) xs h) (omega arith))
-  ∙ laid-before b at (v ∷ []) (omega arith) xs (omega arith)
+    laid-one (laid b (at + 1) xs) at v (rw (length-laid b (at + 1) xs h) (omega arith))
+    ∙ laid-before b at (v ∷ []) (omega arith) xs (omega arith)
 
 -- ---- what a function answers and leaves
 
@@ -101,10 +106,10 @@ pub placed-or : (b : List ℕ) (at : ℕ) (out : List ℕ)
     → ((at + length out ≤ length b) × (placed b at out ≡ (length out, laid b at out))) ⊎ ((length b < at + length out) × (placed b at out ≡ (0, b)))
 placed-or b at out = go (leb (at + length out) (length b)) refl
   where
-  go : (t : Bool) → leb (at + length out) (length b) ≡ t
-    → ((at + length out ≤ length b) × (placed b at out ≡ (length out, laid b at out))) ⊎ ((length b < at + length out) × (placed b at out ≡ (0, b)))
-  go true e = let h = leb-true (at + length out) (length b) e in inl (h, placed-fits b at out h)
-  go false e = let h = leb-false (at + length out) (length b) e in inr (h, placed-full b at out h)
+    go : (t : Bool) → leb (at + length out) (length b) ≡ t
+        → ((at + length out ≤ length b) × (placed b at out ≡ (length out, laid b at out))) ⊎ ((length b < at + length out) × (placed b at out ≡ (0, b)))
+    go true e = let h = leb-true (at + length out) (length b) e in inl (h, placed-fits b at out h)
+    go false e = let h = leb-false (at + length out) (length b) e in inr (h, placed-full b at out h)
 
 pub placed-nil : (b : List ℕ) (at : ℕ) → placed b at [] ≡ (0, b)
 placed-nil b at = ⊎-elim (λ w. w .1 ∙ ap (λ (l : List ℕ). (0, l)) (laid-nil b at)) (λ w. w .1) (placed-or b at [])
@@ -118,15 +123,15 @@ module _ (b : List ℕ) (at : ℕ) (xs : List ℕ) (n : ℕ) (l : List ℕ) (e :
   -- the buffer keeps its length
   pub placed-length : length l ≡ length b
   placed-length =
-    ap (λ (x : ℕ × List ℕ). length (x .1)) e
-    ∙ ⊎-elim (λ w. ap (λ (x : ℕ × List ℕ). length (x .1)) (w .1) ∙ length-laid b at xs (w .0)) (λ w. ap (λ (x : ℕ × List ℕ). length (x .1)) (w .1)) (placed-or b at xs)
+      ap (λ (x : ℕ × List ℕ). length (x .1)) e
+      ∙ ⊎-elim (λ w. ap (λ (x : ℕ × List ℕ). length (x .1)) (w .1) ∙ length-laid b at xs (w .0)) (λ w. ap (λ (x : ℕ × List ℕ). length (x .1)) (w .1)) (placed-or b at xs)
 
   -- no more bytes are put than there are
   pub placed-most : n ≤ length xs
   placed-most = ⊎-elim
-    (λ w. rw (ap (λ (x : ℕ × List ℕ). x .0) (e ∙ w .1)) (omega arith))
-    (λ w. rw (ap (λ (x : ℕ × List ℕ). x .0) (e ∙ w .1)) (omega arith))
-    (placed-or b at xs)
+      (λ w. rw (ap (λ (x : ℕ × List ℕ). x .0) (e ∙ w .1)) (omega arith))
+      (λ w. rw (ap (λ (x : ℕ × List ℕ). x .0) (e ∙ w .1)) (omega arith))
+      (placed-or b at xs)
 
   module _ (h : at + length xs ≤ length b) where
     placed-pair : _≡_ {A = ℕ × List ℕ} (n, l) (length xs, laid b at xs)
@@ -142,11 +147,11 @@ module _ (b : List ℕ) (at : ℕ) (xs : List ℕ) (n : ℕ) (l : List ℕ) (e :
   pub placed-then : (ys : List ℕ) (m : ℕ) (l′ : List ℕ) → at + (length xs + length ys) ≤ length b →
       _≡_ {A = ℕ × List ℕ} (m, l′) (placed l (at + n) ys) → _≡_ {A = ℕ × List ℕ} (n + m, l′) (placed b at (xs ++ ys))
   placed-then ys m l′ h e′ =
-    let p : n ≡ length xs = placed-count (omega arith) in
-    let q : l ≡ laid b at xs = placed-laid (omega arith) in
-    let k : at + n + length ys ≤ length l = rw placed-length (omega arith) in
-    let r : _≡_ {A = ℕ × List ℕ} (m, l′) (length ys, laid l (at + n) ys) = e′ ∙ placed-fits l (at + n) ys k in
-    placed-by b at (xs ++ ys) (n + m) l′ (rw (length-append xs ys) h)
+      let p : n ≡ length xs = placed-count (omega arith) in
+      let q : l ≡ laid b at xs = placed-laid (omega arith) in
+      let k : at + n + length ys ≤ length l = rw placed-length (omega arith) in
+      let r : _≡_ {A = ℕ × List ℕ} (m, l′) (length ys, laid l (at + n) ys) = e′ ∙ placed-fits l (at + n) ys k in
+      placed-by b at (xs ++ ys) (n + m) l′ (rw (length-append xs ys) h)
       (rw (length-append xs ys, p, ap (λ (x : ℕ × List ℕ). x .0) r) refl)
       (ap (λ (x : ℕ × List ℕ). x .1) r ∙ rw (p, q) (laid-more b at xs (omega arith) ys))
 
@@ -155,11 +160,11 @@ module _ (b : List ℕ) (at : ℕ) (xs : List ℕ) (n : ℕ) (l : List ℕ) (e :
 pub leb-iff : (a b x y : ℕ) → (a ≤ b → x ≤ y) → (x ≤ y → a ≤ b) → leb a b ≡ leb x y
 leb-iff a b x y f g = go (leb a b) (leb x y) refl refl
   where
-  go : (s t : Bool) → leb a b ≡ s → leb x y ≡ t → s ≡ t
-  go true true p q = refl
-  go false false p q = refl
-  go true false p q = sym (le-leb x y (f (leb-true a b p))) ∙ q
-  go false true p q = sym p ∙ le-leb a b (g (leb-true x y q))
+    go : (s t : Bool) → leb a b ≡ s → leb x y ≡ t → s ≡ t
+    go true true p q = refl
+    go false false p q = refl
+    go true false p q = sym (le-leb x y (f (leb-true a b p))) ∙ q
+    go false true p q = sym p ∙ le-leb a b (g (leb-true x y q))
 
 module _ (r : Bool) (b : List ℕ) (end : ℕ) (e : r ≡ leb end (length b)) where
   pub no-room : not r ≡ true → length b < end

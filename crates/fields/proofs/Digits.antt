@@ -1,6 +1,6 @@
 -- Digits of a number in any base: how many there are, which is the first, and how the count of leading zero bits finds how many.
 -- By the powers of the base between which the number lies. Assumes nothing.
-use mathlib.Core.Path.{_≡_, refl, sym, _∙_, ap, subst}
+use mathlib.Core.Path.{_≡_, refl, sym, _∙_, ap}
 use mathlib.Core.List.{List, [], _∷_, _++_, append-assoc}
 use Prim.Native.Nat.{ℕ, zero, suc, _+_, _-_, _*_, _/_, _%_, _^_, _≤_, _<_}
 use native.Mathlib.Omega.{arith}
@@ -10,7 +10,7 @@ use borrow.Author.Tests.{eq-eqb, ne-eqb}
 use lib.Pow.{pow-add, pow-mono, pow-pos, shr-lt}
 use lib.Count.{leadingZeros, leading-length}
 use lib.ListN.{length, length-append}
-use Rattle.encoding.specs.Digits.{lowDigits, countDigits, digitCount, digits}
+use Rattle.encoding.specs.Digits.{lowDigits, countDigits, digitCount}
 
 -- ---- the lowest digits
 
@@ -34,8 +34,8 @@ pub lowDigits-first : (b k n : ℕ) → lowDigits b (suc k) n ≡ n / b ^ k % b 
 unfolding lowDigits
 lowDigits-first b zero n = rw (pow-zero b, div-one n) refl
 lowDigits-first b (suc k) n =
-  ap (λ (l : List ℕ). l ++ (n % b ∷ [])) (lowDigits-first b k (n / b))
-  ∙ rw (div-div-eq-div-mul n b (b ^ k), ← (pow-succ' b k)) refl
+    ap (λ (l : List ℕ). l ++ (n % b ∷ [])) (lowDigits-first b k (n / b))
+    ∙ rw (div-div-eq-div-mul n b (b ^ k), ← (pow-succ' b k)) refl
 
 -- ---- how many digits
 
@@ -71,10 +71,10 @@ module _ (b : ℕ) (two : 2 ≤ b) where
   count-is zero most n m h r = let z : n < 1 = rw (pow-zero b) at h in count-zero b most n (omega arith)
   count-is (suc k) zero n m h r = absurd (omega arith)
   count-is (suc k) (suc most) n m h r =
-    let p = below-power k in
-    let u : n < b ^ k * b = rw (pow-suc b k) at h in
-    count-more b most n (omega arith)
-    ∙ ap suc (count-is k most (n / b) (omega arith) (div-lt-iff-lt-mul {k = b} {x = n} {y = b ^ k} (omega arith) .1 u) (reaches-less k n r))
+      let p = below-power k in
+      let u : n < b ^ k * b = rw (pow-suc b k) at h in
+      count-more b most n (omega arith)
+      ∙ ap suc (count-is k most (n / b) (omega arith) (div-lt-iff-lt-mul {k = b} {x = n} {y = b ^ k} (omega arith) .1 u) (reaches-less k n r))
 
   -- the count of digits is the k for which n lies below b ^ k, and not below b ^ (k - 1)
   pub digitCount-is : (k n : ℕ) → n < b ^ k → Reaches b k n → digitCount b n ≡ k
@@ -85,14 +85,15 @@ module _ (b : ℕ) (two : 2 ≤ b) where
   count-bounds : (most n : ℕ) → n ≤ most → (n < b ^ countDigits b most n) × Reaches b (countDigits b most n) n
   count-bounds zero n m = let z : n ≡ 0 = omega arith in rw (count-zero b 0 n z, pow-zero b) (omega arith, tt)
   count-bounds (suc most) n m = ⊎-elim
-    (λ z. rw (count-zero b (suc most) n z, pow-zero b) (omega arith, tt))
-    (λ p.
+      (λ z. rw (count-zero b (suc most) n z, pow-zero b) (omega arith, tt))
+      (λ p.
       let l : n / b < n = div-lt-self {n = n} {k = b} p (omega arith) in
       let i = count-bounds most (n / b) (omega arith) in
-      rw (count-more b most n p)
-        (rw (pow-suc b (countDigits b most (n / b))) (div-lt-iff-lt-mul {k = b} {x = n} {y = b ^ countDigits b most (n / b)} (omega arith) .0 (i .0)),
-         reaches-more (countDigits b most (n / b)) n p (i .1)))
-    (eq-zero-or-pos n)
+      rw (count-more b most n p) (
+        rw (pow-suc b (countDigits b most (n / b))) (div-lt-iff-lt-mul {k = b} {x = n} {y = b ^ countDigits b most (n / b)} (omega arith) .0 (i .0)),
+        reaches-more (countDigits b most (n / b)) n p (i .1),
+      ))
+      (eq-zero-or-pos n)
 
   pub digitCount-below : (n : ℕ) → n < b ^ digitCount b n
   unfolding digitCount
@@ -114,9 +115,9 @@ bitsUsed n = 64 - leadingZeros 64 n
 pub bitsUsed-pos : (n : ℕ) → 0 < n → n < 2 ^ 64 → 0 < bitsUsed n
 bitsUsed-pos n p h = let l = leading-length 64 n h in go (l .0) (l .1) (l .2)
   where
-  go : (m : ℕ) → leadingZeros 64 n + m ≡ 64 → n < 2 ^ m → 0 < bitsUsed n
-  go zero e u = absurd (omega arith)
-  go (suc m) e u = omega arith
+    go : (m : ℕ) → leadingZeros 64 n + m ≡ 64 → n < 2 ^ m → 0 < bitsUsed n
+    go zero e u = absurd (omega arith)
+    go (suc m) e u = omega arith
 
 pub power-power : (w k : ℕ) → (2 ^ w) ^ k ≡ 2 ^ (w * k)
 power-power w zero = rw (pow-zero (2 ^ w), mul-zero w) refl
@@ -125,19 +126,19 @@ power-power w (suc k) = pow-suc (2 ^ w) k ∙ rw (power-power w k, mul-suc w k) 
 -- Digits of w bits, the lowest d bits left out: the digits are as many as the bits above those d take.
 pub digitCount-by-zeros : (w d k n : ℕ) → 1 ≤ w → n < 2 ^ 64 → bitsUsed n ≤ w * k + d → (0 < k → w * k + d < bitsUsed n + w) → digitCount (2 ^ w) (n / 2 ^ d) ≡ k
 digitCount-by-zeros w d k n p h hi lo =
-  let l = leading-length 64 n h in
-  let e : bitsUsed n ≡ l .0 = omega (arith, l .1) in
-  let two : 2 ≤ 2 ^ w = pow-mono {i = 1} {j = w} p in
-  let u : n < 2 ^ (w * k + d) = lt-of-lt-of-le (l .2) (pow-mono {i = l .0} {j = w * k + d} (omega arith)) in
-  digitCount-is (2 ^ w) two k (n / 2 ^ d) (rw (power-power w k) (shr-lt {n = n} (w * k) d u)) (reaches k lo)
-  where
-  reaches : (k : ℕ) → (0 < k → w * k + d < bitsUsed n + w) → Reaches (2 ^ w) k (n / 2 ^ d)
-  reaches zero lo = tt
-  reaches (suc k) lo =
     let l = leading-length 64 n h in
-    let s : w * suc k + d < bitsUsed n + w = lo (omega arith) in
-    let t : w * k + w + d < bitsUsed n + w = rw (mul-suc w k) at s in
-    let q : 2 ^ suc (w * k + d) ≤ 2 ^ (l .0) = pow-mono {i = suc (w * k + d)} {j = l .0} (omega (arith, l .1)) in
-    let r : 2 ^ suc (w * k + d) ≡ 2 ^ (w * k + d) * 2 = pow-suc 2 (w * k + d) in
-    let m : 2 ^ (w * k + d) ≤ n = omega (arith, l .3) in
-    rw (power-power w k) (le-div-iff-mul-le {k = 2 ^ d} {x = 2 ^ (w * k)} {y = n} (pow-pos d) .1 (rw (← (pow-add 2 (w * k) d)) m))
+    let e : bitsUsed n ≡ l .0 = omega (arith, l .1) in
+    let two : 2 ≤ 2 ^ w = pow-mono {i = 1} {j = w} p in
+    let u : n < 2 ^ (w * k + d) = lt-of-lt-of-le (l .2) (pow-mono {i = l .0} {j = w * k + d} (omega arith)) in
+    digitCount-is (2 ^ w) two k (n / 2 ^ d) (rw (power-power w k) (shr-lt {n = n} (w * k) d u)) (reaches k lo)
+  where
+    reaches : (k : ℕ) → (0 < k → w * k + d < bitsUsed n + w) → Reaches (2 ^ w) k (n / 2 ^ d)
+    reaches zero lo = tt
+    reaches (suc k) lo =
+        let l = leading-length 64 n h in
+        let s : w * suc k + d < bitsUsed n + w = lo (omega arith) in
+        let t : w * k + w + d < bitsUsed n + w = rw (mul-suc w k) at s in
+        let q : 2 ^ suc (w * k + d) ≤ 2 ^ (l .0) = pow-mono {i = suc (w * k + d)} {j = l .0} (omega (arith, l .1)) in
+        let r : 2 ^ suc (w * k + d) ≡ 2 ^ (w * k + d) * 2 = pow-suc 2 (w * k + d) in
+        let m : 2 ^ (w * k + d) ≤ n = omega (arith, l .3) in
+        rw (power-power w k) (le-div-iff-mul-le {k = 2 ^ d} {x = 2 ^ (w * k)} {y = n} (pow-pos d) .1 (rw (← (pow-add 2 (w * k) d)) m))

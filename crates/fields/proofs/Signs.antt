@@ -1,18 +1,19 @@
 -- The signs of VarInt and Int: the bit that a bool gives, and the bytes of an Int by its first byte.
 -- By cases on the sign. Assumes nothing.
 use mathlib.Core.Path.{_≡_, refl, sym, _∙_, ap, subst}
-use mathlib.Core.List.{List, [], _∷_, _++_}
+use mathlib.Core.List.{List, [], _∷_}
 use mathlib.Core.Bool.{Bool, true, false, not}
-use Prim.Native.Nat.{ℕ, zero, suc, _+_, _-_, _*_, _≤_, _<_}
+use Prim.Native.Nat.{ℕ, _+_, _*_, _/_, _≤_, _<_}
 use native.Mathlib.Omega.{arith}
 use lib.IntN.{ℤ, pos, negsuc, natAbs}
 use lib.Signed.{ltZ, nonNeg}
 use mir.Val.{boolByte}
-use lib.Dec.{T, leb}
+use lib.Dec.{T, ltb}
 use lib.ListN.{length}
-use borrow.Author.Tests.{lt-ltb, le-ltb, le-leb, lt-leb, leb-true, leb-false}
+use borrow.Author.Tests.{lt-ltb, le-ltb, ltb-true, ltb-false}
 use Rattle.ion.specs.Value.{signed}
-use Rattle.encoding.specs.Fields.{signBit, signedOf, topBit, intBytes}
+use Rattle.encoding.specs.Fields.{signBit, signedOf, trimmed, topBit, intBytes}
+use Rattle.fields.proofs.Trimmed.{length-trimmed}
 
 pub signBit-is : (s : Bool) → 0x40 * boolByte s ≡ signBit s
 signBit-is true = refl
@@ -69,13 +70,21 @@ pub int-size-none : (s : Bool) (m : List ℕ) → length m ≡ 0 → length (int
 int-size-none true m e = ap length (int-negative-zero true m refl e)
 int-size-none false m e = ap length (int-zero false m refl e)
 
-pub int-size-some : (s : Bool) (b : ℕ) (bs : List ℕ) → length (intBytes s (b ∷ bs)) ≡ length (b ∷ bs) + boolByte (leb 0x80 b)
-int-size-some s b bs = go (leb 0x80 b) refl
+pub int-size-some : (s : Bool) (b : ℕ) (bs : List ℕ) → b < 256 → length (intBytes s (b ∷ bs)) ≡ length (b ∷ bs) + b / 0x80
+int-size-some s b bs h = go (ltb b 0x80) refl
   where
-  go : (t : Bool) → leb 0x80 b ≡ t → length (intBytes s (b ∷ bs)) ≡ length (b ∷ bs) + boolByte t
-  go true e = ap length (int-taken b bs s (leb-true 0x80 b e)) ∙ omega arith
-  go false e = ap length (int-clear b bs s (leb-false 0x80 b e)) ∙ omega arith
+    go : (t : Bool) → ltb b 0x80 ≡ t → length (intBytes s (b ∷ bs)) ≡ length (b ∷ bs) + b / 0x80
+    go true e = let k = ltb-true b 0x80 e in ap length (int-clear b bs s k) ∙ omega arith
+    go false e = let k = ltb-false b 0x80 e in ap length (int-taken b bs s k) ∙ omega arith
 
 pub int-most : (s : Bool) (m : List ℕ) → length (intBytes s m) ≤ length m + 1
 int-most s [] = rw (int-size-none s [] refl) (omega (arith, boolByte-most s))
-int-most s (b ∷ bs) = rw (int-size-some s b bs) (omega (arith, boolByte-most (leb 0x80 b)))
+int-most s (b ∷ bs) = go (ltb b 0x80) refl
+  where
+    go : (t : Bool) → ltb b 0x80 ≡ t → length (intBytes s (b ∷ bs)) ≤ length (b ∷ bs) + 1
+    go true e = rw (int-clear b bs s (ltb-true b 0x80 e)) (omega arith)
+    go false e = rw (int-taken b bs s (ltb-false b 0x80 e)) (omega arith)
+
+-- of a lent magnitude: no sum with a few bytes more can wrap, since a slice is shorter than 2 ^ 63
+pub int-trimmed-most : (s : Bool) (m : List ℕ) → length (intBytes s (trimmed m)) ≤ length m + 1
+int-trimmed-most s m = omega (arith, int-most s (trimmed m), length-trimmed m)

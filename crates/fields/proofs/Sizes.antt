@@ -9,7 +9,6 @@ use native.Mathlib.Nat.{div-one, div-lt-iff-lt-mul, one-le-pow, mul-comm, pow-su
 use mathlib.Core.Logic.{⊎-elim}
 use lib.Dec.{ltb}
 use borrow.Author.Tests.{ltb-true, ltb-false}
-use lib.Count.{leadingZeros}
 use lib.ListN.{length, length-append}
 use Rattle.ion.specs.Value.{signed}
 use Rattle.encoding.specs.Digits.{lowDigits, digitCount, digits}
@@ -43,9 +42,9 @@ length-varInt-sign s n = length-varInt s n ∙ sym (length-varInt false n)
 -- what is left of n above k groups, six bits or fewer
 pub varInt-first : (k n : ℕ) → k ≡ digitCount 128 (n / 64) → n / 128 ^ k < 64
 varInt-first k n e =
-  let h : n / 64 < 128 ^ k = rw e (digitCount-below 128 (omega arith) (n / 64)) in
-  let u : n < 128 ^ k * 64 = div-lt-iff-lt-mul {k = 64} {x = n} {y = 128 ^ k} (omega arith) .0 h in
-  div-lt-iff-lt-mul {k = 128 ^ k} {x = n} {y = 64} (one-le-pow k 128 (omega arith)) .1 (rw (mul-comm 64 (128 ^ k)) u)
+    let h : n / 64 < 128 ^ k = rw e (digitCount-below 128 (omega arith) (n / 64)) in
+    let u : n < 128 ^ k * 64 = div-lt-iff-lt-mul {k = 64} {x = n} {y = 128 ^ k} (omega arith) .0 h in
+    div-lt-iff-lt-mul {k = 128 ^ k} {x = n} {y = 64} (one-le-pow k 128 (omega arith)) .1 (rw (mul-comm 64 (128 ^ k)) u)
 
 pub length-uint : (n : ℕ) → length (uintBytes n) ≡ digitCount 256 n
 unfolding uintBytes digits
@@ -82,8 +81,8 @@ module _ (n j : ℕ) (e : digitCount 256 n ≡ suc j) where
   uint-top : uintBytes n ≡ top ∷ lowDigits 256 j n
   unfolding uintBytes digits top
   uint-top =
-    let h : n / 256 ^ j < 256 = div-lt-iff-lt-mul {k = 256 ^ j} {x = n} {y = 256} (power-pos j) .1 (rw (mul-comm 256 (256 ^ j)) below) in
-    ap (λ (k : ℕ). lowDigits 256 k n) e ∙ (lowDigits-first 256 j n ∙ ap (λ (t : ℕ). t ∷ lowDigits 256 j n) (mod-eq-of-lt h))
+      let h : n / 256 ^ j < 256 = div-lt-iff-lt-mul {k = 256 ^ j} {x = n} {y = 256} (power-pos j) .1 (rw (mul-comm 256 (256 ^ j)) below) in
+      ap (λ (k : ℕ). lowDigits 256 k n) e ∙ (lowDigits-first 256 j n ∙ ap (λ (t : ℕ). t ∷ lowDigits 256 j n) (mod-eq-of-lt h))
 
   uint-low : uintBytes n ≡ lowDigits 256 (suc j) n
   unfolding uintBytes digits
@@ -92,51 +91,51 @@ module _ (n j : ℕ) (e : digitCount 256 n ≡ suc j) where
   int-top-clear : top < 128 → intBytes false (uintBytes n) ≡ fixedBytes (suc (digitCount 256 (n / 128))) n
   unfolding top fixedBytes
   int-top-clear h =
-    let u : n < 128 * 256 ^ j = div-lt-iff-lt-mul {k = 256 ^ j} {x = n} {y = 128} (power-pos j) .0 h in
-    let c : digitCount 256 (n / 128) ≡ j =
+      let u : n < 128 * 256 ^ j = div-lt-iff-lt-mul {k = 256 ^ j} {x = n} {y = 128} (power-pos j) .0 h in
+      let c : digitCount 256 (n / 128) ≡ j =
       digitCount-is 256 (omega arith) j (n / 128) (div-lt-iff-lt-mul {k = 128} {x = n} {y = 256 ^ j} (omega arith) .1 (omega arith)) (reaches j above) in
-    ap (intBytes false) uint-top
-    ∙ (int-clear top (lowDigits 256 j n) false h
-    ∙ (ap (λ (t : ℕ). t ∷ lowDigits 256 j n) (zero-add top)
-    ∙ (sym uint-top ∙ (uint-low ∙ ap (λ (k : ℕ). lowDigits 256 (suc k) n) (sym c)))))
+      ap (intBytes false) uint-top
+      ∙ (int-clear top (lowDigits 256 j n) false h
+      ∙ (ap (λ (t : ℕ). t ∷ lowDigits 256 j n) (zero-add top)
+      ∙ (sym uint-top ∙ (uint-low ∙ ap (λ (k : ℕ). lowDigits 256 (suc k) n) (sym c)))))
     where
-    reaches : (k : ℕ) → 256 ^ k ≤ n → Reaches 256 k (n / 128)
-    reaches zero r = tt
-    reaches (suc k) r = let q = pow-suc 256 k in le-div-iff-mul-le {k = 128} {x = 256 ^ k} {y = n} (omega arith) .1 (omega arith)
+      reaches : (k : ℕ) → 256 ^ k ≤ n → Reaches 256 k (n / 128)
+      reaches zero r = tt
+      reaches (suc k) r = let q = pow-suc 256 k in le-div-iff-mul-le {k = 128} {x = 256 ^ k} {y = n} (omega arith) .1 (omega arith)
 
   int-top-taken : 128 ≤ top → intBytes false (uintBytes n) ≡ fixedBytes (suc (digitCount 256 (n / 128))) n
   unfolding top fixedBytes
   int-top-taken h =
-    let l : 128 * 256 ^ j ≤ n = le-div-iff-mul-le {k = 256 ^ j} {x = 128} {y = n} (power-pos j) .0 h in
-    let q : 256 ^ suc j ≡ 256 ^ j * 256 = pow-suc 256 j in
-    let b = below in
-    let c : digitCount 256 (n / 128) ≡ suc j =
+      let l : 128 * 256 ^ j ≤ n = le-div-iff-mul-le {k = 256 ^ j} {x = 128} {y = n} (power-pos j) .0 h in
+      let q : 256 ^ suc j ≡ 256 ^ j * 256 = pow-suc 256 j in
+      let b = below in
+      let c : digitCount 256 (n / 128) ≡ suc j =
       digitCount-is 256 (omega arith) (suc j) (n / 128) (omega arith) (le-div-iff-mul-le {k = 128} {x = 256 ^ j} {y = n} (omega arith) .1 (omega arith)) in
-    let z : n / 256 ^ suc j % 256 ≡ 0 = rw (div-eq-of-lt {n = n} {m = 256 ^ suc j} (omega arith)) refl in
-    ap (intBytes false) uint-top
-    ∙ (int-taken top (lowDigits 256 j n) false h
-    ∙ (ap (λ (l : List ℕ). 0 ∷ l) (sym uint-top ∙ uint-low)
-    ∙ (ap (λ (t : ℕ). t ∷ lowDigits 256 (suc j) n) (sym z) ∙ (sym (lowDigits-first 256 (suc j) n) ∙ ap (λ (k : ℕ). lowDigits 256 (suc k) n) (sym c)))))
+      let z : n / 256 ^ suc j % 256 ≡ 0 = rw (div-eq-of-lt {n = n} {m = 256 ^ suc j} (omega arith)) refl in
+      ap (intBytes false) uint-top
+      ∙ (int-taken top (lowDigits 256 j n) false h
+      ∙ (ap (λ (l : List ℕ). 0 ∷ l) (sym uint-top ∙ uint-low)
+      ∙ (ap (λ (t : ℕ). t ∷ lowDigits 256 (suc j) n) (sym z) ∙ (sym (lowDigits-first 256 (suc j) n) ∙ ap (λ (k : ℕ). lowDigits 256 (suc k) n) (sym c)))))
 
 pub int-fixed : (n : ℕ) → 0 < n → intBytes false (uintBytes n) ≡ fixedBytes (suc (digitCount 256 (n / 128))) n
 int-fixed n p = go (digitCount 256 n) refl
   where
-  go : (k : ℕ) → digitCount 256 n ≡ k → intBytes false (uintBytes n) ≡ fixedBytes (suc (digitCount 256 (n / 128))) n
-  go zero e = let h : n < 256 ^ 0 = rw e at (digitCount-below 256 (omega arith) n) in absurd (omega arith)
-  go (suc j) e = side (ltb (top n j e) 128) refl
-    where
-    side : (t : Bool) → ltb (top n j e) 128 ≡ t → intBytes false (uintBytes n) ≡ fixedBytes (suc (digitCount 256 (n / 128))) n
-    side true h = int-top-clear n j e (ltb-true (top n j e) 128 h)
-    side false h = int-top-taken n j e (ltb-false (top n j e) 128 h)
+    go : (k : ℕ) → digitCount 256 n ≡ k → intBytes false (uintBytes n) ≡ fixedBytes (suc (digitCount 256 (n / 128))) n
+    go zero e = let h : n < 256 ^ 0 = rw e at (digitCount-below 256 (omega arith) n) in absurd (omega arith)
+    go (suc j) e = side (ltb (top n j e) 128) refl
+      where
+        side : (t : Bool) → ltb (top n j e) 128 ≡ t → intBytes false (uintBytes n) ≡ fixedBytes (suc (digitCount 256 (n / 128))) n
+        side true h = int-top-clear n j e (ltb-true (top n j e) 128 h)
+        side false h = int-top-taken n j e (ltb-false (top n j e) 128 h)
 
 pub int-of-zero : (n : ℕ) → n ≡ 0 → intBytes false (uintBytes n) ≡ []
 int-of-zero n z = int-zero false (uintBytes n) refl (length-uint n ∙ digitCount-zero 256 n z)
 
 pub int-fixed-by : (n k : ℕ) → k ≡ length (intBytes false (uintBytes n)) → intBytes false (uintBytes n) ≡ fixedBytes k n
 int-fixed-by n k e = ⊎-elim
-  (λ z. let q = int-of-zero n z in q ∙ (sym (fixed-none n) ∙ ap (λ (j : ℕ). fixedBytes j n) (sym (e ∙ ap length q))))
-  (λ p. let q = int-fixed n p in q ∙ ap (λ (j : ℕ). fixedBytes j n) (sym (e ∙ (ap length q ∙ length-fixed _ n))))
-  (eq-zero-or-pos n)
+    (λ z. let q = int-of-zero n z in q ∙ (sym (fixed-none n) ∙ ap (λ (j : ℕ). fixedBytes j n) (sym (e ∙ ap length q))))
+    (λ p. let q = int-fixed n p in q ∙ ap (λ (j : ℕ). fixedBytes j n) (sym (e ∙ (ap length q ∙ length-fixed _ n))))
+    (eq-zero-or-pos n)
 
 -- ---- by the leading zeros
 
@@ -146,21 +145,21 @@ varUInt-size-small n h = length-varUInt n ∙ ap suc (digitCount-zero 128 (n / 1
 module _ (n : ℕ) (h : n < 2 ^ 64) where
   pub varUInt-size : 0 < n → length (varUIntBytes n) ≡ (bitsUsed n + 6) / 7
   varUInt-size p =
-    let b = bitsUsed-pos n p h in
-    length-varUInt n ∙ (ap suc (digitCount-by-zeros 7 7 ((bitsUsed n + 6) / 7 - 1) n (omega arith) h (omega arith) (λ k. omega arith)) ∙ omega arith)
+      let b = bitsUsed-pos n p h in
+      length-varUInt n ∙ (ap suc (digitCount-by-zeros 7 7 ((bitsUsed n + 6) / 7 - 1) n (omega arith) h (omega arith) (λ k. omega arith)) ∙ omega arith)
 
   pub varInt-size : (s : Bool) → length (varIntBytes (signed s n)) ≡ bitsUsed n / 7 + 1
   varInt-size s = length-varInt s n ∙ (ap suc (digitCount-by-zeros 7 6 (bitsUsed n / 7) n (omega arith) h (omega arith) (λ k. omega arith)) ∙ omega arith)
 
   pub uint-size : length (uintBytes n) ≡ (bitsUsed n + 7) / 8
   uint-size =
-    length-uint n ∙ (ap (digitCount 256) (sym (div-one n)) ∙ digitCount-by-zeros 8 0 ((bitsUsed n + 7) / 8) n (omega arith) h (omega arith) (λ k. omega arith))
+      length-uint n ∙ (ap (digitCount 256) (sym (div-one n)) ∙ digitCount-by-zeros 8 0 ((bitsUsed n + 7) / 8) n (omega arith) h (omega arith) (λ k. omega arith))
 
   pub int-size : 0 < n → length (intBytes false (uintBytes n)) ≡ bitsUsed n / 8 + 1
   int-size p =
-    ap length (int-fixed n p)
-    ∙ (length-fixed (suc (digitCount 256 (n / 128))) n
-    ∙ (ap suc (digitCount-by-zeros 8 7 (bitsUsed n / 8) n (omega arith) h (omega arith) (λ k. omega arith)) ∙ omega arith))
+      ap length (int-fixed n p)
+      ∙ (length-fixed (suc (digitCount 256 (n / 128))) n
+      ∙ (ap suc (digitCount-by-zeros 8 7 (bitsUsed n / 8) n (omega arith) h (omega arith) (λ k. omega arith)) ∙ omega arith))
 
 -- ---- at least and at most
 

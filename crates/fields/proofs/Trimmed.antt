@@ -1,8 +1,7 @@
 -- A magnitude without its leading zero bytes is what is left behind them.
 -- By going along the bytes. Assumes nothing.
 use mathlib.Core.Path.{_≡_, refl, sym, _∙_, ap}
-use mathlib.Core.List.{List, [], _∷_, _++_}
-use mathlib.Core.Bool.{Bool, true, false}
+use mathlib.Core.List.{List, [], _∷_}
 use mathlib.Core.Logic.{⊎-elim}
 use Prim.Native.Nat.{ℕ, zero, suc, _+_, _-_, _≤_, _<_}
 use native.Mathlib.Omega.{arith}
@@ -27,22 +26,22 @@ trimmed-nil = refl
 pub length-trimmed : (m : List ℕ) → length (trimmed m) ≤ length m
 length-trimmed [] = rw trimmed-nil (omega arith)
 length-trimmed (b ∷ bs) = ⊎-elim
-  (λ z. rw (trimmed-zero b bs z) (omega (arith, length-trimmed bs)))
-  (λ p. rw (trimmed-first b bs p) (omega arith))
-  (eq-zero-or-pos b)
+    (λ z. rw (trimmed-zero b bs z) (omega (arith, length-trimmed bs)))
+    (λ p. rw (trimmed-first b bs p) (omega arith))
+    (eq-zero-or-pos b)
 
 -- as many bytes left out as its length says
 pub trimmed-drop : (m : List ℕ) (r : ℕ) → r + length (trimmed m) ≡ length m → trimmed m ≡ drop r m
 trimmed-drop [] r e = trimmed-nil ∙ sym (drop-nil r)
 trimmed-drop (b ∷ bs) r e = ⊎-elim (λ z. zeros (λ k q. trimmed-drop bs k q) z r e) (λ p. none p r e) (eq-zero-or-pos b)
   where
-  zeros : ((k : ℕ) → k + length (trimmed bs) ≡ length bs → trimmed bs ≡ drop k bs) → b ≡ 0 → (r : ℕ) → r + length (trimmed (b ∷ bs)) ≡ suc (length bs) → trimmed (b ∷ bs) ≡ drop r (b ∷ bs)
-  zeros f z zero e = absurd (omega (arith, length-trimmed bs, ap length (trimmed-zero b bs z)))
-  zeros f z (suc r) e = trimmed-zero b bs z ∙ f r (omega (arith, ap length (trimmed-zero b bs z)))
+    zeros : ((k : ℕ) → k + length (trimmed bs) ≡ length bs → trimmed bs ≡ drop k bs) → b ≡ 0 → (r : ℕ) → r + length (trimmed (b ∷ bs)) ≡ suc (length bs) → trimmed (b ∷ bs) ≡ drop r (b ∷ bs)
+    zeros f z zero e = absurd (omega (arith, length-trimmed bs, ap length (trimmed-zero b bs z)))
+    zeros f z (suc r) e = trimmed-zero b bs z ∙ f r (omega (arith, ap length (trimmed-zero b bs z)))
 
-  none : 0 < b → (r : ℕ) → r + length (trimmed (b ∷ bs)) ≡ suc (length bs) → trimmed (b ∷ bs) ≡ drop r (b ∷ bs)
-  none p zero e = trimmed-first b bs p
-  none p (suc r) e = absurd (omega (arith, ap length (trimmed-first b bs p)))
+    none : 0 < b → (r : ℕ) → r + length (trimmed (b ∷ bs)) ≡ suc (length bs) → trimmed (b ∷ bs) ≡ drop r (b ∷ bs)
+    none p zero e = trimmed-first b bs p
+    none p (suc r) e = absurd (omega (arith, ap length (trimmed-first b bs p)))
 
 pub trimmed-cons : (m : List ℕ) (r : ℕ) → r < length m → r + length (trimmed m) ≡ length m → trimmed m ≡ getD m r 0 ∷ drop (suc r) m
 trimmed-cons m r h e = trimmed-drop m r e ∙ drop-cons m r 0 h

@@ -1,7 +1,7 @@
 // Int: a UInt with the sign in the top bit of the first byte; where the magnitude takes that bit, a byte with the sign alone goes before it.
 ghost use mathlib.Core.Path.{_≡_};
 ghost use mathlib.Core.Bool.{false};
-ghost use mathlib.Core.List.{List, [], _∷_};
+ghost use mathlib.Core.List.{List, _∷_};
 ghost use Prim.Native.Nat.{ℕ};
 ghost use lib.ListN.{length};
 ghost use Rattle.encoding.specs.Fields.{uintBytes, trimmed, intBytes};
@@ -17,8 +17,8 @@ pub fn encoded_size_of(negative: bool, magnitude: &[u8]) -> usize
     if zeros == magnitude.len() {
         return negative as usize;
     }
-    let high_bit_set = SIGN <= magnitude[zeros];
-    magnitude.len() - zeros + high_bit_set as usize
+    let high_bit = magnitude[zeros] / SIGN;
+    magnitude.len() - zeros + high_bit as usize
 }
 
 // A first byte and those of `rest`.

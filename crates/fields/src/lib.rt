@@ -1,10 +1,10 @@
 // The fields of Ion binary 1.0, put into a lent buffer: a module for each kind of field.
-pub mod var_uint;
-pub mod var_int;
-pub mod uint;
+pub mod header;
 pub mod int;
 pub mod sign;
-pub mod header;
+pub mod uint;
+pub mod var_int;
+pub mod var_uint;
 
 ghost use mathlib.Core.Path.{_≡_};
 ghost use Prim.Native.Nat.{_+_, _-_, _^_, _≤_};

@@ -1,8 +1,7 @@
 -- `buffer::copy` meets its contract. The loop's invariant: the first `i` bytes of `src` are laid at `at`.
 -- Each turn lays one byte more behind them. Assumes nothing.
 use mathlib.Core.Path.{_≡_, refl, sym, _∙_, ap}
-use mathlib.Core.List.{List}
-use Prim.Native.Nat.{ℕ, _+_, _-_, _≤_}
+use Prim.Native.Nat.{_+_, _-_, _≤_}
 use native.Mathlib.Omega.{arith}
 use native.Mathlib.Numerals.{add-one}
 use lib.ListN.{length, take, getD, length-set}
@@ -23,13 +22,13 @@ has-room-requires c κs = tt
 
 returns : tie.Need-returns Inv-loop μ-loop
 returns c =
-  let a = c .before .before .before .before .args in
-  sym (placed-full (a .buf .now) (a .at) (a .src .now) (no-room (c .before .has-room .result) (a .buf .now) _ (c .before .has-room .ensures) (c .if1 .taken)))
+    let a = c .before .before .before .before .args in
+    sym (placed-full (a .buf .now) (a .at) (a .src .now) (no-room (c .before .has-room .result) (a .buf .now) _ (c .before .has-room .ensures) (c .if1 .taken)))
 
 loop-holds : tie.Need-loop-holds Inv-loop μ-loop
 loop-holds c =
-  let a = c .before .before .before .before .args in
-  (omega arith, room (c .before .has-room .result) (a .buf .now) _ (c .before .has-room .ensures) (c .if1 .left), refl, sym (laid-nil (a .buf .now) (a .at)))
+    let a = c .before .before .before .before .args in
+    (omega arith, room (c .before .has-room .result) (a .buf .now) _ (c .before .has-room .ensures) (c .if1 .left), refl, sym (laid-nil (a .buf .now) (a .at)))
 
 shared-slice-read-buf : tie.Need-shared-slice-read-buf Inv-loop μ-loop
 shared-slice-read-buf c = omega arith
@@ -48,22 +47,25 @@ loop-less c = omega arith
 
 loop-again : tie.Need-loop-again Inv-loop μ-loop
 loop-again c =
-  let a = c .before .before .before .before .before .before .before .args in
-  let l = c .before .before .loop in
-  let n : length (take (l .i) (a .src .now)) ≡ l .i = length-take-le (l .i) (a .src .now) (omega arith) in
-  (omega arith, omega arith, simp length-set (l .inv .2),
-    rw (l .inv .3, add-one, take-suc (a .src .now) (l .i) 0 (omega arith))
-      (laid-snoc (a .buf .now) (a .at) (take (l .i) (a .src .now)) (a .at + l .i) (getD (a .src .now) (l .i) 0) (omega arith) (omega arith)))
+    let a = c .before .before .before .before .before .before .before .args in
+    let l = c .before .before .loop in
+    let n : length (take (l .i) (a .src .now)) ≡ l .i = length-take-le (l .i) (a .src .now) (omega arith) in (
+      omega arith,
+      omega arith,
+      simp length-set (l .inv .2),
+      rw (l .inv .3, add-one, take-suc (a .src .now) (l .i) 0 (omega arith))
+          (laid-snoc (a .buf .now) (a .at) (take (l .i) (a .src .now)) (a .at + l .i) (getD (a .src .now) (l .i) 0) (omega arith) (omega arith)),
+    )
 
 same-length : tie.Need-same-length Inv-loop μ-loop
 same-length c = omega arith
 
 returns-2 : tie.Need-returns-2 Inv-loop μ-loop
 returns-2 c =
-  let a = c .before .before .before .before .before .before .args in
-  let l = c .before .loop in
-  let e : l .i ≡ length (a .src .now) = omega arith in
-  placed-by (a .buf .now) (a .at) (a .src .now) (l .i) (l .buf) (l .inv .1) e (l .inv .3 ∙ ap (laid (a .buf .now) (a .at)) (take-all (l .i) (a .src .now) (omega arith)))
+    let a = c .before .before .before .before .before .before .args in
+    let l = c .before .loop in
+    let e : l .i ≡ length (a .src .now) = omega arith in
+    placed-by (a .buf .now) (a .at) (a .src .now) (l .i) (l .buf) (l .inv .1) e (l .inv .3 ∙ ap (laid (a .buf .now) (a .at)) (take-all (l .i) (a .src .now) (omega arith)))
 
 pub copy-spec : {M : Type 1} → statement M
 copy-spec =

@@ -1,6 +1,6 @@
 -- `buffer::has_room` meets its contract: a difference that does not wrap stands for the sum that may.
 -- By the two orders of numbers. Assumes nothing.
-use mathlib.Core.Path.{_≡_, sym, _∙_}
+use mathlib.Core.Path.{sym}
 use native.Mathlib.Omega.{arith}
 use borrow.Author.Tests.{lt-leb}
 use Rattle.buffer.proofs.Laid.{leb-iff}

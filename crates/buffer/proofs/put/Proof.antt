@@ -1,6 +1,6 @@
 -- `buffer::put` meets its contract: a store is a run of one byte.
 -- By the laws of placed bytes. Assumes nothing.
-use mathlib.Core.Path.{_≡_, sym}
+use mathlib.Core.Path.{sym}
 use mathlib.Core.List.{[], _∷_}
 use native.Mathlib.Omega.{arith}
 use borrow.Author.Needs.{needs}

@@ -30,8 +30,8 @@ shl-base c = omega arith
 
 loop-holds : tie.Need-loop-holds Inv-loop μ-loop
 loop-holds c =
-  let a = c .args in
-  (omega arith, refl, [], omega arith, sym (laid-nil (a .buf .now) (a .at + a .count)), append-nil _)
+    let a = c .args in
+    (omega arith, refl, [], omega arith, sym (laid-nil (a .buf .now) (a .at + a .count)), append-nil _)
 
 sub-i : tie.Need-sub-i Inv-loop μ-loop
 sub-i c = omega arith
@@ -41,10 +41,10 @@ rem-buf c = let a = c .before .before .args in rw (base-is (a .bits) (omega arit
 
 cast-buf : tie.Need-cast-buf Inv-loop μ-loop
 cast-buf c =
-  let a = c .before .before .args in
-  let m : c .before .loop .rest % 2 ^ a .bits < 2 ^ a .bits = mod-lt _ (pow-pos (a .bits)) in
-  let p : 2 ^ a .bits ≤ 2 ^ 8 = pow-mono {i = a .bits} {j = 8} (omega arith) in
-  rw (base-is (a .bits) (omega arith)) (record { fits = omega arith })
+    let a = c .before .before .args in
+    let m : c .before .loop .rest % 2 ^ a .bits < 2 ^ a .bits = mod-lt _ (pow-pos (a .bits)) in
+    let p : 2 ^ a .bits ≤ 2 ^ 8 = pow-mono {i = a .bits} {j = 8} (omega arith) in
+    rw (base-is (a .bits) (omega arith)) (record { fits = omega arith })
 
 add-buf : tie.Need-add-buf Inv-loop μ-loop
 add-buf c = omega arith
@@ -60,24 +60,28 @@ loop-less c = omega arith
 
 loop-again : tie.Need-loop-again Inv-loop μ-loop
 loop-again c =
-  let a = c .before .before .args in
-  let l = c .before .loop in
-  let j : l .i ≡ suc (l .i - 1) = omega arith in
-  let f : a .at + l .i ≡ a .at + (l .i - 1) + 1 = omega arith in
-  let v = l .rest % 2 ^ a .bits in
-  (omega arith, simp length-set (l .inv .1), v ∷ l .inv .2, omega arith,
-    rw (l .inv .4, f, base-is (a .bits) (omega arith)) (laid-cons (a .buf .now) (a .at + (l .i - 1)) (l .inv .2) v (omega arith)),
-    sym (lowDigits-next (2 ^ a .bits) (l .i - 1) (l .rest) (l .inv .2)) ∙ rw (← j) (l .inv .5))
+    let a = c .before .before .args in
+    let l = c .before .loop in
+    let j : l .i ≡ suc (l .i - 1) = omega arith in
+    let f : a .at + l .i ≡ a .at + (l .i - 1) + 1 = omega arith in
+    let v = l .rest % 2 ^ a .bits in (
+      omega arith,
+      simp length-set (l .inv .1),
+      v ∷ l .inv .2,
+      omega arith,
+      rw (l .inv .4, f, base-is (a .bits) (omega arith)) (laid-cons (a .buf .now) (a .at + (l .i - 1)) (l .inv .2) v (omega arith)),
+      sym (lowDigits-next (2 ^ a .bits) (l .i - 1) (l .rest) (l .inv .2)) ∙ rw (← j) (l .inv .5),
+    )
 
 same-length : tie.Need-same-length Inv-loop μ-loop
 same-length c = omega arith
 
 returns : tie.Need-returns Inv-loop μ-loop
 returns c =
-  let a = c .before .before .args in
-  let l = c .before .loop in
-  let z : l .i ≡ 0 = omega arith in
-  l .inv .4 ∙ rw (z, add-zero) (ap (laid (a .buf .now) (a .at)) (sym (lowDigits-none (2 ^ a .bits) (l .rest) (l .inv .2)) ∙ rw z at (l .inv .5)))
+    let a = c .before .before .args in
+    let l = c .before .loop in
+    let z : l .i ≡ 0 = omega arith in
+    l .inv .4 ∙ rw (z, add-zero) (ap (laid (a .buf .now) (a .at)) (sym (lowDigits-none (2 ^ a .bits) (l .rest) (l .inv .2)) ∙ rw z at (l .inv .5)))
 
 pub put-digits-spec : {M : Type 1} → statement M
 put-digits-spec =

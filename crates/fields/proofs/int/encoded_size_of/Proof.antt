@@ -1,17 +1,18 @@
 -- `fields::int::encoded_size_of` meets its contract: the bytes behind the leading zeros, and one more where the first of them has its top bit set.
 -- By the first byte of the trimmed magnitude. Assumes nothing.
-use mathlib.Core.Path.{_≡_, sym, _∙_, ap}
-use mathlib.Core.List.{_∷_}
-use Prim.Native.Nat.{ℕ, suc}
+use mathlib.Core.Path.{sym, ap}
+use Prim.Native.Nat.{suc, _<_}
 use native.Mathlib.Omega.{arith}
-use lib.Dec.{leb}
 use lib.ListN.{length, drop, getD}
-use Rattle.encoding.specs.Fields.{trimmed, intBytes}
+use Rattle.encoding.specs.Fields.{trimmed}
 use Rattle.fields.proofs.Trimmed.{trimmed-cons}
-use Rattle.fields.proofs.Signs.{boolByte-most, int-size-none, int-size-some}
+use Rattle.fields.proofs.Signs.{int-size-none, int-size-some}
 use borrow.Author.Needs.{needs}
 use Rattle.fields.proofs.int.encoded_size_of.Statement.{statement}
 use Rattle.fields.proofs.int.encoded_size_of.Tie as tie
+
+first : (c : tie.After-shared-slice-known2) → getD (c .before .before .before .before .args .magnitude .now) (c .before .before .leading-zero-bytes .result) 0 < 256
+first c = omega (arith, c .shared-slice-known2 .given (c .before .before .leading-zero-bytes .result))
 
 leading-zero-bytes-requires : tie.Need-leading-zero-bytes-requires
 leading-zero-bytes-requires c κs = search needs
@@ -21,31 +22,29 @@ cast-result c = search needs
 
 returns : tie.Need-returns
 returns c =
-  let a = c .before .before .before .args in
-  sym (int-size-none (a .negative) (trimmed (a .magnitude .now)) (omega arith))
+    let a = c .before .before .before .args in
+    sym (int-size-none (a .negative) (trimmed (a .magnitude .now)) (omega arith))
 
-shared-slice-read-high-bit-set : tie.Need-shared-slice-read-high-bit-set
-shared-slice-read-high-bit-set c = search needs
+shared-slice-read-high-bit : tie.Need-shared-slice-read-high-bit
+shared-slice-read-high-bit c = search needs
 
 sub-result : tie.Need-sub-result
 sub-result c = search needs
 
 cast-result-2 : tie.Need-cast-result-2
-cast-result-2 c = search needs
+cast-result-2 c = omega (arith, first c)
 
 add-result : tie.Need-add-result
-add-result c =
-  let m = c .before .before .before .before .args .magnitude .now in
-  omega (arith, boolByte-most (leb 0x80 (getD m (c .before .before .leading-zero-bytes .result) 0)))
+add-result c = omega (arith, first c)
 
 returns-2 : tie.Need-returns-2
 returns-2 c =
-  let a = c .before .before .before .before .args in
-  let m = a .magnitude .now in
-  let z = c .before .before .leading-zero-bytes in
-  let t = trimmed-cons m (z .result) (omega arith) (z .ensures) in
-  let n = int-size-some (a .negative) (getD m (z .result) 0) (drop (suc (z .result)) m) in
-  rw t (omega (arith, n, ap length t))
+    let a = c .before .before .before .before .args in
+    let m = a .magnitude .now in
+    let z = c .before .before .leading-zero-bytes in
+    let t = trimmed-cons m (z .result) (omega arith) (z .ensures) in
+    let n = int-size-some (a .negative) (getD m (z .result) 0) (drop (suc (z .result)) m) (first c) in
+    rw t (omega (arith, n, ap length t))
 
 pub encoded-size-of-spec : {M : Type 1} → statement M
 encoded-size-of-spec =
@@ -54,7 +53,7 @@ encoded-size-of-spec =
     leading-zero-bytes-requires
     cast-result
     returns
-    shared-slice-read-high-bit-set
+    shared-slice-read-high-bit
     sub-result
     cast-result-2
     add-result

@@ -1,14 +1,14 @@
 -- `fields::int::write` meets its contract: by the trimmed magnitude, which has no byte, or a first byte whose top bit is free or taken.
 -- By the laws of an Int's bytes. Assumes nothing.
-use mathlib.Core.Path.{_≡_, refl, sym, _∙_, ap}
-use mathlib.Core.List.{List, _∷_}
+use mathlib.Core.Path.{_≡_, sym, _∙_, ap}
+use mathlib.Core.List.{List, [], _∷_}
 use Prim.Native.Nat.{ℕ, suc, _+_, _-_, _*_, _≤_, _<_}
 use native.Mathlib.Omega.{arith}
 use native.Mathlib.Numerals.{add-one}
 use mathlib.Core.Bool.{Bool}
 use mir.Val.{boolByte}
 use lib.ListN.{length, take, drop, getD}
-use Rattle.encoding.specs.Fields.{trimmed, topBit, intBytes}
+use Rattle.encoding.specs.Fields.{trimmed, intBytes}
 use Rattle.buffer.specs.Laid.{placed}
 use Rattle.buffer.proofs.Laid.{placed-nil}
 use Rattle.fields.proofs.Trimmed.{trimmed-cons, trimmed-part, rest-part}
@@ -21,13 +21,13 @@ use Rattle.fields.proofs.int.write.Tie as tie
 module _ (s : Bool) (m : List ℕ) (r : ℕ) (h : r < length m) (e : r + length (trimmed m) ≡ length m) where
   clear : getD m r 0 < 0x80 → (0x80 * boolByte s + getD m r 0) ∷ take (length m - (r + 1)) (drop (r + 1) m) ≡ intBytes s (trimmed m)
   clear k =
-    ap (λ (l : List ℕ). (0x80 * boolByte s + getD m r 0) ∷ l) (rest-part m (r + 1) ∙ ap (λ (n : ℕ). drop n m) (add-one r))
-    ∙ rw (trimmed-cons m r h e, topBit-is s) (sym (int-clear (getD m r 0) (drop (suc r) m) s k))
+      ap (λ (l : List ℕ). (0x80 * boolByte s + getD m r 0) ∷ l) (rest-part m (r + 1) ∙ ap (λ (n : ℕ). drop n m) (add-one r))
+      ∙ rw (trimmed-cons m r h e, topBit-is s) (sym (int-clear (getD m r 0) (drop (suc r) m) s k))
 
   taken : 0x80 ≤ getD m r 0 → 0x80 * boolByte s ∷ take (length m - r) (drop r m) ≡ intBytes s (trimmed m)
   taken k =
-    ap (λ (l : List ℕ). 0x80 * boolByte s ∷ l) (trimmed-part m r e)
-    ∙ rw (trimmed-cons m r h e, topBit-is s) (sym (int-taken (getD m r 0) (drop (suc r) m) s k))
+      ap (λ (l : List ℕ). 0x80 * boolByte s ∷ l) (trimmed-part m r e)
+      ∙ rw (trimmed-cons m r h e, topBit-is s) (sym (int-taken (getD m r 0) (drop (suc r) m) s k))
 
 leading-zero-bytes-requires : tie.Need-leading-zero-bytes-requires
 leading-zero-bytes-requires c κs = search needs
@@ -46,15 +46,15 @@ same-length c = search needs
 
 returns : tie.Need-returns
 returns c =
-  let t = c .before .before .before .before in
-  let a = t .before .before .before .before .before .args in
-  c .before .before .put .ensures
-  ∙ ap (placed (a .buf .now) (a .at)) (rw (topBit-is (a .negative)) (sym (int-negative-zero (a .negative) (trimmed (a .magnitude .now)) (t .if2 .taken) (omega arith))))
+    let t = c .before .before .before .before in
+    let a = t .before .before .before .before .before .args in
+    c .before .before .put .ensures
+    ∙ ap (placed (a .buf .now) (a .at)) (ap (λ (b : ℕ). b ∷ []) (topBit-is (a .negative)) ∙ sym (int-negative-zero (a .negative) (trimmed (a .magnitude .now)) (t .if2 .taken) (omega arith)))
 
 returns-2 : tie.Need-returns-2
 returns-2 c =
-  let a = c .before .before .before .before .before .args in
-  sym (ap (placed (a .buf .now) (a .at)) (int-zero (a .negative) (trimmed (a .magnitude .now)) (c .if2 .left) (omega arith)) ∙ placed-nil (a .buf .now) (a .at))
+    let a = c .before .before .before .before .before .args in
+    sym (ap (placed (a .buf .now) (a .at)) (int-zero (a .negative) (trimmed (a .magnitude .now)) (c .if2 .left) (omega arith)) ∙ placed-nil (a .buf .now) (a .at))
 
 shared-slice-read-first : tie.Need-shared-slice-read-first
 shared-slice-read-first c = search needs
@@ -82,11 +82,11 @@ same-length-2 c = search needs
 
 returns-3 : tie.Need-returns-3
 returns-3 c =
-  let t = c .before .before .before .before .before in
-  let a = t .before .before .before .before .before .before .args in
-  let z = t .before .before .before .leading-zero-bytes in
-  c .before .before .write-first .ensures
-  ∙ ap (placed (a .buf .now) (a .at)) (clear (a .negative) (a .magnitude .now) (z .result) (omega arith) (z .ensures) (omega arith))
+    let t = c .before .before .before .before .before in
+    let a = t .before .before .before .before .before .before .args in
+    let z = t .before .before .before .leading-zero-bytes in
+    c .before .before .write-first .ensures
+    ∙ ap (placed (a .buf .now) (a .at)) (clear (a .negative) (a .magnitude .now) (z .result) (omega arith) (z .ensures) (omega arith))
 
 sub-write-first-2 : tie.Need-sub-write-first-2
 sub-write-first-2 c = search needs
@@ -105,11 +105,11 @@ same-length-3 c = search needs
 
 returns-4 : tie.Need-returns-4
 returns-4 c =
-  let t = c .before .before .before .before .before in
-  let a = t .before .before .before .before .before .before .args in
-  let z = t .before .before .before .leading-zero-bytes in
-  c .before .before .write-first2 .ensures
-  ∙ ap (placed (a .buf .now) (a .at)) (taken (a .negative) (a .magnitude .now) (z .result) (omega arith) (z .ensures) (omega arith))
+    let t = c .before .before .before .before .before in
+    let a = t .before .before .before .before .before .before .args in
+    let z = t .before .before .before .leading-zero-bytes in
+    c .before .before .write-first2 .ensures
+    ∙ ap (placed (a .buf .now) (a .at)) (taken (a .negative) (a .magnitude .now) (z .result) (omega arith) (z .ensures) (omega arith))
 
 pub write-spec : {M : Type 1} → statement M
 write-spec =

@@ -1,6 +1,6 @@
 -- `fields::int::write_u64` meets its contract: an Int without sign is as many fixed bytes as it takes.
 -- Assumes nothing.
-use mathlib.Core.Path.{_≡_, sym, _∙_, ap}
+use mathlib.Core.Path.{sym, _∙_, ap}
 use Rattle.buffer.specs.Laid.{placed}
 use Rattle.fields.proofs.Sizes.{int-fixed-by}
 use borrow.Author.Needs.{needs}
@@ -18,9 +18,9 @@ same-length c = search needs
 
 returns : tie.Need-returns
 returns c =
-  let d = c .before .before .before in
-  let a = d .before .before .before .args in
-  c .before .before .write-fixed .ensures ∙ ap (placed (a .buf .now) (a .at)) (sym (int-fixed-by (a .value) _ (d .encoded-size-of-u64 .ensures)))
+    let d = c .before .before .before in
+    let a = d .before .before .before .args in
+    c .before .before .write-fixed .ensures ∙ ap (placed (a .buf .now) (a .at)) (sym (int-fixed-by (a .value) _ (d .encoded-size-of-u64 .ensures)))
 
 pub write-u64-spec : {M : Type 1} → statement M
 write-u64-spec =

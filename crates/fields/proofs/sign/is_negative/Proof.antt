@@ -1,9 +1,5 @@
 -- `fields::sign::is_negative` meets its contract: by the constructor of the number.
 -- Assumes nothing.
-use mathlib.Core.Path.{_≡_, refl}
-use mathlib.Core.Bool.{not}
-use lib.IntN.{ℤ, pos, negsuc}
-use lib.Signed.{ltZ, nonNeg}
 use mir.Syntax.{w64}
 use mir.ValLaws.{toZ-ofZ}
 use Rattle.fields.proofs.Signs.{below-zero}

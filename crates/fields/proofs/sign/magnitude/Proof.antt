@@ -1,8 +1,8 @@
 -- `fields::sign::magnitude` meets its contract: below zero, -(v + 1) fits an i64, and is one less than the magnitude.
 -- By the constructors of the number; each operation reads its operand back from its bits, which is the operand. Assumes nothing.
-use mathlib.Core.Path.{_≡_, refl, sym, _∙_, ap, subst}
+use mathlib.Core.Path.{_≡_, refl, subst}
 use mathlib.Core.Bool.{true, false}
-use Prim.Native.Nat.{ℕ, zero, suc, _+_, _^_, _<_}
+use Prim.Native.Nat.{zero, suc, _+_, _^_, _<_}
 use native.Mathlib.Omega.{arith}
 use borrow.Author.Tests.{ltb-true}
 use lib.Dec.{T}
@@ -35,23 +35,23 @@ turned-by (negsuc (suc n)) f e = let h = f .sfits in (record { sfits = omega ari
 
 known : (c : tie.Then1) → Turned (c .before .args .v)
 known c =
-  let v = c .before .args .v in
-  let b = toZ-ofZ w64 v (c .before .fits .v) in
-  let t = turned-by v (c .before .fits .v) (rw b at (c .if1 .taken)) in
-  let p : v +ℤ pos 1 ≡ sucℤ v = +ℤ-one v in
-  let q : pos 0 -ℤ sucℤ v ≡ negℤ (sucℤ v) = +ℤ-idl (negℤ (sucℤ v)) in
-  let n : SFits w64 (v +ℤ pos 1) = rw p (t .0) in
-  let m : SFits w64 (pos 0 -ℤ (v +ℤ pos 1)) = rw (p, q) (t .1) in
-  record {
-    same = b;
-    next-fits = n;
-    next-same = toZ-ofZ w64 (v +ℤ pos 1) n;
-    turned-fits = m;
-    turned-same = toZ-ofZ w64 (pos 0 -ℤ (v +ℤ pos 1)) m;
-    whole = rw (p, q) (t .2);
-    small = rw (p, q) (t .3);
-    one-less = rw (p, q) (t .4)
-  }
+    let v = c .before .args .v in
+    let b = toZ-ofZ w64 v (c .before .fits .v) in
+    let t = turned-by v (c .before .fits .v) (rw b at (c .if1 .taken)) in
+    let p : v +ℤ pos 1 ≡ sucℤ v = +ℤ-one v in
+    let q : pos 0 -ℤ sucℤ v ≡ negℤ (sucℤ v) = +ℤ-idl (negℤ (sucℤ v)) in
+    let n : SFits w64 (v +ℤ pos 1) = rw p (t .0) in
+    let m : SFits w64 (pos 0 -ℤ (v +ℤ pos 1)) = rw (p, q) (t .1) in
+    record {
+      same = b;
+      next-fits = n;
+      next-same = toZ-ofZ w64 (v +ℤ pos 1) n;
+      turned-fits = m;
+      turned-same = toZ-ofZ w64 (pos 0 -ℤ (v +ℤ pos 1)) m;
+      whole = rw (p, q) (t .2);
+      small = rw (p, q) (t .3);
+      one-less = rw (p, q) (t .4);
+    }
 
 positive : (v : ℤ) → SFits w64 v → ltZ v (pos 0) ≡ false → T (nonNeg v) × Fits w64 (natAbs v)
 positive (pos n) f e = let h = f .sfits in (tt, record { fits = omega arith })
@@ -74,10 +74,10 @@ returns c = let k = known c in rw (k .same, k .next-same, k .turned-same) (k .on
 
 cast-result-2 : tie.Need-cast-result-2
 cast-result-2 c =
-  let v = c .before .args .v in
-  let f = c .before .fits .v in
-  let b = toZ-ofZ w64 v f in
-  rw b (positive v f (rw b at (c .if1 .left)))
+    let v = c .before .args .v in
+    let f = c .before .fits .v in
+    let b = toZ-ofZ w64 v f in
+    rw b (positive v f (rw b at (c .if1 .left)))
 
 returns-2 : tie.Need-returns-2
 returns-2 c = search needs

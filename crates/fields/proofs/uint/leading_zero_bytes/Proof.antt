@@ -1,7 +1,7 @@
 -- `fields::uint::leading_zero_bytes` meets its contract. The loop's invariant: what is trimmed of the bytes from `i` on is what is trimmed of all.
 -- At a byte that is not zero nothing more is trimmed. Assumes nothing.
-use mathlib.Core.Path.{_≡_, refl, sym, _∙_, ap}
-use Prim.Native.Nat.{ℕ, _+_, _-_, _≤_}
+use mathlib.Core.Path.{_≡_, refl, _∙_}
+use Prim.Native.Nat.{_-_, _≤_}
 use native.Mathlib.Omega.{arith}
 use native.Mathlib.Numerals.{add-one}
 use lib.ListN.{length, drop, length-drop, drop-of-length-le}
@@ -24,9 +24,9 @@ shared-slice-read-if1 c = omega arith
 
 returns : tie.Need-returns Inv-loop μ-loop
 returns c =
-  let m = c .before .before .before .before .args .magnitude .now in
-  let l = c .before .before .before .loop in
-  rw (l .inv .1, trimmed-found m (l .i) (omega arith) (omega arith), length-drop (l .i) m) (omega arith)
+    let m = c .before .before .before .before .args .magnitude .now in
+    let l = c .before .before .before .loop in
+    rw (l .inv .1, trimmed-found m (l .i) (omega arith) (omega arith), length-drop (l .i) m) (omega arith)
 
 add-i : tie.Need-add-i Inv-loop μ-loop
 add-i c = omega arith
@@ -36,15 +36,15 @@ loop-less c = omega arith
 
 loop-again : tie.Need-loop-again Inv-loop μ-loop
 loop-again c =
-  let m = c .before .before .before .before .args .magnitude .now in
-  let l = c .before .before .before .loop in
-  (omega arith, l .inv .1 ∙ rw add-one (trimmed-next m (l .i) (omega arith) (omega arith)))
+    let m = c .before .before .before .before .args .magnitude .now in
+    let l = c .before .before .before .loop in
+    (omega arith, l .inv .1 ∙ rw add-one (trimmed-next m (l .i) (omega arith) (omega arith)))
 
 returns-2 : tie.Need-returns-2 Inv-loop μ-loop
 returns-2 c =
-  let m = c .before .before .args .magnitude .now in
-  let l = c .before .loop in
-  rw (l .inv .1, drop-of-length-le m {i = l .i} (omega arith), trimmed-nil) (omega arith)
+    let m = c .before .before .args .magnitude .now in
+    let l = c .before .loop in
+    rw (l .inv .1, drop-of-length-le m {i = l .i} (omega arith), trimmed-nil) (omega arith)
 
 pub leading-zero-bytes-spec : {M : Type 1} → statement M
 leading-zero-bytes-spec =

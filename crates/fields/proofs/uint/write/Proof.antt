@@ -1,9 +1,6 @@
 -- `fields::uint::write` meets its contract: a UInt is as many fixed bytes as it has digits.
 -- Assumes nothing.
-use mathlib.Core.Path.{_≡_, sym, _∙_, ap}
-use Prim.Native.Nat.{ℕ}
-use Rattle.encoding.specs.Digits.{digits}
-use Rattle.encoding.specs.Fields.{uintBytes, fixedBytes}
+use mathlib.Core.Path.{sym, _∙_, ap}
 use Rattle.buffer.specs.Laid.{placed}
 use Rattle.fields.proofs.Sizes.{uint-fixed}
 use borrow.Author.Needs.{needs}
@@ -21,9 +18,9 @@ same-length c = search needs
 
 returns : tie.Need-returns
 returns c =
-  let d = c .before .before .before in
-  let a = d .before .before .before .args in
-  c .before .before .write-fixed .ensures ∙ ap (placed (a .buf .now) (a .at)) (sym (uint-fixed (a .value) _ (d .encoded-size-of .ensures)))
+    let d = c .before .before .before in
+    let a = d .before .before .before .args in
+    c .before .before .write-fixed .ensures ∙ ap (placed (a .buf .now) (a .at)) (sym (uint-fixed (a .value) _ (d .encoded-size-of .ensures)))
 
 pub write-spec : {M : Type 1} → statement M
 write-spec = tie.close (tie.spec encoded-size-of-requires write-fixed-requires same-length returns)

@@ -1,11 +1,8 @@
 -- `fields::uint::write_magnitude` meets its contract: the bytes behind the leading zeros are the trimmed magnitude, and zero has none.
 -- Assumes nothing.
-use mathlib.Core.Path.{_≡_, refl, sym, _∙_, ap}
-use mathlib.Core.List.{List}
-use Prim.Native.Nat.{ℕ, _+_, _<_}
+use mathlib.Core.Path.{sym, _∙_, ap}
 use native.Mathlib.Omega.{arith}
-use lib.ListN.{length}
-use Rattle.encoding.specs.Fields.{trimmed, orZero}
+use Rattle.encoding.specs.Fields.{trimmed}
 use Rattle.buffer.specs.Laid.{placed}
 use Rattle.fields.proofs.Trimmed.{trimmed-part, orZero-none, orZero-some}
 use borrow.Author.Needs.{needs}
@@ -23,8 +20,8 @@ same-length c = search needs
 
 returns : tie.Need-returns
 returns c =
-  let a = c .before .before .before .before .before .before .before .before .args in
-  c .before .before .put .ensures ∙ ap (placed (a .buf .now) (a .at)) (sym (orZero-none (trimmed (a .magnitude .now)) (omega arith)))
+    let a = c .before .before .before .before .before .before .before .before .args in
+    c .before .before .put .ensures ∙ ap (placed (a .buf .now) (a .at)) (sym (orZero-none (trimmed (a .magnitude .now)) (omega arith)))
 
 sub-copy : tie.Need-sub-copy
 sub-copy c = search needs
@@ -43,11 +40,11 @@ same-length-2 c = search needs
 
 returns-2 : tie.Need-returns-2
 returns-2 c =
-  let a = c .before .before .before .before .before .before .before .before .before .args in
-  let m = a .magnitude .now in
-  let z = c .before .before .before .before .before .before .leading-zero-bytes in
-  c .before .before .copy .ensures
-  ∙ ap (placed (a .buf .now) (a .at)) (trimmed-part m (z .result) (z .ensures) ∙ sym (orZero-some (trimmed m) (omega arith)))
+    let a = c .before .before .before .before .before .before .before .before .before .args in
+    let m = a .magnitude .now in
+    let z = c .before .before .before .before .before .before .leading-zero-bytes in
+    c .before .before .copy .ensures
+    ∙ ap (placed (a .buf .now) (a .at)) (trimmed-part m (z .result) (z .ensures) ∙ sym (orZero-some (trimmed m) (omega arith)))
 
 pub write-magnitude-spec : {M : Type 1} → statement M
 write-magnitude-spec =
