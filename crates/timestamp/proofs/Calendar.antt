@@ -1,5 +1,5 @@
--- The days of a month: from a table without leap days, and their bounds.
--- Assumes nothing.
+-- The days of a month: from the table of a year that is no leap year, and at most 31.
+-- By cases on the leap year. Assumes nothing.
 use Prim.Native.Nat.{ℕ, zero, suc, _+_, _-_, _≤_, _<_}
 use native.Mathlib.Omega.{arith}
 use mathlib.Core.Path.{_≡_, refl, sym, _∙_, ap}

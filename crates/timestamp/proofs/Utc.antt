@@ -1,5 +1,5 @@
--- Local minus offset, and the day that it falls on.
--- Assumes nothing.
+-- Local minus offset: the nearby day, the minutes, and the fields that they make.
+-- By the cases of each definition. Assumes nothing.
 use Prim.Native.Nat.{ℕ, zero, suc, _+_, _-_, _*_, _/_, _≤_, _<_}
 use native.Mathlib.Omega.{arith}
 use mathlib.Core.Path.{_≡_, refl, sym, _∙_, ap, subst}
@@ -16,6 +16,7 @@ use Rattle.ion.specs.Calendar.{daysInMonth, isMonth}
 use Rattle.ion.proofs.Tests.{both}
 use Rattle.encoding.specs.Fields.{signedOf}
 use Rattle.encoding.specs.Timestamp.{Date, date, dayBefore, dayAfter, nearDay, utcMinutes, fieldsAt, utcFields, utc, offsetFits, fractionFits, isTimestamp}
+use Rattle.fields.proofs.Signs.{below-zero, signedOf-is}
 use Rattle.timestamp.specs.declared.Precision.{Precision}
 use Rattle.timestamp.specs.declared.Precision.the-variants.{Year, Month, Day, Minute, Second}
 use Rattle.timestamp.specs.declared.Offset.{Offset}
@@ -35,9 +36,7 @@ utcMinutes-east (negsuc n) h i e = absurd (false≢true (sym e))
 
 -- the sign and the magnitude of an offset
 pub signedOf-parts : (z : ℤ) → signed (ltZ z (pos 0)) (natAbs z) ≡ signedOf z
-signedOf-parts (pos zero) = refl
-signedOf-parts (pos (suc n)) = rw (le-ltb (suc n) 0 (omega arith))
-signedOf-parts (negsuc n) = refl
+signedOf-parts z = rw (below-zero z, signedOf-is z)
 
 pub dayBefore-day : (y m d : ℕ) → 1 < d → date y m (d - 1) ≡ dayBefore y m d
 unfolding dayBefore

@@ -1,5 +1,5 @@
--- Check 7, put together from its parts.
--- Assumes nothing.
+-- Check 7 from its tests in field order, and what each tells once it is passed.
+-- By cases on the precision. Assumes nothing.
 use Prim.Native.Nat.{ℕ, zero, suc, _+_, _^_, _≤_, _<_}
 use native.Mathlib.Omega.{arith}
 use native.Mathlib.Nat.{add-zero, zero-add}

@@ -1,4 +1,4 @@
--- The UTC fields of a Timestamp.
+-- A Timestamp with its UTC fields.
 -- Assumes nothing.
 use mathlib.Core.Bool.{true, false}
 use mathlib.Core.List.{List}
@@ -28,7 +28,7 @@ withFields t fs =
       fraction = t .fraction;
     }
 
--- the UTC fields of one that passes check 7; any other as it is
+-- with its UTC fields, if it passes check 7; any other as it is
 unfoldable pub utcOf : Timestamp → Timestamp
 utcOf t =
     elim (isTimestamp (offsetMinutes (t .offset)) (fieldsOf t) (fractionDigits (t .fraction))) [
