@@ -1,17 +1,17 @@
 -- The body of a decimal: none for positive zero with exponent 0, else the exponent and the coefficient side by side.
 -- By the length of the coefficient, which is none only for positive zero. Assumes nothing.
-use Prim.Native.Nat.{ℕ, zero, suc, _+_, _^_, _≤_, _<_, min}
+use Prim.Native.Nat.{ℕ, zero, suc, _+_, _≤_, _<_, min}
 use native.Mathlib.Omega.{arith}
-use mathlib.Core.Path.{_≡_, refl, sym, _∙_, ap}
-use mathlib.Core.Bool.{Bool, true, false, _&&_, _||_}
+use mathlib.Core.Path.{_≡_, refl, _∙_, ap}
+use mathlib.Core.Bool.{Bool, true, false, _&&_}
 use mathlib.Core.List.{List, [], _∷_, _++_}
 use borrow.Author.Tests.{ltb-true, ltb-false, lt-ltb, le-ltb, ne-eqb}
 use mir.Syntax.{w64}
 use mir.Val.{Fits}
 use lib.Dec.{eqb, ltb}
-use lib.ListN.{length, length-append}
+use lib.ListN.{length}
 use lib.IntN.{ℤ, pos, negsuc, natAbs}
-use Rattle.ion.specs.Value.{decimalCode, signed}
+use Rattle.ion.specs.Value.{decimalCode}
 use Rattle.encoding.specs.Fields.{varIntBytes, signedOf, trimmed, intBytes}
 use Rattle.encoding.specs.Headers.{typeByte, headerBytes, framedBytes}
 use Rattle.encoding.specs.Decimal.{isZeroDecimal, decimalBody}

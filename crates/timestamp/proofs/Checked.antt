@@ -1,14 +1,13 @@
 -- What check 7 leaves of a timestamp: the bytes of its UTC fields, of which check 9 refuses none, or nothing.
 -- By the limit of 18 bytes. Assumes nothing.
-use Prim.Native.Nat.{ℕ, _+_, _^_, _≤_, _<_}
+use Prim.Native.Nat.{ℕ, _+_, _≤_}
 use native.Mathlib.Omega.{arith}
-use mathlib.Core.Path.{_≡_, refl, sym, _∙_, ap}
-use mathlib.Core.Bool.{Bool, true, false, not, _||_}
+use mathlib.Core.Path.{_≡_, sym, _∙_, ap}
+use mathlib.Core.Bool.{Bool, true, false}
 use mathlib.Core.List.{List, []}
 use borrow.Author.Tests.{le-ltb}
 use mir.Syntax.{w64}
 use mir.Val.{Fits}
-use lib.Dec.{ltb}
 use lib.ListN.{length}
 use Rattle.ion.specs.Value.{timestampCode}
 use Rattle.encoding.specs.Headers.{typeByte, headerBytes, framedBytes}

@@ -1,11 +1,11 @@
 -- A fraction as bytes: a byte for the exponent, then the coefficient, which has no leading zero bytes.
 -- By the first of its digits. Assumes nothing.
-use Prim.Native.Nat.{ℕ, zero, suc, _+_, _-_, _*_, _/_, _%_, _^_, _≤_, _<_}
+use Prim.Native.Nat.{ℕ, zero, suc, _+_, _*_, _/_, _%_, _^_, _≤_, _<_}
 use native.Mathlib.Omega.{arith}
 use native.Mathlib.Nat.{pow-suc, mul-comm, one-le-pow, mod-eq-of-lt, le-div-iff-mul-le, div-lt-iff-lt-mul}
-use mathlib.Core.Path.{_≡_, refl, sym, _∙_, ap, subst}
+use mathlib.Core.Path.{_≡_, refl, _∙_}
 use mathlib.Core.Bool.{true, false, and-false}
-use mathlib.Core.List.{List, [], _∷_, _++_}
+use mathlib.Core.List.{_∷_}
 use borrow.Author.Tests.{leb-true, leb-false, ne-eqb}
 use lib.Dec.{leb, eqb}
 use lib.Pow.{pow-mono}

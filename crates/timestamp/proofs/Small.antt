@@ -1,16 +1,16 @@
 -- The UTC fields of a timestamp that passed check 7 are small, and they are those that its body has.
 -- By the cases of the precision and of the nearby day. Assumes nothing.
-use Prim.Native.Nat.{ℕ, zero, suc, _+_, _-_, _*_, _/_, _%_, _^_, _≤_, _<_}
+use Prim.Native.Nat.{ℕ, zero, suc, _-_, _/_, _^_, _≤_, _<_}
 use native.Mathlib.Omega.{arith}
 use native.Mathlib.Nat.{pow-le-pow-right}
-use mathlib.Core.Path.{_≡_, refl, sym, _∙_, ap, subst}
-use mathlib.Core.Bool.{Bool, true, false, _&&_}
-use mathlib.Core.List.{List, [], _∷_, _++_}
+use mathlib.Core.Path.{_≡_, refl, subst}
+use mathlib.Core.Bool.{true}
+use mathlib.Core.List.{List, [], _∷_}
 use mathlib.Core.Option.{Option, none, some}
 use borrow.Author.Tests.{leb-true, ltb-true, ltb-false}
 use lib.Dec.{leb, ltb, eqb}
 use lib.ListN.{length}
-use lib.IntN.{ℤ, natAbs}
+use lib.IntN.{ℤ}
 use Rattle.ion.specs.Value.{Fraction, noFraction, fraction}
 use Rattle.ion.specs.Calendar.{daysInMonth}
 use Rattle.ion.proofs.Tests.{by-cases, both}

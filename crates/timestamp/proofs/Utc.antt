@@ -3,19 +3,16 @@
 use Prim.Native.Nat.{ℕ, zero, suc, _+_, _-_, _*_, _/_, _≤_, _<_}
 use native.Mathlib.Omega.{arith}
 use mathlib.Core.Path.{_≡_, refl, sym, _∙_, ap, subst}
-use mathlib.Core.Bool.{Bool, true, false, false≢true, _&&_, _||_}
-use mathlib.Core.List.{List, [], _∷_}
-use mathlib.Core.Option.{Option, none, some}
-use borrow.Author.Tests.{ltb-true, leb-true, lt-ltb, le-ltb}
-use lib.Dec.{T, leb, ltb}
-use lib.ListN.{length}
+use mathlib.Core.Bool.{true, false, false≢true}
+use mathlib.Core.List.{[], _∷_}
+use mathlib.Core.Option.{some}
+use borrow.Author.Tests.{ltb-true, lt-ltb, le-ltb}
 use lib.IntN.{ℤ, pos, negsuc, natAbs}
 use lib.Signed.{ltZ}
-use Rattle.ion.specs.Value.{signed, Fraction}
-use Rattle.ion.specs.Calendar.{daysInMonth, isMonth}
-use Rattle.ion.proofs.Tests.{both}
+use Rattle.ion.specs.Value.{signed}
+use Rattle.ion.specs.Calendar.{daysInMonth}
 use Rattle.encoding.specs.Fields.{signedOf}
-use Rattle.encoding.specs.Timestamp.{Date, date, dayBefore, dayAfter, nearDay, utcMinutes, fieldsAt, utcFields, utc, offsetFits, fractionFits, isTimestamp}
+use Rattle.encoding.specs.Timestamp.{Date, date, dayBefore, dayAfter, nearDay, utcMinutes, fieldsAt, utcFields, utc, isTimestamp}
 use Rattle.fields.proofs.Signs.{below-zero, signedOf-is}
 use Rattle.timestamp.specs.declared.Precision.{Precision}
 use Rattle.timestamp.specs.declared.Precision.the-variants.{Year, Month, Day, Minute, Second}
