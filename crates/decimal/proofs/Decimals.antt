@@ -54,9 +54,9 @@ module _ (s : Bool) (m : List ℕ) (e : ℤ) where
   pub decimalBody-empty : length (decimalBody s m e) ≡ 0 → decimalBody s m e ≡ []
   decimalBody-empty h = empty (decimalBody s m e) h
     where
-    empty : (l : List ℕ) → length l ≡ 0 → l ≡ []
-    empty [] z = refl
-    empty (b ∷ bs) z = absurd (omega arith)
+      empty : (l : List ℕ) → length l ≡ 0 → l ≡ []
+      empty [] z = refl
+      empty (b ∷ bs) z = absurd (omega arith)
 
   -- ---- check 8, by the length of the body up to 33
 

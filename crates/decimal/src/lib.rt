@@ -45,14 +45,26 @@ pub fn size(negative: bool, magnitude: &[u8], exponent: i64, room: usize) -> usi
 }
 
 // The body, given its length.
-fn put_body(buf: &mut [u8], at: usize, body: usize, negative: bool, magnitude: &[u8], exponent: i64) -> usize
+fn put_body(
+    buf: &mut [u8],
+    at: usize,
+    body: usize,
+    negative: bool,
+    magnitude: &[u8],
+    exponent: i64,
+) -> usize
     requires { ⌜ (body ≡ length (decimalBody negative (now magnitude) exponent)) × (at + body ≤ length (now buf)) ⌝ }
     ensures { λ r. ⌜ _≡_ {A = ℕ × List ℕ} (r, now (buf .exit)) (placed (now (buf .entry)) at (decimalBody negative (now (magnitude .entry)) exponent)) ⌝ }
 {
     if body == 0 {
         return 0;
     }
-    let one = fields::var_int::write(buf, at, fields::sign::is_negative(exponent), fields::sign::magnitude(exponent));
+    let one = fields::var_int::write(
+        buf,
+        at,
+        fields::sign::is_negative(exponent),
+        fields::sign::magnitude(exponent),
+    );
     one + fields::int::write(buf, at + one, negative, magnitude)
 }
 

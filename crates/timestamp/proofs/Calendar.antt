@@ -40,6 +40,6 @@ getD-upTo most (x ∷ xs) e (suc i) = getD-upTo most xs (both {a = leb x most} e
 pub days-most : (y m : ℕ) → daysInMonth y m ≤ 31
 days-most y m = at (isLeapYear y)
   where
-  at : (leap : Bool) → getD (daysBy (cond leap 29 28)) m 0 ≤ 31
-  at true = getD-upTo 31 (daysBy 29) refl m
-  at false = getD-upTo 31 (daysBy 28) refl m
+    at : (leap : Bool) → getD (daysBy (cond leap 29 28)) m 0 ≤ 31
+    at true = getD-upTo 31 (daysBy 29) refl m
+    at false = getD-upTo 31 (daysBy 28) refl m

@@ -38,9 +38,9 @@ trimmed-uint : (n : ℕ) → trimmed (uintBytes n) ≡ uintBytes n
 unfolding uintBytes digits lowDigits
 trimmed-uint n = at (digitCount 256 n) refl
   where
-  at : (k : ℕ) → digitCount 256 n ≡ k → trimmed (lowDigits 256 k n) ≡ lowDigits 256 k n
-  at zero e = trimmed-nil
-  at (suc j) e = rw (lowDigits-first 256 j n) (trimmed-first (n / 256 ^ j % 256) (lowDigits 256 j n) (first-pos n j e))
+    at : (k : ℕ) → digitCount 256 n ≡ k → trimmed (lowDigits 256 k n) ≡ lowDigits 256 k n
+    at zero e = trimmed-nil
+    at (suc j) e = rw (lowDigits-first 256 j n) (trimmed-first (n / 256 ^ j % 256) (lowDigits 256 j n) (first-pos n j e))
 
 pub fractionBytes-is : (k c : ℕ) → 1 ≤ k → k < 64 → fractionBytes (fraction k c) ≡ (0xC0 + k) ∷ intBytes false (uintBytes c)
 fractionBytes-is zero c h l = absurd (omega arith)
@@ -63,4 +63,3 @@ bitsUsed-most k n h l =
 pub coefficient-most : (c : ℕ) → c < 2 ^ 63 → length (intBytes false (uintBytes c)) ≤ 8
 coefficient-most zero h = rw (int-of-zero 0 refl) (omega arith)
 coefficient-most (suc c) h = rw (int-size (suc c) (omega arith) (omega arith)) (omega (arith, bitsUsed-most 63 (suc c) (omega arith) h))
-

@@ -35,9 +35,9 @@ offsetFits-magnitude (negsuc n) fs k e = rw e
 year-first : (y : ℕ) (b c : Bool) → ((isYear y && b) && ((leb 1 y && leb y 9999) && c)) ≡ ((leb 1 y && leb y 9999) && (b && c))
 year-first y b c = at (leb 1 y && leb y 9999) (isYear y) (λ e. le-leb y 10000 (omega (arith, leb-true y 9999 (both {a = leb 1 y} e .1))))
   where
-  at : (l a : Bool) → (l ≡ true → a ≡ true) → ((a && b) && (l && c)) ≡ (l && (b && c))
-  at true a h = rw (h refl)
-  at false a h = and-false (a && b)
+    at : (l a : Bool) → (l ≡ true → a ≡ true) → ((a && b) && (l && c)) ≡ (l && (b && c))
+    at true a h = rw (h refl)
+    at false a h = and-false (a && b)
 
 -- the tests from the year down, each where the count of fields reaches it
 pub isTimestamp-tests : (p : Precision) (y m d h i s : ℕ) (o : Option ℤ) (x : Fraction) →

@@ -11,7 +11,7 @@ use Rattle.timestamp.specs.declared.Timestamp.{Timestamp}
 use Rattle.timestamp.specs.Arguments.{offsetMinutes, fractionDigits, fieldsOf}
 
 abbrev pub dateOf : Date → CalendarDate
-dateOf x = date (x .year) (x .month) (x .day)
+dateOf x = date (x .0) (x .1) (x .2)
 
 -- these fields, from the year down, in the place of its own
 unfoldable pub withFields : Timestamp → List ℕ → Timestamp

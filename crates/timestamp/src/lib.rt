@@ -189,23 +189,20 @@ pub fn is_valid(t: Timestamp) -> bool
 
 // ---- UTC: local minus offset
 
-struct Date {
-    year: u32,
-    month: u32,
-    day: u32,
-}
+// Year, month, day.
+struct Date(u32, u32, u32);
 
 fn day_before(year: u32, month: u32, day: u32) -> Date
     requires { ⌜ 1 ≤ year ⌝ }
     ensures { λ r. ⌜ dateOf r ≡ dayBefore year month day ⌝ }
 {
     if 1 < day {
-        return Date { year: year, month: month, day: day - 1 };
+        return Date(year, month, day - 1);
     }
     if 1 < month {
-        return Date { year: year, month: month - 1, day: days_in_month(year, month - 1) };
+        return Date(year, month - 1, days_in_month(year, month - 1));
     }
-    Date { year: year - 1, month: 12, day: 31 }
+    Date(year - 1, 12, 31)
 }
 
 fn day_after(year: u32, month: u32, day: u32) -> Date
@@ -213,12 +210,12 @@ fn day_after(year: u32, month: u32, day: u32) -> Date
     ensures { λ r. ⌜ dateOf r ≡ dayAfter year month day ⌝ }
 {
     if day < days_in_month(year, month) {
-        return Date { year: year, month: month, day: day + 1 };
+        return Date(year, month, day + 1);
     }
     if month < 12 {
-        return Date { year: year, month: month + 1, day: 1 };
+        return Date(year, month + 1, 1);
     }
-    Date { year: year + 1, month: 1, day: 1 }
+    Date(year + 1, 1, 1)
 }
 
 // 0 for the day before, 1 for the day itself, 2 for the day after.
@@ -228,7 +225,7 @@ fn near_day(which: u32, year: u32, month: u32, day: u32) -> Date
 {
     match which {
         0 => day_before(year, month, day),
-        1 => Date { year: year, month: month, day: day },
+        1 => Date(year, month, day),
         _ => day_after(year, month, day),
     }
 }
@@ -256,15 +253,15 @@ fn at_minute(t: Timestamp, minutes: u32) -> Timestamp
     let offset = t.offset;
     let fraction = t.fraction;
     Timestamp {
-        precision: precision,
-        year: day.year,
-        month: day.month,
-        day: day.day,
+        precision,
+        year: day.0,
+        month: day.1,
+        day: day.2,
         hour: minutes % 1440 / 60,
         minute: minutes % 1440 % 60,
         second: t.second,
-        offset: offset,
-        fraction: fraction,
+        offset,
+        fraction,
     }
 }
 
@@ -328,7 +325,12 @@ fn put_var_int(buf: &mut [u8], at: usize, negative: bool, magnitude: u32) -> usi
     if magnitude < 64 {
         return buffer::put(buf, at, END_FLAG + sign + magnitude as u8);
     }
-    put_two(buf, at, sign + (magnitude / 128) as u8, END_FLAG + (magnitude % 128) as u8)
+    put_two(
+        buf,
+        at,
+        sign + (magnitude / 128) as u8,
+        END_FLAG + (magnitude % 128) as u8,
+    )
 }
 
 // The offset as a VarInt. Unknown is negative zero.
@@ -354,7 +356,16 @@ fn put_year(buf: &mut [u8], at: usize, year: u32) -> usize
 }
 
 // The first `count` fields below the year as VarUInts: a byte each.
-fn put_small(buf: &mut [u8], at: usize, count: usize, month: u32, day: u32, hour: u32, minute: u32, second: u32) -> usize
+fn put_small(
+    buf: &mut [u8],
+    at: usize,
+    count: usize,
+    month: u32,
+    day: u32,
+    hour: u32,
+    minute: u32,
+    second: u32,
+) -> usize
     requires { ⌜ (count ≤ 5) × (at + count ≤ length (now buf)) ⌝ }
     ensures { λ r. ⌜ _≡_ {A = ℕ × List ℕ} (r, now (buf .exit)) (placed (now (buf .entry)) at (take count (endBytes (month ∷ day ∷ hour ∷ minute ∷ second ∷ [])))) ⌝ }
 {
@@ -429,7 +440,8 @@ fn body_size(t: Timestamp) -> usize
     let precision = t.precision;
     let offset = t.offset;
     let fraction = t.fraction;
-    offset_size(offset) + (year_size(t.year) + (field_count(precision) as usize - 1) + fraction_size(fraction))
+    offset_size(offset)
+        + (year_size(t.year) + (field_count(precision) as usize - 1) + fraction_size(fraction))
 }
 
 // Offset, UTC fields, fraction.
@@ -443,7 +455,17 @@ fn put_body(buf: &mut [u8], at: usize, t: Timestamp) -> usize
     let count = field_count(precision) as usize - 1;
     let one = put_offset(buf, at, offset);
     let two = one + put_year(buf, at + one, t.year);
-    let three = two + put_small(buf, at + two, count, t.month, t.day, t.hour, t.minute, t.second);
+    let three = two
+        + put_small(
+            buf,
+            at + two,
+            count,
+            t.month,
+            t.day,
+            t.hour,
+            t.minute,
+            t.second,
+        );
     three + put_fraction(buf, at + three, fraction)
 }
 
