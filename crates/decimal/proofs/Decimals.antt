@@ -1,25 +1,31 @@
 -- The body of a decimal: none for positive zero with exponent 0, else the exponent and the coefficient side by side.
 -- By the length of the coefficient, which is none only for positive zero. Assumes nothing.
-use Prim.Native.Nat.{ℕ, zero, suc, _+_, _^_, _≤_, _<_, min}
+use Prim.Native.Nat.{ℕ, zero, suc, _+_, _≤_, _<_, min}
 use native.Mathlib.Omega.{arith}
-use mathlib.Core.Path.{_≡_, refl, sym, _∙_, ap}
-use mathlib.Core.Bool.{Bool, true, false, _&&_, _||_}
+use mathlib.Core.Path.{_≡_, refl, _∙_, ap}
+use mathlib.Core.Bool.{Bool, true, false, _&&_}
 use mathlib.Core.List.{List, [], _∷_, _++_}
-use borrow.Author.Tests.{lt-ltb, le-ltb, ne-eqb}
+use borrow.Author.Tests.{ltb-true, ltb-false, lt-ltb, le-ltb, ne-eqb}
 use mir.Syntax.{w64}
 use mir.Val.{Fits}
 use lib.Dec.{eqb, ltb}
-use lib.ListN.{length, length-append}
+use lib.ListN.{length}
 use lib.IntN.{ℤ, pos, negsuc, natAbs}
-use Rattle.ion.specs.Value.{decimalCode, signed}
+use Rattle.ion.specs.Value.{decimalCode}
 use Rattle.encoding.specs.Fields.{varIntBytes, signedOf, trimmed, intBytes}
 use Rattle.encoding.specs.Headers.{typeByte, headerBytes, framedBytes}
 use Rattle.encoding.specs.Decimal.{isZeroDecimal, decimalBody}
 use Rattle.encoding.specs.Argument.{writeDecimal, argumentBytes, checkedBytes}
 use Rattle.ion.proofs.Tests.{by-cases}
-use Rattle.fields.proofs.Signs.{int-size-none, int-size-some}
+use Rattle.fields.proofs.Signs.{int-size-none, int-clear, int-taken}
 use Rattle.fields.proofs.Headers.{header-most}
 use Rattle.decimal.proofs.Values.{length-framed, checkedBytes-refused, checkedBytes-accepted}
+
+int-nonempty : (s : Bool) (b : ℕ) (bs : List ℕ) → length (intBytes s (b ∷ bs)) ≡ 0 → ⊥
+int-nonempty s b bs =
+    by-cases (ltb b 0x80)
+    (λ t z. omega (arith, ap length (int-clear b bs s (ltb-true b 0x80 t))))
+    (λ t z. omega (arith, ap length (int-taken b bs s (ltb-false b 0x80 t))))
 
 -- the coefficient takes no byte, and the exponent is 0
 isZeroDecimal-tests : (s : Bool) (m : List ℕ) (e : ℤ) → isZeroDecimal s m e ≡ (eqb (length (intBytes s m)) 0 && eqb (natAbs e) 0)
@@ -27,8 +33,8 @@ isZeroDecimal-tests false [] (pos zero) = rw (int-size-none false [] refl)
 isZeroDecimal-tests false [] (pos (suc n)) = rw (int-size-none false [] refl, ne-eqb (suc n) 0 (λ z. omega arith))
 isZeroDecimal-tests false [] (negsuc n) = rw (int-size-none false [] refl, ne-eqb (suc n) 0 (λ z. omega arith))
 isZeroDecimal-tests true [] e = rw (int-size-none true [] refl)
-isZeroDecimal-tests false (b ∷ bs) e = rw (ne-eqb (length (intBytes false (b ∷ bs))) 0 (λ z. omega (arith, int-size-some false b bs)))
-isZeroDecimal-tests true (b ∷ bs) e = rw (ne-eqb (length (intBytes true (b ∷ bs))) 0 (λ z. omega (arith, int-size-some true b bs)))
+isZeroDecimal-tests false (b ∷ bs) e = rw (ne-eqb (length (intBytes false (b ∷ bs))) 0 (int-nonempty false b bs))
+isZeroDecimal-tests true (b ∷ bs) e = rw (ne-eqb (length (intBytes true (b ∷ bs))) 0 (int-nonempty true b bs))
 
 module _ (s : Bool) (m : List ℕ) (e : ℤ) where
   pub decimalBody-none : (eqb (length (intBytes s (trimmed m))) 0 && eqb (natAbs e) 0) ≡ true → decimalBody s m e ≡ []

@@ -1,5 +1,5 @@
-// Decimals: document 01's module binary/decimal. The body is the exponent as a VarInt, then the coefficient as an Int; positive zero with exponent 0 has no body.
-// The coefficient is a sign and a big-endian magnitude, whose leading zero bytes do not count.
+// Decimals: document 01's module binary/decimal. A body is the exponent as a VarInt, then the coefficient as an Int; positive zero with exponent 0 has none.
+// The coefficient is given as a sign and a big-endian magnitude, whose leading zero bytes do not count.
 ghost use mathlib.Core.Path.{_≡_};
 ghost use mathlib.Core.List.{List};
 ghost use Prim.Native.Nat.{ℕ, _+_, _≤_, min};
@@ -10,26 +10,26 @@ ghost use Rattle.encoding.specs.Argument.{writeDecimal, checkedBytes};
 
 const TYPE_CODE: u8 = 0x50;
 
-// Document 01's limit of a body: check 8.
+// Check 8.
 const MAX_BODY: usize = 32;
 
-// The length of the body, or 33 for one that is over 32 bytes.
+// The length of the body; 33 for one that is longer than 32 bytes.
 pub fn body_size(negative: bool, magnitude: &[u8], exponent: i64) -> usize
     ensures { λ r. ⌜ r ≡ min 33 (length (decimalBody negative (now (magnitude .entry)) exponent)) ⌝ }
 {
     let coefficient = fields::int::encoded_size_of(negative, magnitude);
-    let distance = fields::sign::magnitude(exponent);
-    if (coefficient == 0) & (distance == 0) {
+    let scale = fields::sign::magnitude(exponent);
+    if (coefficient == 0) & (scale == 0) {
         return 0;
     }
-    let size = fields::var_int::encoded_size_of(distance) + coefficient;
+    let size = fields::var_int::encoded_size_of(scale) + coefficient;
     if MAX_BODY < size {
         return MAX_BODY + 1;
     }
     size
 }
 
-// The bytes that the decimal takes, header and body, where they are at most `room`; none where its body is over 32 bytes.
+// The bytes that the decimal takes, header and body, where they are at most `room`; none where the body is longer than 32 bytes.
 pub fn size(negative: bool, magnitude: &[u8], exponent: i64, room: usize) -> usize
     ensures { λ r. ⌜ r ≡ fitted room (checkedBytes (writeDecimal negative (now (magnitude .entry)) exponent)) ⌝ }
 {
@@ -44,7 +44,7 @@ pub fn size(negative: bool, magnitude: &[u8], exponent: i64, room: usize) -> usi
     size
 }
 
-// Given the length of the body.
+// The body, given its length.
 fn put_body(
     buf: &mut [u8],
     at: usize,
@@ -68,7 +68,7 @@ fn put_body(
     one + fields::int::write(buf, at + one, negative, magnitude)
 }
 
-// 5 and the length of the body, then the body. Nothing is put where the body is over 32 bytes.
+// Header and body. Nothing is put where the body is longer than 32 bytes.
 pub fn write(buf: &mut [u8], at: usize, negative: bool, magnitude: &[u8], exponent: i64) -> usize
     ensures { λ r. ⌜ _≡_ {A = ℕ × List ℕ} (r, now (buf .exit)) (placed (now (buf .entry)) at (checkedBytes (writeDecimal negative (now (magnitude .entry)) exponent))) ⌝ }
 {

@@ -1,24 +1,23 @@
 -- The body of a timestamp whose numbers are small: its parts, and that it is of 18 bytes at most.
 -- By the bytes of each part. Assumes nothing.
-use Prim.Native.Nat.{ℕ, zero, suc, _+_, _-_, _≤_, _<_}
+use Prim.Native.Nat.{ℕ, suc, _+_, _-_, _≤_, _<_}
 use native.Mathlib.Omega.{arith}
-use mathlib.Core.Path.{_≡_, refl, sym, _∙_, ap, subst}
+use mathlib.Core.Path.{_≡_, refl, _∙_, ap, subst}
 use mathlib.Core.Bool.{true, false}
-use mathlib.Core.List.{List, [], _∷_, _++_, append-assoc}
+use mathlib.Core.List.{List, [], _∷_, _++_}
 use mathlib.Core.Option.{Option, none, some}
-use mir.Val.{boolByte}
 use lib.Dec.{leb}
 use lib.ListN.{length, take, length-append, length-take}
 use lib.IntN.{ℤ, pos, negsuc}
-use Rattle.ion.specs.Value.{signed, Fraction, noFraction, fraction}
-use Rattle.encoding.specs.Fields.{varUIntBytes, varUIntsBytes, varIntBytes}
-use Rattle.encoding.specs.Timestamp.{offsetBytes, fractionBytes, utc, isTimestamp, timestampBody}
+use Rattle.ion.specs.Value.{Fraction, noFraction, fraction}
+use Rattle.encoding.specs.Fields.{varUIntBytes, varUIntsBytes}
+use Rattle.encoding.specs.Timestamp.{offsetBytes, fractionBytes}
 use Rattle.fields.proofs.Signs.{boolByte-most}
 use Rattle.timestamp.specs.declared.Precision.{Precision}
 use Rattle.timestamp.specs.declared.Precision.the-variants.{Year, Month, Day, Minute, Second}
 use Rattle.timestamp.specs.declared.Timestamp.{Timestamp}
 use Rattle.timestamp.specs.Arguments.{offsetMinutes, fractionDigits, fieldCount, fieldsBy, fieldsOf}
-use Rattle.timestamp.specs.Small.{SmallOffset, AllSmall, SmallFields, SmallFraction, Small, endBytes, bodyOf}
+use Rattle.timestamp.specs.Small.{SmallOffset, SmallFields, SmallFraction, Small, endBytes, bodyOf}
 use Rattle.timestamp.proofs.Bytes.{varUInt-length, varInt-length, small-bytes}
 use Rattle.timestamp.proofs.Fractions.{fractionBytes-is, coefficient-most}
 
@@ -73,6 +72,7 @@ module _ (t : Timestamp) where
     fields-bytes = ap varUIntsBytes (fieldsBy-year (t .precision)) ∙ rw (small-bytes belowCount belowYear (small-year .1))
 
     pub body-bytes : bodyOf t ≡ offsetBytes (offsetMinutes (t .offset)) ++ ((varUIntBytes (t .year) ++ take belowCount (endBytes belowYear)) ++ fractionBytes (fractionDigits (t .fraction)))
+    unfolding bodyOf
     body-bytes = rw fields-bytes
 
     pub body-length : length (bodyOf t) ≡ length (offsetBytes (offsetMinutes (t .offset))) + (length (varUIntBytes (t .year)) + belowCount + length (fractionBytes (fractionDigits (t .fraction))))

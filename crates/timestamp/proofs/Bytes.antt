@@ -1,10 +1,10 @@
 -- The fields of a timestamp as bytes: each but the year and the offset is one byte, those are one or two.
 -- By the count of their digits. Assumes nothing.
-use Prim.Native.Nat.{ℕ, zero, suc, _+_, _-_, _*_, _/_, _%_, _^_, _≤_, _<_}
+use Prim.Native.Nat.{ℕ, zero, suc, _+_, _/_, _%_, _≤_, _<_}
 use native.Mathlib.Omega.{arith}
-use mathlib.Core.Path.{_≡_, refl, sym, _∙_, ap}
-use mathlib.Core.Bool.{Bool, true, false}
-use mathlib.Core.List.{List, [], _∷_, _++_}
+use mathlib.Core.Path.{_≡_, refl}
+use mathlib.Core.Bool.{Bool}
+use mathlib.Core.List.{List, [], _∷_}
 use mir.Syntax.{w64}
 use mir.Val.{Fits, boolByte}
 use borrow.Author.Tests.{leb-true, leb-false}

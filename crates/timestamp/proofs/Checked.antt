@@ -1,14 +1,13 @@
 -- What check 7 leaves of a timestamp: the bytes of its UTC fields, of which check 9 refuses none, or nothing.
 -- By the limit of 18 bytes. Assumes nothing.
-use Prim.Native.Nat.{ℕ, _+_, _^_, _≤_, _<_}
+use Prim.Native.Nat.{ℕ, _+_, _≤_}
 use native.Mathlib.Omega.{arith}
-use mathlib.Core.Path.{_≡_, refl, sym, _∙_, ap}
-use mathlib.Core.Bool.{Bool, true, false, not, _||_}
+use mathlib.Core.Path.{_≡_, sym, _∙_, ap}
+use mathlib.Core.Bool.{Bool, true, false}
 use mathlib.Core.List.{List, []}
 use borrow.Author.Tests.{le-ltb}
 use mir.Syntax.{w64}
 use mir.Val.{Fits}
-use lib.Dec.{ltb}
 use lib.ListN.{length}
 use Rattle.ion.specs.Value.{timestampCode}
 use Rattle.encoding.specs.Headers.{typeByte, headerBytes, framedBytes}
@@ -35,7 +34,7 @@ module _ (t : Timestamp) where
 
   -- u is t with its UTC fields
   pub accepted : isValid ≡ true → (u : Timestamp) → u ≡ withFields t (utc (offsetMinutes (t .offset)) (fieldsOf t)) → valueOf u ≡ checkedBytes (argumentOf t)
-  unfolding argumentBytes
+  unfolding argumentBytes valueOf
   accepted v u e =
       ap valueOf e
       ∙ (ap (framedBytes (typeByte timestampCode)) (utc-body t)
@@ -47,6 +46,7 @@ module _ (t : Timestamp) where
   -- the value by the lengths of header and body
   module _ (h : Small t) (body : ℕ) (q : body ≡ length (bodyOf t)) (header : ℕ) (k : header ≡ length (headerBytes 0 body)) where
     pub value-length : header + body ≡ length (valueOf t)
+    unfolding valueOf
     value-length = rw (length-framed (typeByte timestampCode) (bodyOf t), ← q, k)
 
     pub value-fits : Fits w64 (header + body)

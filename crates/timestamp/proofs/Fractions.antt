@@ -1,26 +1,26 @@
 -- A fraction as bytes: a byte for the exponent, then the coefficient, which has no leading zero bytes.
 -- By the first of its digits. Assumes nothing.
-use Prim.Native.Nat.{ℕ, zero, suc, _+_, _-_, _*_, _/_, _%_, _^_, _≤_, _<_}
+use Prim.Native.Nat.{ℕ, zero, suc, _+_, _*_, _/_, _%_, _^_, _≤_, _<_}
 use native.Mathlib.Omega.{arith}
 use native.Mathlib.Nat.{pow-suc, mul-comm, one-le-pow, mod-eq-of-lt, le-div-iff-mul-le, div-lt-iff-lt-mul}
-use mathlib.Core.Path.{_≡_, refl, sym, _∙_, ap, subst}
-use mathlib.Core.Bool.{Bool, true, false}
-use mathlib.Core.List.{List, [], _∷_, _++_}
-use borrow.Author.Tests.{leb-true, leb-false}
-use lib.Dec.{leb}
+use mathlib.Core.Path.{_≡_, refl, _∙_}
+use mathlib.Core.Bool.{true, false, and-false}
+use mathlib.Core.List.{_∷_}
+use borrow.Author.Tests.{leb-true, leb-false, ne-eqb}
+use lib.Dec.{leb, eqb}
 use lib.Pow.{pow-mono}
 use lib.Count.{leading-length}
 use lib.ListN.{length}
-use lib.IntN.{ℤ, pos, negsuc, negℤ}
-use Rattle.ion.specs.Value.{signed, Fraction, noFraction, fraction}
+use lib.IntN.{negsuc}
+use Rattle.ion.specs.Value.{fraction}
 use Rattle.encoding.specs.Digits.{lowDigits, digitCount, digits}
-use Rattle.encoding.specs.Fields.{varIntBytes, signedOf, uintBytes, trimmed, intBytes}
-use Rattle.encoding.specs.Decimal.{isZeroDecimal, decimalBody}
+use Rattle.encoding.specs.Fields.{uintBytes, trimmed, intBytes}
 use Rattle.encoding.specs.Timestamp.{fractionBytes}
 use Rattle.ion.proofs.Tests.{by-cases}
 use Rattle.fields.proofs.Digits.{lowDigits-first, digitCount-below, digitCount-reaches, bitsUsed}
 use Rattle.fields.proofs.Sizes.{int-of-zero, int-size}
 use Rattle.fields.proofs.Trimmed.{trimmed-nil, trimmed-first}
+use Rattle.decimal.proofs.Decimals.{decimalBody-some}
 use Rattle.timestamp.proofs.Bytes.{varInt-one}
 
 -- the digits of a number begin with one that is not zero
@@ -42,17 +42,14 @@ trimmed-uint n = at (digitCount 256 n) refl
     at zero e = trimmed-nil
     at (suc j) e = rw (lowDigits-first 256 j n) (trimmed-first (n / 256 ^ j % 256) (lowDigits 256 j n) (first-pos n j e))
 
--- an exponent below zero is no zero
-not-zero : (m : List ℕ) (n : ℕ) → isZeroDecimal false m (negsuc n) ≡ false
-not-zero [] n = refl
-not-zero (b ∷ bs) n = refl
-
 pub fractionBytes-is : (k c : ℕ) → 1 ≤ k → k < 64 → fractionBytes (fraction k c) ≡ (0xC0 + k) ∷ intBytes false (uintBytes c)
-unfolding decimalBody
 fractionBytes-is zero c h l = absurd (omega arith)
-fractionBytes-is (suc k) c h l = rw (not-zero (trimmed (uintBytes c)) k, decimalBody) (rw (varInt-one true (suc k) l, trimmed-uint c))
+fractionBytes-is (suc k) c h l =
+    decimalBody-some false (uintBytes c) (negsuc k) (rw (ne-eqb (suc k) 0 (λ z. omega arith)) (and-false (eqb (length (intBytes false (trimmed (uintBytes c)))) 0)))
+    ∙ rw (varInt-one true (suc k) l, trimmed-uint c)
 
--- the coefficient takes eight bytes at most
+-- ---- a coefficient below 2 ^ 63 takes eight bytes at most
+
 bitsUsed-most : (k n : ℕ) → n < 2 ^ 64 → n < 2 ^ k → bitsUsed n ≤ k
 bitsUsed-most k n h l =
     let m = leading-length 64 n h in

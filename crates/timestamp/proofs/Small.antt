@@ -1,16 +1,16 @@
 -- The UTC fields of a timestamp that passed check 7 are small, and they are those that its body has.
 -- By the cases of the precision and of the nearby day. Assumes nothing.
-use Prim.Native.Nat.{ℕ, zero, suc, _+_, _-_, _*_, _/_, _%_, _^_, _≤_, _<_}
+use Prim.Native.Nat.{ℕ, zero, suc, _-_, _/_, _^_, _≤_, _<_}
 use native.Mathlib.Omega.{arith}
 use native.Mathlib.Nat.{pow-le-pow-right}
-use mathlib.Core.Path.{_≡_, refl, sym, _∙_, ap, subst}
-use mathlib.Core.Bool.{Bool, true, false, _&&_}
-use mathlib.Core.List.{List, [], _∷_, _++_}
+use mathlib.Core.Path.{_≡_, refl, subst}
+use mathlib.Core.Bool.{true}
+use mathlib.Core.List.{List, [], _∷_}
 use mathlib.Core.Option.{Option, none, some}
 use borrow.Author.Tests.{leb-true, ltb-true, ltb-false}
 use lib.Dec.{leb, ltb, eqb}
 use lib.ListN.{length}
-use lib.IntN.{ℤ, natAbs}
+use lib.IntN.{ℤ}
 use Rattle.ion.specs.Value.{Fraction, noFraction, fraction}
 use Rattle.ion.specs.Calendar.{daysInMonth}
 use Rattle.ion.proofs.Tests.{by-cases, both}
@@ -111,12 +111,15 @@ module _ (t : Timestamp) where
   localFields p = fieldsBy p (t .year) (t .month) (t .day) (t .hour) (t .minute) (t .second)
 
   minute-with : (x : Date) (n : ℕ) → fieldsWith Minute (fieldsAt x n []) ≡ fieldsAt x n []
+  unfolding withFields
   minute-with (date y m d) n = refl
 
   second-with : (x : Date) (n s : ℕ) → fieldsWith Second (fieldsAt x n (s ∷ [])) ≡ fieldsAt x n (s ∷ [])
+  unfolding withFields
   second-with (date y m d) n s = refl
 
   fieldsWith-local : (p : Precision) → fieldsWith p (localFields p) ≡ localFields p
+  unfolding withFields
   fieldsWith-local Year = refl
   fieldsWith-local Month = refl
   fieldsWith-local Day = refl
@@ -124,6 +127,7 @@ module _ (t : Timestamp) where
   fieldsWith-local Second = refl
 
   fieldsWith-utc : (p : Precision) (o : Option ℤ) → fieldsWith p (utc o (localFields p)) ≡ utc o (localFields p)
+  unfolding withFields
   fieldsWith-utc p none = fieldsWith-local p
   fieldsWith-utc Year (some z) = refl
   fieldsWith-utc Month (some z) = refl
@@ -132,6 +136,7 @@ module _ (t : Timestamp) where
   fieldsWith-utc Second (some z) = let n = utcMinutes z (t .hour) (t .minute) in second-with (nearDay (n / 1440) (t .year) (t .month) (t .day)) n (t .second)
 
   pub utc-small : isTimestamp (offsetMinutes (t .offset)) (fieldsOf t) (fractionDigits (t .fraction)) ≡ true → Small (withFields t (utc (offsetMinutes (t .offset)) (fieldsOf t)))
+  unfolding withFields
   utc-small e =
       let o = offsetMinutes (t .offset) in
       let x = fractionDigits (t .fraction) in
@@ -143,5 +148,5 @@ module _ (t : Timestamp) where
       }
 
   pub utc-body : bodyOf (withFields t (utc (offsetMinutes (t .offset)) (fieldsOf t))) ≡ timestampBody (offsetMinutes (t .offset)) (fieldsOf t) (fractionDigits (t .fraction))
-  unfolding timestampBody
+  unfolding timestampBody withFields bodyOf
   utc-body = rw (fieldsWith-utc (t .precision) (offsetMinutes (t .offset)))

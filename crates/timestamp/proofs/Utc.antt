@@ -1,21 +1,19 @@
--- Local minus offset, and the day that it falls on.
--- Assumes nothing.
+-- Local minus offset: the nearby day, the minutes, and the fields that they make.
+-- By the cases of each definition. Assumes nothing.
 use Prim.Native.Nat.{ℕ, zero, suc, _+_, _-_, _*_, _/_, _≤_, _<_}
 use native.Mathlib.Omega.{arith}
 use mathlib.Core.Path.{_≡_, refl, sym, _∙_, ap, subst}
-use mathlib.Core.Bool.{Bool, true, false, false≢true, _&&_, _||_}
-use mathlib.Core.List.{List, [], _∷_}
-use mathlib.Core.Option.{Option, none, some}
-use borrow.Author.Tests.{ltb-true, leb-true, lt-ltb, le-ltb}
-use lib.Dec.{T, leb, ltb}
-use lib.ListN.{length}
+use mathlib.Core.Bool.{true, false, false≢true}
+use mathlib.Core.List.{[], _∷_}
+use mathlib.Core.Option.{some}
+use borrow.Author.Tests.{ltb-true, lt-ltb, le-ltb}
 use lib.IntN.{ℤ, pos, negsuc, natAbs}
 use lib.Signed.{ltZ}
-use Rattle.ion.specs.Value.{signed, Fraction}
-use Rattle.ion.specs.Calendar.{daysInMonth, isMonth}
-use Rattle.ion.proofs.Tests.{both}
+use Rattle.ion.specs.Value.{signed}
+use Rattle.ion.specs.Calendar.{daysInMonth}
 use Rattle.encoding.specs.Fields.{signedOf}
-use Rattle.encoding.specs.Timestamp.{Date, date, dayBefore, dayAfter, nearDay, utcMinutes, fieldsAt, utcFields, utc, offsetFits, fractionFits, isTimestamp}
+use Rattle.encoding.specs.Timestamp.{Date, date, dayBefore, dayAfter, nearDay, utcMinutes, fieldsAt, utcFields, utc, isTimestamp}
+use Rattle.fields.proofs.Signs.{below-zero, signedOf-is}
 use Rattle.timestamp.specs.declared.Precision.{Precision}
 use Rattle.timestamp.specs.declared.Precision.the-variants.{Year, Month, Day, Minute, Second}
 use Rattle.timestamp.specs.declared.Offset.{Offset}
@@ -35,9 +33,7 @@ utcMinutes-east (negsuc n) h i e = absurd (false≢true (sym e))
 
 -- the sign and the magnitude of an offset
 pub signedOf-parts : (z : ℤ) → signed (ltZ z (pos 0)) (natAbs z) ≡ signedOf z
-signedOf-parts (pos zero) = refl
-signedOf-parts (pos (suc n)) = rw (le-ltb (suc n) 0 (omega arith))
-signedOf-parts (negsuc n) = refl
+signedOf-parts z = rw (below-zero z, signedOf-is z)
 
 pub dayBefore-day : (y m d : ℕ) → 1 < d → date y m (d - 1) ≡ dayBefore y m d
 unfolding dayBefore
@@ -70,6 +66,7 @@ nearDay-after (suc (suc k)) y m d f g = refl
 
 -- the second stays
 withFields-second : (t : Timestamp) (x : Date) (n : ℕ) → withFields t (fieldsAt x n []) ≡ withFields t (fieldsAt x n (t .second ∷ []))
+unfolding withFields
 withFields-second t (date y m d) n = refl
 
 utc-at-minute : (t : Timestamp) (p : Precision) (z : ℤ) → 5 ≤ fieldCount p →
@@ -82,6 +79,7 @@ utc-at-minute t Minute z h = refl
 utc-at-minute t Second z h = withFields-second t (nearDay (utcMinutes z (t .hour) (t .minute) / 1440) (t .year) (t .month) (t .day)) (utcMinutes z (t .hour) (t .minute))
 
 withFields-same : (t : Timestamp) (p : Precision) → t ≡ withFields t (fieldsBy p (t .year) (t .month) (t .day) (t .hour) (t .minute) (t .second))
+unfolding withFields
 withFields-same t Year = refl
 withFields-same t Month = refl
 withFields-same t Day = refl

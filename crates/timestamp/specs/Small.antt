@@ -1,4 +1,4 @@
--- How small the numbers of a timestamp are that passed check 7 and has its UTC fields: as far as the count of its bytes goes by it.
+-- How small the numbers of a timestamp are once check 7 is passed and its fields are UTC, and the bytes that they then take.
 -- Assumes nothing.
 use Prim.Native.Nat.{ℕ, _+_, _%_, _^_, _≤_, _<_}
 use mathlib.Core.List.{List, [], _∷_, _++_, map}
@@ -11,7 +11,7 @@ use Rattle.encoding.specs.Timestamp.{offsetBytes, fractionBytes}
 use Rattle.timestamp.specs.declared.Timestamp.{Timestamp}
 use Rattle.timestamp.specs.Arguments.{offsetMinutes, fractionDigits, fieldsOf}
 
--- two bytes hold it
+-- two bytes hold the offset
 abbrev pub SmallOffset : Option ℤ → Type 0
 SmallOffset none = Unit {0}
 SmallOffset (some z) = natAbs z < 8192
@@ -21,7 +21,7 @@ abbrev pub AllSmall : List ℕ → Type 0
 AllSmall [] = Unit {0}
 AllSmall (n ∷ ns) = (n < 128) × AllSmall ns
 
--- the last seven bits of each, with the end flag
+-- the lowest seven bits of each, and the end flag
 abbrev pub endBytes : List ℕ → List ℕ
 endBytes ns = map (λ (n : ℕ). 0x80 + n % 128) ns
 
@@ -41,8 +41,8 @@ pub record Small (t : Timestamp) : Type 0 where
   pub fraction : SmallFraction (fractionDigits (t .fraction))
 
 -- the body of a timestamp whose fields are UTC
-abbrev pub bodyOf : Timestamp → List ℕ
+unfoldable pub bodyOf : Timestamp → List ℕ
 bodyOf t = offsetBytes (offsetMinutes (t .offset)) ++ (varUIntsBytes (fieldsOf t) ++ fractionBytes (fractionDigits (t .fraction)))
 
-abbrev pub valueOf : Timestamp → List ℕ
+unfoldable pub valueOf : Timestamp → List ℕ
 valueOf t = framedBytes (typeByte timestampCode) (bodyOf t)

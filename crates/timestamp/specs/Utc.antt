@@ -1,4 +1,4 @@
--- The UTC fields of a Timestamp.
+-- A Timestamp with its UTC fields.
 -- Assumes nothing.
 use mathlib.Core.Bool.{true, false}
 use mathlib.Core.List.{List}
@@ -11,10 +11,10 @@ use Rattle.timestamp.specs.declared.Timestamp.{Timestamp}
 use Rattle.timestamp.specs.Arguments.{offsetMinutes, fractionDigits, fieldsOf}
 
 abbrev pub dateOf : Date → CalendarDate
-dateOf x = date (x .year) (x .month) (x .day)
+dateOf x = date (x .0) (x .1) (x .2)
 
 -- these fields, from the year down, in the place of its own
-abbrev pub withFields : Timestamp → List ℕ → Timestamp
+unfoldable pub withFields : Timestamp → List ℕ → Timestamp
 withFields t fs =
     record {
       precision = t .precision;
@@ -28,7 +28,7 @@ withFields t fs =
       fraction = t .fraction;
     }
 
--- the UTC fields of one that passes check 7; any other as it is
+-- with its UTC fields, if it passes check 7; any other as it is
 unfoldable pub utcOf : Timestamp → Timestamp
 utcOf t =
     elim (isTimestamp (offsetMinutes (t .offset)) (fieldsOf t) (fractionDigits (t .fraction))) [

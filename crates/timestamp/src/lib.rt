@@ -1,10 +1,10 @@
 // Timestamps: document 01's modules types/timestamp and binary/timestamp.
-// The fields are local, and as wide as they come: a year of 70000 is a bad year and never cut to 4464.
+// A field is 32 bits wide and never cut: a year of 70000 is a bad year.
 ghost use mathlib.Core.Path.{_≡_};
-ghost use mathlib.Core.Bool.{Bool, true, false, _&&_, _||_, not};
+ghost use mathlib.Core.Bool.{true, _&&_};
 ghost use mathlib.Core.List.{List, [], _∷_};
-ghost use Prim.Native.Nat.{ℕ, _+_, _-_, _*_, _/_, _%_, _^_, _≤_, _<_};
-ghost use lib.Dec.{ltb, leb, eqb};
+ghost use Prim.Native.Nat.{ℕ, _+_, _^_, _≤_, _<_};
+ghost use lib.Dec.{ltb, leb};
 ghost use lib.ListN.{length, take};
 ghost use lib.IntN.{natAbs};
 ghost use Rattle.ion.specs.Calendar.{isLeapYear, daysInMonth, isMonth};
@@ -17,7 +17,7 @@ ghost use Rattle.timestamp.specs.Arguments.{offsetMinutes, fractionDigit
 ghost use Rattle.timestamp.specs.Utc.{dateOf, withFields, utcOf};
 ghost use Rattle.timestamp.specs.Small.{SmallOffset, SmallFraction, Small, endBytes, bodyOf, valueOf};
 
-// The last field that is given. The fields below it mean nothing.
+// The last field that counts; those below it mean nothing. With a minute there is an hour.
 pub enum Precision {
     Year,
     Month,
@@ -26,18 +26,19 @@ pub enum Precision {
     Second,
 }
 
-// Local minus UTC.
+// Local time minus UTC.
 pub enum Offset {
     Unknown,
     Minutes(i32),
 }
 
-// How many digits stand behind the seconds, and the number that they make.
+// Behind the seconds: how many digits there are, and the number that they make.
 pub enum Fraction {
     None,
     Digits(u32, u64),
 }
 
+// The fields are local.
 pub struct Timestamp {
     pub precision: Precision,
     pub year: u32,
@@ -50,17 +51,79 @@ pub struct Timestamp {
     pub fraction: Fraction,
 }
 
-const TYPE_CODE: u8 = 0x60;
+// ---- the calendar
 
-const END_FLAG: u8 = 0x80;
+// In a year that is no leap year.
+const DAYS_IN_MONTH: [u32; 13] = [0, 31, 28, 31, 30, 31, 30, 31, 31, 30, 31, 30, 31];
 
-// Of a VarInt.
-const SIGN: u8 = 0x40;
+fn is_leap_year(year: u32) -> bool
+    ensures { λ r. ⌜ r ≡ isLeapYear year ⌝ }
+{
+    (year % 4 == 0) & ((year % 100 != 0) | (year % 400 == 0))
+}
 
-struct Date {
-    year: u32,
-    month: u32,
-    day: u32,
+// The days of a month of the Gregorian calendar; 0 for a month that is not.
+pub fn days_in_month(year: u32, month: u32) -> u32
+    ensures { λ r. ⌜ r ≡ daysInMonth year month ⌝ }
+{
+    if (month == 2) & is_leap_year(year) {
+        return 29;
+    }
+    if 12 < month {
+        return 0;
+    }
+    DAYS_IN_MONTH[month as usize]
+}
+
+// ---- check 7
+
+fn is_year(year: u32) -> bool
+    ensures { λ r. ⌜ r ≡ (leb 1 year && leb year 9999) ⌝ }
+{
+    (1 <= year) & (year <= 9999)
+}
+
+fn is_month(month: u32) -> bool
+    ensures { λ r. ⌜ r ≡ isMonth month ⌝ }
+{
+    (1 <= month) & (month <= 12)
+}
+
+// No day is one of a month that is not.
+fn is_day(year: u32, month: u32, day: u32) -> bool
+    ensures { λ r. ⌜ r ≡ (leb 1 day && leb day (daysInMonth year month)) ⌝ }
+{
+    (1 <= day) & (day <= days_in_month(year, month))
+}
+
+// How many fields count, from the year down.
+fn field_count(precision: Precision) -> u32
+    ensures { λ r. ⌜ r ≡ fieldCount precision ⌝ }
+{
+    match precision {
+        Precision::Year => 1,
+        Precision::Month => 2,
+        Precision::Day => 3,
+        Precision::Minute => 5,
+        Precision::Second => 6,
+    }
+}
+
+// That of the least i32 is 2 to the 31.
+fn offset_magnitude(minutes: i32) -> u32
+    ensures { λ r. ⌜ r ≡ natAbs minutes ⌝ }
+{
+    fields::sign::magnitude(minutes as i64) as u32
+}
+
+// Unknown, or -1439 to 1439 minutes at minute or second precision.
+fn offset_fits(offset: Offset, fields: u32) -> bool
+    ensures { λ r. ⌜ ((fs : List ℕ) → length fs ≡ fields → r ≡ offsetFits (offsetMinutes offset) fs) ⌝ }
+{
+    match offset {
+        Offset::Unknown => true,
+        Offset::Minutes(minutes) => (5 <= fields) & (offset_magnitude(minutes) <= 1439),
+    }
 }
 
 // Ten to each count of digits that a fraction may have.
@@ -86,77 +149,7 @@ const POWERS_OF_TEN: [u64; 19] = [
     1_000_000_000_000_000_000,
 ];
 
-// In a year that is no leap year.
-const DAYS_IN_MONTH: [u32; 13] = [0, 31, 28, 31, 30, 31, 30, 31, 31, 30, 31, 30, 31];
-
-fn is_leap_year(year: u32) -> bool
-    ensures { λ r. ⌜ r ≡ isLeapYear year ⌝ }
-{
-    (year % 4 == 0) & ((year % 100 != 0) | (year % 400 == 0))
-}
-
-// The days of a month of the Gregorian calendar; 0 for a month that is not.
-pub fn days_in_month(year: u32, month: u32) -> u32
-    ensures { λ r. ⌜ r ≡ daysInMonth year month ⌝ }
-{
-    if (month == 2) & is_leap_year(year) {
-        return 29;
-    }
-    if 12 < month {
-        return 0;
-    }
-    DAYS_IN_MONTH[month as usize]
-}
-
-fn is_year(year: u32) -> bool
-    ensures { λ r. ⌜ r ≡ (leb 1 year && leb year 9999) ⌝ }
-{
-    (1 <= year) & (year <= 9999)
-}
-
-fn is_month(month: u32) -> bool
-    ensures { λ r. ⌜ r ≡ isMonth month ⌝ }
-{
-    (1 <= month) & (month <= 12)
-}
-
-// A day of a month that is one.
-fn is_day(year: u32, month: u32, day: u32) -> bool
-    ensures { λ r. ⌜ r ≡ (leb 1 day && leb day (daysInMonth year month)) ⌝ }
-{
-    (1 <= day) & (day <= days_in_month(year, month))
-}
-
-// From the year down.
-fn field_count(precision: Precision) -> u32
-    ensures { λ r. ⌜ r ≡ fieldCount precision ⌝ }
-{
-    match precision {
-        Precision::Year => 1,
-        Precision::Month => 2,
-        Precision::Day => 3,
-        Precision::Minute => 5,
-        Precision::Second => 6,
-    }
-}
-
-fn offset_magnitude(minutes: i32) -> u32
-    ensures { λ r. ⌜ r ≡ natAbs minutes ⌝ }
-{
-    fields::sign::magnitude(minutes as i64) as u32
-}
-
-// Unknown, or -1439 to 1439 minutes with the minute given.
-fn offset_fits(offset: Offset, fields: u32) -> bool
-    ensures { λ r. ⌜ ((fs : List ℕ) → length fs ≡ fields → r ≡ offsetFits (offsetMinutes offset) fs) ⌝ }
-{
-    match offset {
-        Offset::Unknown => true,
-        Offset::Minutes(minutes) => (5 <= fields) & (offset_magnitude(minutes) <= 1439),
-    }
-}
-
-// At most 18 digits, which hold the coefficient.
+// At most 18 digits, and a coefficient below ten to their count.
 fn digits_hold(digits: u32, coefficient: u64) -> bool
     ensures { λ r. ⌜ r ≡ (leb digits 18 && ltb coefficient (10 ^ digits)) ⌝ }
 {
@@ -166,7 +159,7 @@ fn digits_hold(digits: u32, coefficient: u64) -> bool
     coefficient < POWERS_OF_TEN[digits as usize]
 }
 
-// None, or 1 to 18 digits with the second given.
+// None, or 1 to 18 digits at second precision.
 fn fraction_fits(fraction: Fraction, fields: u32) -> bool
     ensures { λ r. ⌜ ((fs : List ℕ) → length fs ≡ fields → r ≡ fractionFits (fractionDigits fraction) fs) ⌝ }
 {
@@ -178,8 +171,7 @@ fn fraction_fits(fraction: Fraction, fields: u32) -> bool
     }
 }
 
-// Check 7 of document 01's table: year 1 to 9999, a day of the calendar, hour, minute and second as far as the precision goes,
-// then the offset and the fraction.
+// Year 1 to 9999, a day of the calendar, hour 0 to 23, minute and second 0 to 59, as far as the precision goes; then offset and fraction.
 pub fn is_valid(t: Timestamp) -> bool
     ensures { λ r. ⌜ r ≡ isTimestamp (offsetMinutes (t .offset)) (fieldsOf t) (fractionDigits (t .fraction)) ⌝ }
 {
@@ -195,29 +187,22 @@ pub fn is_valid(t: Timestamp) -> bool
                         & (offset_fits(offset, fields) & fraction_fits(fraction, fields))))))
 }
 
+// ---- UTC: local minus offset
+
+// Year, month, day.
+struct Date(u32, u32, u32);
+
 fn day_before(year: u32, month: u32, day: u32) -> Date
     requires { ⌜ 1 ≤ year ⌝ }
     ensures { λ r. ⌜ dateOf r ≡ dayBefore year month day ⌝ }
 {
     if 1 < day {
-        return Date {
-            year: year,
-            month: month,
-            day: day - 1,
-        };
+        return Date(year, month, day - 1);
     }
     if 1 < month {
-        return Date {
-            year: year,
-            month: month - 1,
-            day: days_in_month(year, month - 1),
-        };
+        return Date(year, month - 1, days_in_month(year, month - 1));
     }
-    Date {
-        year: year - 1,
-        month: 12,
-        day: 31,
-    }
+    Date(year - 1, 12, 31)
 }
 
 fn day_after(year: u32, month: u32, day: u32) -> Date
@@ -225,24 +210,12 @@ fn day_after(year: u32, month: u32, day: u32) -> Date
     ensures { λ r. ⌜ dateOf r ≡ dayAfter year month day ⌝ }
 {
     if day < days_in_month(year, month) {
-        return Date {
-            year: year,
-            month: month,
-            day: day + 1,
-        };
+        return Date(year, month, day + 1);
     }
     if month < 12 {
-        return Date {
-            year: year,
-            month: month + 1,
-            day: 1,
-        };
+        return Date(year, month + 1, 1);
     }
-    Date {
-        year: year + 1,
-        month: 1,
-        day: 1,
-    }
+    Date(year + 1, 1, 1)
 }
 
 // 0 for the day before, 1 for the day itself, 2 for the day after.
@@ -252,16 +225,12 @@ fn near_day(which: u32, year: u32, month: u32, day: u32) -> Date
 {
     match which {
         0 => day_before(year, month, day),
-        1 => Date {
-            year: year,
-            month: month,
-            day: day,
-        },
+        1 => Date(year, month, day),
         _ => day_after(year, month, day),
     }
 }
 
-// Local minus offset, in minutes from the start of the day before.
+// In minutes from the start of the day before.
 fn utc_minutes(offset: i32, hour: u32, minute: u32) -> u32
     requires { ⌜ (natAbs offset ≤ 1439) × (hour < 24) × (minute < 60) ⌝ }
     ensures { λ r. ⌜ r ≡ utcMinutes offset hour minute ⌝ }
@@ -274,7 +243,7 @@ fn utc_minutes(offset: i32, hour: u32, minute: u32) -> u32
     local - distance
 }
 
-// The fields of the minute that lies so many minutes behind the start of the day before.
+// The fields of the minute that is so many minutes behind the start of the day before.
 fn at_minute(t: Timestamp, minutes: u32) -> Timestamp
     requires { ⌜ (1 ≤ t .year) × (t .year ≤ 9999) ⌝ }
     ensures { λ r. ⌜ r ≡ withFields t (utcFields minutes (t .year) (t .month) (t .day) []) ⌝ }
@@ -284,19 +253,19 @@ fn at_minute(t: Timestamp, minutes: u32) -> Timestamp
     let offset = t.offset;
     let fraction = t.fraction;
     Timestamp {
-        precision: precision,
-        year: day.year,
-        month: day.month,
-        day: day.day,
+        precision,
+        year: day.0,
+        month: day.1,
+        day: day.2,
         hour: minutes % 1440 / 60,
         minute: minutes % 1440 % 60,
         second: t.second,
-        offset: offset,
-        fraction: fraction,
+        offset,
+        fraction,
     }
 }
 
-// Of a timestamp that passes check 7.
+// Given that check 7 is passed. With no offset known the fields stay.
 fn utc_of_valid(t: Timestamp) -> Timestamp
     requires { ⌜ isTimestamp (offsetMinutes (t .offset)) (fieldsOf t) (fractionDigits (t .fraction)) ≡ true ⌝ }
     ensures { λ r. ⌜ r ≡ withFields t (utc (offsetMinutes (t .offset)) (fieldsOf t)) ⌝ }
@@ -308,7 +277,7 @@ fn utc_of_valid(t: Timestamp) -> Timestamp
     }
 }
 
-// The UTC fields in the place of the local ones, with the offset kept; a timestamp that does not pass check 7 stays as it is.
+// The UTC fields in the place of the local ones, and the offset kept. A timestamp that does not pass check 7 stays as it is.
 pub fn to_utc(t: Timestamp) -> Timestamp
     ensures { λ r. ⌜ r ≡ utcOf t ⌝ }
 {
@@ -317,6 +286,15 @@ pub fn to_utc(t: Timestamp) -> Timestamp
     }
     utc_of_valid(t)
 }
+
+// ---- the bytes
+
+const TYPE_CODE: u8 = 0x60;
+
+const END_FLAG: u8 = 0x80;
+
+// In the first byte of a VarInt.
+const SIGN: u8 = 0x40;
 
 fn put_two(buf: &mut [u8], at: usize, first: u8, second: u8) -> usize
     ensures { λ r. ⌜ _≡_ {A = ℕ × List ℕ} (r, now (buf .exit)) (placed (now (buf .entry)) at (first ∷ second ∷ [])) ⌝ }
@@ -338,7 +316,7 @@ fn sign_bit(negative: bool) -> u8
     0
 }
 
-// A VarInt: one byte below 64, two below 8192.
+// A VarInt below 8192: one byte below 64, else two.
 fn put_var_int(buf: &mut [u8], at: usize, negative: bool, magnitude: u32) -> usize
     requires { ⌜ magnitude < 8192 ⌝ }
     ensures { λ r. ⌜ _≡_ {A = ℕ × List ℕ} (r, now (buf .exit)) (placed (now (buf .entry)) at (varIntBytes (signed negative magnitude))) ⌝ }
@@ -355,7 +333,7 @@ fn put_var_int(buf: &mut [u8], at: usize, negative: bool, magnitude: u32) -> usi
     )
 }
 
-// Unknown is negative zero.
+// The offset as a VarInt. Unknown is negative zero.
 fn put_offset(buf: &mut [u8], at: usize, offset: Offset) -> usize
     requires { ⌜ SmallOffset (offsetMinutes offset) ⌝ }
     ensures { λ r. ⌜ _≡_ {A = ℕ × List ℕ} (r, now (buf .exit)) (placed (now (buf .entry)) at (offsetBytes (offsetMinutes offset))) ⌝ }
@@ -366,7 +344,7 @@ fn put_offset(buf: &mut [u8], at: usize, offset: Offset) -> usize
     }
 }
 
-// A VarUInt: one byte below 128, two below 16384.
+// The year as a VarUInt: one byte below 128, else two.
 fn put_year(buf: &mut [u8], at: usize, year: u32) -> usize
     requires { ⌜ year < 16384 ⌝ }
     ensures { λ r. ⌜ _≡_ {A = ℕ × List ℕ} (r, now (buf .exit)) (placed (now (buf .entry)) at (varUIntBytes year)) ⌝ }
@@ -377,7 +355,7 @@ fn put_year(buf: &mut [u8], at: usize, year: u32) -> usize
     put_two(buf, at, (year / 128) as u8, END_FLAG + (year % 128) as u8)
 }
 
-// The first `count` of the fields from the month down, a byte each.
+// The first `count` fields below the year as VarUInts: a byte each.
 fn put_small(
     buf: &mut [u8],
     at: usize,
@@ -414,7 +392,7 @@ fn put_small(
     5
 }
 
-// An exponent below zero in one byte, then the coefficient as an Int.
+// A decimal's body: the exponent, below zero, in one byte, then the coefficient as an Int.
 fn put_fraction(buf: &mut [u8], at: usize, fraction: Fraction) -> usize
     requires { ⌜ SmallFraction (fractionDigits fraction) × (at + length (fractionBytes (fractionDigits fraction)) ≤ length (now buf)) ⌝ }
     ensures { λ r. ⌜ _≡_ {A = ℕ × List ℕ} (r, now (buf .exit)) (placed (now (buf .entry)) at (fractionBytes (fractionDigits fraction))) ⌝ }
@@ -466,6 +444,7 @@ fn body_size(t: Timestamp) -> usize
         + (year_size(t.year) + (field_count(precision) as usize - 1) + fraction_size(fraction))
 }
 
+// Offset, UTC fields, fraction.
 fn put_body(buf: &mut [u8], at: usize, t: Timestamp) -> usize
     requires { ⌜ Small t × (at + length (bodyOf t) ≤ length (now buf)) ⌝ }
     ensures { λ r. ⌜ _≡_ {A = ℕ × List ℕ} (r, now (buf .exit)) (placed (now (buf .entry)) at (bodyOf t)) ⌝ }
@@ -511,7 +490,7 @@ fn put_value(buf: &mut [u8], at: usize, t: Timestamp) -> usize
     header + put_body(buf, at + header, t)
 }
 
-// The bytes that t takes, header and body, where they are at most `room`; none for one that does not pass check 7.
+// The bytes that `t` takes, header and body, where they are at most `room`; none where it does not pass check 7.
 pub fn size(t: Timestamp, room: usize) -> usize
     ensures { λ r. ⌜ r ≡ fitted room (checkedBytes (argumentOf t)) ⌝ }
 {
@@ -525,8 +504,8 @@ pub fn size(t: Timestamp, room: usize) -> usize
     size
 }
 
-// 6 and the length of the body; the body is the offset as a VarInt, the UTC fields as VarUInts, then any fraction as a decimal's body.
-// Nothing is put for a timestamp that does not pass check 7.
+// Header and body: the offset as a VarInt, the UTC fields as VarUInts, then any fraction as a decimal's body.
+// Nothing is put where `t` does not pass check 7. Check 9 refuses none: a body has at most 18 bytes.
 pub fn write(buf: &mut [u8], at: usize, t: Timestamp) -> usize
     ensures { λ r. ⌜ _≡_ {A = ℕ × List ℕ} (r, now (buf .exit)) (placed (now (buf .entry)) at (checkedBytes (argumentOf t))) ⌝ }
 {

@@ -1,26 +1,24 @@
 -- `decimal::body_size` meets its contract: no body for positive zero with exponent 0, else the lengths of exponent and coefficient.
 -- Assumes nothing.
-use mathlib.Core.Path.{_≡_, sym, ap, _∙_}
+use mathlib.Core.Path.{_≡_}
 use mathlib.Core.Bool.{false}
-use Prim.Native.Nat.{_+_, _≤_}
+use Prim.Native.Nat.{_+_}
 use native.Mathlib.Omega.{arith}
 use lib.ListN.{length, length-append}
 use lib.IntN.{natAbs}
 use mir.Syntax.{w64}
 use mir.ValLaws.{toZ-ofZ}
-use Rattle.ion.specs.Value.{signed}
 use Rattle.encoding.specs.Fields.{varIntBytes, signedOf, trimmed, intBytes}
 use Rattle.encoding.specs.Decimal.{decimalBody}
-use Rattle.fields.proofs.Trimmed.{length-trimmed}
-use Rattle.fields.proofs.Signs.{int-most, signedOf-is}
+use Rattle.fields.proofs.Signs.{int-trimmed-most, signedOf-is}
 use Rattle.fields.proofs.Sizes.{varInt-most, length-varInt-sign}
 use Rattle.decimal.proofs.Decimals.{decimalBody-none, decimalBody-some}
 use borrow.Author.Needs.{needs}
 use Rattle.decimal.proofs.body_size.Statement.{statement}
 use Rattle.decimal.proofs.body_size.Tie as tie
 
-distance : (c : tie.After-magnitude) → c .magnitude .result ≡ natAbs (c .before .before .before .args .exponent)
-distance c = rw (c .magnitude .ensures, toZ-ofZ w64 (c .before .before .before .args .exponent) (c .before .before .before .fits .exponent))
+scale : (c : tie.After-magnitude) → c .magnitude .result ≡ natAbs (c .before .before .before .args .exponent)
+scale c = rw (c .magnitude .ensures, toZ-ofZ w64 (c .before .before .before .args .exponent) (c .before .before .before .fits .exponent))
 
 body : (c : tie.After-encoded-size-of2) →
     let m = c .before .before in
@@ -29,7 +27,7 @@ body : (c : tie.After-encoded-size-of2) →
 body c =
     let m = c .before .before in
     let a = m .before .before .before .args in
-    rw (decimalBody-some (a .negative) (a .magnitude .now) (a .exponent) (rw (← (distance m), ← (m .before .encoded-size-of .ensures)) (c .before .if1 .left)), length-append (varIntBytes (signedOf (a .exponent))) (intBytes (a .negative) (trimmed (a .magnitude .now))), signedOf-is (a .exponent), length-varInt-sign _ (natAbs (a .exponent)), ← (distance m), c .encoded-size-of2 .ensures, m .before .encoded-size-of .ensures)
+    rw (decimalBody-some (a .negative) (a .magnitude .now) (a .exponent) (rw (← (scale m), ← (m .before .encoded-size-of .ensures)) (c .before .if1 .left)), length-append (varIntBytes (signedOf (a .exponent))) (intBytes (a .negative) (trimmed (a .magnitude .now))), signedOf-is (a .exponent), length-varInt-sign _ (natAbs (a .exponent)), ← (scale m), c .encoded-size-of2 .ensures, m .before .encoded-size-of .ensures)
 
 encoded-size-of-requires : tie.Need-encoded-size-of-requires
 encoded-size-of-requires c κs = search needs
@@ -41,7 +39,7 @@ returns : tie.Need-returns
 returns c =
     let m = c .before in
     let a = m .before .before .before .args in
-    rw (decimalBody-none (a .negative) (a .magnitude .now) (a .exponent) (rw (← (distance m), ← (m .before .encoded-size-of .ensures)) (c .if1 .taken)))
+    rw (decimalBody-none (a .negative) (a .magnitude .now) (a .exponent) (rw (← (scale m), ← (m .before .encoded-size-of .ensures)) (c .if1 .taken)))
 
 encoded-size-of-requires-2 : tie.Need-encoded-size-of-requires-2
 encoded-size-of-requires-2 c κs = search needs
@@ -51,7 +49,7 @@ add-size c =
     let m = c .before .before in
     let s = m .before .before .before in
     let magnitude = s .args .magnitude .now in
-    omega (arith, c .encoded-size-of2 .ensures, m .before .encoded-size-of .ensures, varInt-most false (m .magnitude .result) (omega (arith, m .magnitude .ok)), int-most (s .args .negative) (trimmed magnitude), length-trimmed magnitude, s .good .1 .0 .1)
+    omega (arith, c .encoded-size-of2 .ensures, m .before .encoded-size-of .ensures, varInt-most false (m .magnitude .result) (omega (arith, m .magnitude .ok)), int-trimmed-most (s .args .negative) magnitude, s .good .1 .0 .1)
 
 add-result : tie.Need-add-result
 add-result c = search needs

@@ -1,8 +1,8 @@
 -- `decimal::write` meets its contract: nothing where check 8 refuses or the room is short, else header and body side by side.
 -- Assumes nothing.
-use Rattle.decimal.proofs.Values.{header-count, body-room, placed-framed, value-count}
+use Rattle.decimal.proofs.Values.{body-room, placed-framed, value-count}
 use mathlib.Core.Path.{_≡_, sym, _∙_}
-use Prim.Native.Nat.{ℕ, _+_, _≤_, _<_, min}
+use Prim.Native.Nat.{ℕ, _+_, _≤_, min}
 use native.Mathlib.Omega.{arith}
 use lib.ListN.{length}
 use mir.Syntax.{w64}
@@ -13,8 +13,7 @@ use mathlib.Core.List.{List}
 use Rattle.ion.specs.Value.{decimalCode}
 use Rattle.encoding.specs.Headers.{typeByte, headerBytes}
 use Rattle.buffer.specs.Laid.{placed}
-use Rattle.buffer.proofs.Laid.{placed-nil, placed-full, placed-count, placed-length, no-room, room}
-use Rattle.fields.proofs.Headers.{length-header}
+use Rattle.buffer.proofs.Laid.{placed-nil, placed-full, no-room, room}
 use Rattle.decimal.proofs.Decimals.{refused, body-length, accepted, value-length, value-fits}
 use borrow.Author.Needs.{needs}
 use Rattle.decimal.proofs.write.Statement.{statement}

@@ -1,6 +1,7 @@
 -- `timestamp::at_minute` meets its contract, by what `near_day` ensures.
 -- Assumes nothing.
 use borrow.Author.Needs.{needs}
+use Rattle.timestamp.specs.Utc.{withFields}
 use Rattle.timestamp.proofs.at_minute.Statement.{statement}
 use Rattle.timestamp.proofs.at_minute.Tie as tie
 
@@ -8,6 +9,7 @@ near-day-requires : tie.Need-near-day-requires
 near-day-requires c κs = search needs
 
 returns : tie.Need-returns
+unfolding withFields
 returns c = rw (← c .near-day .ensures)
 
 pub at-minute-spec : {M : Type 1} → statement M

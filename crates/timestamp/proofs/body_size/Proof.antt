@@ -1,7 +1,5 @@
 -- `timestamp::body_size` meets its contract: the sum of the parts.
 -- Assumes nothing.
-use mathlib.Core.Path.{_≡_}
-use Prim.Native.Nat.{_≤_, _<_}
 use native.Mathlib.Omega.{arith}
 use Rattle.timestamp.proofs.Body.{fieldCount-between, year-small, offset-length, year-length, fraction-length, body-length}
 use borrow.Author.Needs.{needs}

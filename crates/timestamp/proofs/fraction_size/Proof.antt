@@ -1,6 +1,5 @@
 -- `timestamp::fraction_size` meets its contract: a byte for the exponent and those of the coefficient.
 -- Assumes nothing.
-use mathlib.Core.Path.{_≡_}
 use Prim.Native.Nat.{_≤_, _<_, _^_}
 use native.Mathlib.Omega.{arith}
 use native.Mathlib.Numerals.{add-one}

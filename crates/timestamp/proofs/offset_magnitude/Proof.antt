@@ -3,7 +3,6 @@
 use mathlib.Core.Path.{_≡_}
 use mir.Syntax.{w32, w64}
 use mir.ValLaws.{toZ-ofZ}
-use native.Mathlib.Omega.{arith}
 use lib.IntN.{natAbs}
 use Rattle.timestamp.proofs.Signed.{widened, natAbs-fits}
 use borrow.Author.Needs.{needs}

@@ -8,12 +8,11 @@ use mathlib.Core.List.{List, [], _∷_}
 use lib.ListN.{length}
 use Rattle.encoding.specs.Fields.{uintBytes, intBytes}
 use Rattle.encoding.specs.Timestamp.{fractionBytes}
-use Rattle.timestamp.specs.declared.Fraction.{Fraction}
 use Rattle.timestamp.specs.Arguments.{fractionDigits}
 use mathlib.Core.Path.{_≡_, sym}
 use Prim.Native.Nat.{_≤_, _<_, _^_}
 use native.Mathlib.Omega.{arith}
-use Rattle.buffer.proofs.Laid.{placed-nil, placed-then, placed-count, placed-length}
+use Rattle.buffer.proofs.Laid.{placed-nil, placed-then, placed-count}
 use Rattle.timestamp.proofs.Fractions.{fractionBytes-is}
 use borrow.Author.Needs.{needs}
 use Rattle.timestamp.proofs.put_fraction.Statement.{statement}

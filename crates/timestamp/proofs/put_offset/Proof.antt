@@ -1,7 +1,6 @@
 -- `timestamp::put_offset` meets its contract: the offset is its sign and its magnitude.
 -- Assumes nothing.
 use Prim.Native.Nat.{_<_}
-use native.Mathlib.Omega.{arith}
 use lib.IntN.{natAbs}
 use mir.Syntax.{w32}
 use mir.Val.{ofZ, toZ}

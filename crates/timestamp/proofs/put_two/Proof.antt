@@ -1,6 +1,6 @@
 -- `timestamp::put_two` meets its contract: two stores are one run.
 -- Assumes nothing.
-use mathlib.Core.Path.{_≡_, refl, sym}
+use mathlib.Core.Path.{refl, sym}
 use mathlib.Core.List.{[], _∷_}
 use Prim.Native.Nat.{_+_, _≤_}
 use native.Mathlib.Omega.{arith}

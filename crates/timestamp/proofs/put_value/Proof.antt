@@ -1,6 +1,6 @@
 -- `timestamp::put_value` meets its contract: nothing where the room is short, else header and body side by side.
 -- Assumes nothing.
-use mathlib.Core.Path.{_≡_, sym, _∙_}
+use mathlib.Core.Path.{_≡_, sym}
 use mathlib.Core.List.{List}
 use Prim.Native.Nat.{ℕ, _+_, _≤_}
 use native.Mathlib.Omega.{arith}
@@ -85,6 +85,7 @@ same-length : tie.Need-same-length
 same-length c = search needs
 
 returns-2 : tie.Need-returns-2
+unfolding valueOf
 returns-2 c =
     let v = c .before .before in
     let w = v .before .before .before .before in

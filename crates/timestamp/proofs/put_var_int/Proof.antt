@@ -1,6 +1,5 @@
 -- `timestamp::put_var_int` meets its contract: the magnitude is of one byte or of two.
 -- Assumes nothing.
-use mathlib.Core.Path.{_≡_}
 use Rattle.timestamp.proofs.Bytes.{varInt-one, varInt-two}
 use borrow.Author.Needs.{needs}
 use Rattle.timestamp.proofs.put_var_int.Statement.{statement}

@@ -1,13 +1,13 @@
 -- `timestamp::size` meets its contract: none where check 7 refuses, else header and body of the UTC fields.
 -- Assumes nothing.
 use mathlib.Core.Path.{_≡_, sym, _∙_, ap}
-use mathlib.Core.Bool.{true, false}
+use mathlib.Core.Bool.{true}
 use borrow.Author.Tests.{not-true, not-false}
 use lib.ListN.{length}
-use Rattle.encoding.specs.Timestamp.{utc, isTimestamp}
+use Rattle.encoding.specs.Timestamp.{isTimestamp}
 use Rattle.encoding.specs.Argument.{checkedBytes}
 use Rattle.timestamp.specs.Arguments.{offsetMinutes, fractionDigits, fieldsOf, argumentOf}
-use Rattle.timestamp.specs.Small.{Small, valueOf}
+use Rattle.timestamp.specs.Small.{Small}
 use Rattle.timestamp.proofs.Small.{utc-small}
 use Rattle.timestamp.proofs.Checked.{accepted, refused}
 use Rattle.decimal.proofs.Values.{fitted-fits, fitted-full, fitted-nil}

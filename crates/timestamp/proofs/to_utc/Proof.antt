@@ -1,6 +1,6 @@
 -- `timestamp::to_utc` meets its contract, by the cases of `utcOf`.
 -- Assumes nothing.
-use mathlib.Core.Path.{_≡_, sym, _∙_}
+use mathlib.Core.Path.{sym, _∙_}
 use borrow.Author.Tests.{not-true, not-false}
 use Rattle.timestamp.proofs.Utc.{utcOf-valid, utcOf-other}
 use borrow.Author.Needs.{needs}
