@@ -16,6 +16,7 @@ use Rattle.buffer.proofs.Laid.{laid-one, laid-snoc, laid-more}
 use Rattle.machine.specs.declared.Container.{Container}
 use Rattle.machine.specs.declared.State.{State}
 use Rattle.machine.specs.Machine.{noContainer, innermostFirst, openContainers, isOpen, inStruct, outer, fits, emptyState, accepted, refused, usedIf, finishedLength}
+use Rattle.place.proofs.Finished.{unfinished-unfit}
 use Rattle.place.proofs.Laws.{innermost-step, innermost-none, open-of}
 use Rattle.state_bytes.specs.StateBytes.{four, placeOf, containerAt, containersFrom, stateOf, lentFits, lentPlace, fourBytes, flag, storedHead, storedContainer}
 
@@ -146,10 +147,6 @@ unstored-past b i c h k = rw (eq-eqb (length b) 296 h, le-ltb i 32 k, storedCont
 
 -- ---- the finished length
 
-pub unfinished-long : (s : State) (room : ℕ) → 16777215 < room → 0 ≡ finishedLength s room
-unfolding finishedLength
-unfinished-long s room h = rw (lt-leb room 16777215 h)
-
 empty-finished : (room : ℕ) → 0 ≡ finishedLength (emptyState 0) room
 unfolding finishedLength
 empty-finished room = of-test (leb room 16777215 && (fits (emptyState 0) room && true))
@@ -158,30 +155,9 @@ empty-finished room = of-test (leb room 16777215 && (fits (emptyState 0) room &&
     of-test true = refl
     of-test false = refl
 
-pub unfinished-unfit : (b : List ℕ) (room : ℕ) → lentFits b room ≡ false → 0 ≡ finishedLength (stateOf b) room
+pub unfinished-lent : (b : List ℕ) (room : ℕ) → lentFits b room ≡ false → 0 ≡ finishedLength (stateOf b) room
 unfolding finishedLength
-unfinished-unfit b room e =
+unfinished-lent b room e =
     by-cases (eqb (length b) 296)
-    (λ p. let f : fits (stateOf b) room ≡ false = rw p at e in rw (f, and-false))
+    (λ p. let f : fits (stateOf b) room ≡ false = rw p at e in unfinished-unfit (stateOf b) room f)
     (λ p. rw (state-none b (λ q. eqb-false (length b) 296 p q)) (unfold finishedLength in (empty-finished room)))
-
--- a container is open, or a name waits
-pub unfinished-open : (s : State) (room : ℕ) → (not (eqb (s .depth) 0) || s .waiting) ≡ true → 0 ≡ finishedLength s room
-unfolding finishedLength
-unfinished-open s room e = of-tests (leb room 16777215) (fits s room) (isOpen (openContainers s)) (s .waiting) (rw (open-of (s .containers) (s .depth)) at e)
-  where
-    of-tests : (a b o w : Bool) → (o || w) ≡ true → _≡_ {A = ℕ} 0 (usedIf (a && (b && (not o && not w))) (s .used))
-    of-tests true true true w h = refl
-    of-tests true true false true h = refl
-    of-tests true true false false h = absurd (false≢true h)
-    of-tests true false o w h = refl
-    of-tests false b o w h = refl
-
-pub finished-all : (s : State) (room : ℕ) → room ≤ 16777215 → fits s room ≡ true → (not (eqb (s .depth) 0) || s .waiting) ≡ false → s .used ≡ finishedLength s room
-unfolding finishedLength
-finished-all s room h f e = rw (le-leb room 16777215 h, f) (of-tests (isOpen (openContainers s)) (s .waiting) (rw (open-of (s .containers) (s .depth)) at e))
-  where
-    of-tests : (o w : Bool) → (o || w) ≡ false → s .used ≡ usedIf (not o && not w) (s .used)
-    of-tests true w h = absurd (true≢false h)
-    of-tests false true h = absurd (true≢false h)
-    of-tests false false h = refl

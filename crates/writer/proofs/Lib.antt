@@ -1,3 +1,4 @@
 pub mod Containers
 pub mod Run
 pub mod Scalars
+pub mod Started

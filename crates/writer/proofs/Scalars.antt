@@ -1,16 +1,24 @@
 -- A scalar call by how far it gets: refused by place, by one of its own checks or for room, or put at the end of the used bytes.
 -- Assumes nothing.
-use Prim.Native.Nat.{ℕ, _+_, _<_}
+use Prim.Native.Nat.{ℕ, _+_, _<_, _≤_, min}
 use native.Mathlib.Omega.{arith}
 use mathlib.Core.Path.{_≡_, refl, sym, _∙_, ap}
-use mathlib.Core.Bool.{true, false}
+use mathlib.Core.Bool.{Bool, true, false, _&&_}
 use mathlib.Core.List.{List, [], _∷_, _++_}
 use lib.Dec.{eqb, ltb}
-use lib.IntN.{pos, negsuc}
+use lib.IntN.{ℤ, pos, negsuc}
 use lib.ListN.{length, length-append}
-use borrow.Author.Tests.{eqb-true, eqb-false}
+use borrow.Author.Tests.{eqb-true, eqb-false, le-ltb, lt-ltb}
 use Rattle.ion.specs.Value.{positiveCode, negativeCode, decimalCode, timestampCode, symbolCode, stringCode, clobCode, blobCode}
 use Rattle.ion.proofs.Tests.{by-cases}
+use Rattle.ion.specs.Fields.{uint}
+use Rattle.ion.specs.Text.{utf8}
+use Rattle.encoding.specs.Decimal.{decimalBody}
+use Rattle.encoding.specs.Timestamp.{isTimestamp, timestampBody}
+use Rattle.timestamp.specs.declared.Timestamp.{Timestamp}
+use Rattle.timestamp.specs.Arguments.{argumentOf, offsetMinutes, fractionDigits, fieldsOf}
+use Rattle.timestamp.proofs.Checked.{timestampBody-most}
+use Rattle.values.specs.Values.{annotatedChecked}
 use Rattle.encoding.specs.Headers.{typeByte, framedBytes, annotatedBytes}
 use Rattle.encoding.specs.Argument.{Argument, writeNull, writeBool, writeI64, writeInt, writeF32, writeF64, writeDecimal, writeTimestamp, writeSymbol, writeString, writeClob, writeBlob, float32Bytes, narrows, float64Bytes, argumentBytes, argumentChecks, anyHolds}
 use Rattle.encoding.proofs.Headers.{annotated-longer}
@@ -78,7 +86,7 @@ module _ (an : List ℕ) (a : Argument) (s : State) (b out : List ℕ) (n : ℕ)
   unaltered : n ≡ 0 → l ≡ b
   unaltered z = by-cases (anyHolds (argumentChecks a)) (λ t. nothing-put t .1) (λ t. unfit z t .1)
 
-  scalar-refused : (why : Refusal) → n ≡ 0 → refused (number why) ≡ ownRefusal a → outcome (refused (number why)) s l ≡ run (write an a) s b
+  pub scalar-refused : (why : Refusal) → n ≡ 0 → refused (number why) ≡ ownRefusal a → outcome (refused (number why)) s l ≡ run (write an a) s b
   scalar-refused why z r =
       ap (outcome (refused (number why)) s) (unaltered z)
       ∙ sym (run-refused (write an a) s b (number why) (past ∙ own-refusal a (s .used + length (annotatedBytes an (argumentBytes a))) (length b) (λ t. unfit z t .0) ∙ sym r))
@@ -101,3 +109,52 @@ module _ (an : List ℕ) (a : Argument) (s : State) (b out : List ℕ) (n : ℕ)
       only-room : anyHolds (argumentChecks a) ≡ false
           → firstFailing (argumentChecks a ++ ((ltb (length b) (s .used + length (annotatedBytes an (argumentBytes a))), 10) ∷ [])) ≡ firstFailing ((ltb (length b) (s .used + length (annotatedBytes an (argumentBytes a))), 10) ∷ [])
       only-room t = own-only a ((ltb (length b) (s .used + length (annotatedBytes an (argumentBytes a))), 10) ∷ []) t
+
+-- ---- what a leaf puts
+
+module _ (an : List ℕ) (a : Argument) where
+  pub checked-none : anyHolds (argumentChecks a) ≡ true → annotatedChecked an a ≡ []
+  unfolding annotatedChecked
+  checked-none e = rw (e, annotatedChecked)
+
+  pub checked-some : anyHolds (argumentChecks a) ≡ false → annotatedChecked an a ≡ annotatedBytes an (argumentBytes a)
+  unfolding annotatedChecked
+  checked-some e = rw (e, annotatedChecked)
+
+-- ---- why a leaf put none
+
+module _ (negative : Bool) (m : List ℕ) where
+  pub int-negative-zero : (negative && eqb (uint m) 0) ≡ true → refused 5 ≡ ownRefusal (writeInt negative m)
+  unfolding ownRefusal
+  int-negative-zero e = rw e
+
+  pub int-otherwise : (negative && eqb (uint m) 0) ≡ false → refused 10 ≡ ownRefusal (writeInt negative m)
+  unfolding ownRefusal
+  int-otherwise e = rw e
+
+-- n is the length of the body, up to 33
+module _ (negative : Bool) (m : List ℕ) (z : ℤ) (n : ℕ) (q : n ≡ min 33 (length (decimalBody negative m z))) where
+  pub decimal-long : 32 < n → refused 8 ≡ ownRefusal (writeDecimal negative m z)
+  unfolding ownRefusal
+  decimal-long h = let g : 32 < length (decimalBody negative m z) = omega (arith, q, h) in rw (lt-ltb 32 (length (decimalBody negative m z)) g)
+
+  pub decimal-short : n ≤ 32 → refused 10 ≡ ownRefusal (writeDecimal negative m z)
+  unfolding ownRefusal
+  decimal-short h = let g : length (decimalBody negative m z) ≤ 32 = omega (arith, q, h) in rw (le-ltb 32 (length (decimalBody negative m z)) g)
+
+module _ (t : Timestamp) where
+  pub timestamp-bad : isTimestamp (offsetMinutes (t .offset)) (fieldsOf t) (fractionDigits (t .fraction)) ≡ false → refused 7 ≡ ownRefusal (argumentOf t)
+  unfolding ownRefusal
+  timestamp-bad e = rw e
+
+  pub timestamp-good : isTimestamp (offsetMinutes (t .offset)) (fieldsOf t) (fractionDigits (t .fraction)) ≡ true → refused 10 ≡ ownRefusal (argumentOf t)
+  unfolding ownRefusal
+  timestamp-good e = rw (e, le-ltb 32 (length (timestampBody (offsetMinutes (t .offset)) (fieldsOf t) (fractionDigits (t .fraction)))) (omega (arith, timestampBody-most t e)))
+
+pub string-bad : (b : List ℕ) → utf8 b ≡ false → refused 6 ≡ ownRefusal (writeString b)
+unfolding ownRefusal
+string-bad b e = rw e
+
+pub string-good : (b : List ℕ) → utf8 b ≡ true → refused 10 ≡ ownRefusal (writeString b)
+unfolding ownRefusal
+string-good b e = rw e

@@ -4,7 +4,8 @@ use mathlib.Core.Path.{sym, _∙_}
 use native.Mathlib.Omega.{arith}
 use borrow.Author.Tests.{not-true, not-false}
 use Rattle.state_bytes.specs.StateBytes.{stateOf}
-use Rattle.state_bytes.proofs.Laws.{fits-lent, unfinished-long, unfinished-unfit, unfinished-open, finished-all}
+use Rattle.state_bytes.proofs.Laws.{fits-lent, unfinished-lent}
+use Rattle.place.proofs.Finished.{unfinished-long, unfinished-open, finished-all}
 use borrow.Author.Needs.{needs}
 use Rattle.state_bytes.proofs.finished_length.Statement.{statement}
 use Rattle.state_bytes.proofs.finished_length.Tie as tie
@@ -16,7 +17,7 @@ fits-requires : tie.Need-fits-requires
 fits-requires c κs = search needs
 
 returns-2 : tie.Need-returns-2
-returns-2 c = let a = c .before .before .before .before .args in unfinished-unfit (a .st .now) (a .room) (sym (c .before .fits2 .ensures) ∙ not-true _ (c .if2 .taken))
+returns-2 c = let a = c .before .before .before .before .args in unfinished-lent (a .st .now) (a .room) (sym (c .before .fits2 .ensures) ∙ not-true _ (c .if2 .taken))
 
 depth-requires : tie.Need-depth-requires
 depth-requires c κs = search needs

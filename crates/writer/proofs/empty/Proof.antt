@@ -1,20 +1,13 @@
 -- `writer::empty` meets its contract: refused by place, or the used length alone alters.
 -- Assumes nothing.
-use Prim.Native.Nat.{_+_}
 use native.Mathlib.Omega.{arith}
-use mathlib.Core.Path.{_≡_, refl, sym, _∙_, ap}
-use mathlib.Core.Bool.{Bool, true, false, not, _||_}
-use mathlib.Core.List.{List, [], _∷_}
+use mathlib.Core.Path.{refl, sym, _∙_}
+use mathlib.Core.List.{[], _∷_}
 use lib.Dec.{ltb}
 use lib.ListN.{length}
-use Rattle.encoding.specs.Fields.{varUIntBytes}
-use Rattle.encoding.specs.Headers.{markerBytes}
-use Rattle.fields.proofs.Sizes.{varUInt-least}
-use Rattle.machine.specs.Call.{name, versionMarker, emptying}
-use Rattle.machine.specs.Machine.{openContainers, isOpen, inStruct}
-use Rattle.machine.specs.Numbers.{outcomeOf}
-use Rattle.machine.specs.declared.Written.{Written}
-use Rattle.writer.proofs.Run.{refused-place, passed-place, put-fits, end-run, ended-none, ended-some, run-accepted, config}
+use Rattle.machine.specs.Call.{emptying}
+use Rattle.machine.specs.Machine.{openContainers, isOpen}
+use Rattle.writer.proofs.Run.{refused-place, passed-place, run-accepted}
 use borrow.Author.Tests.{le-ltb}
 use borrow.Author.Needs.{needs}
 use Rattle.writer.proofs.empty.Statement.{statement}
