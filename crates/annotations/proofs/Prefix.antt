@@ -1,7 +1,7 @@
 -- The laws of a wrapper's prefix: an annotated value is its prefix and the value, and so a prefix and a value that are placed one behind the other.
 -- By the law of two placed runs. Assumes nothing.
 use mathlib.Core.Path.{_≡_, refl, sym, _∙_, ap}
-use mathlib.Core.List.{List, [], _∷_, _++_, append-assoc}
+use mathlib.Core.List.{List, _∷_, _++_, append-assoc}
 use Prim.Native.Nat.{ℕ, _+_, _≤_, _<_}
 use native.Mathlib.Omega.{arith}
 use lib.ListN.{length, length-append}

@@ -1,16 +1,16 @@
 -- The laws of a splice: it is a run laid at its place and zeros behind it, up to the old used length; at the used length it is the run alone.
 -- By the laws of laid bytes. Assumes nothing.
 use mathlib.Core.Path.{_≡_, refl, sym, _∙_, ap}
-use mathlib.Core.List.{List, [], _∷_, _++_, append-assoc}
-use Prim.Native.Nat.{ℕ, zero, suc, _+_, _-_, _≤_, _<_, max}
+use mathlib.Core.List.{List, [], _++_, append-assoc}
+use Prim.Native.Nat.{ℕ, _+_, _-_, _≤_, _<_, max}
 use native.Mathlib.Omega.{arith}
 use lib.ListN.{length, take, drop, replicate, length-append, length-replicate}
 use borrow.Author.Tests.{le-leb, lt-leb}
 use Rattle.encoding.specs.Headers.{headerBytes, framedBytes}
 use Rattle.machine.specs.Machine.{splice}
 use Rattle.buffer.specs.Laid.{laid}
-use Rattle.buffer.proofs.Laid.{laid-is, laid-nil, laid-more, laid-before}
-use Rattle.fields.proofs.Headers.{length-header}
+use Rattle.buffer.proofs.Laid.{laid-is, laid-more, laid-before}
+use Rattle.fields.proofs.Headers.{length-header, header-least}
 use Rattle.containers.specs.Containers.{spliced}
 
 -- ---- two runs side by side, the second at a place that the code computes
@@ -24,7 +24,7 @@ module _ (b : List ℕ) (at : ℕ) (xs ys : List ℕ) (n : ℕ) (e : n ≡ at + 
 
 -- ---- a splice
 
-abbrev zeros : ℕ → List ℕ
+abbrev pub zeros : ℕ → List ℕ
 zeros n = replicate n 0
 
 pub framed-is : (t n : ℕ) (body : List ℕ) → length body ≡ n → framedBytes t body ≡ headerBytes t n ++ body
@@ -35,6 +35,9 @@ pub length-framed : (t : ℕ) (body : List ℕ) → length (framedBytes t body) 
 unfolding framedBytes
 length-framed t body = length-append (headerBytes t (length body)) body ∙ ap (λ (n : ℕ). n + length body) (length-header t (length body))
 
+pub framed-least : (t : ℕ) (body : List ℕ) → 1 ≤ length (framedBytes t body)
+framed-least t body = omega (arith, length-framed t body, header-least 0 (length body))
+
 module _ (used p : ℕ) (out b : List ℕ) where
   splice-run : p + length out ≤ length b → splice used p out b ≡ laid b p (out ++ zeros (used - (p + length out)))
   unfolding splice
@@ -44,8 +47,8 @@ module _ (used p : ℕ) (out b : List ℕ) where
       rw (laid-is b p (out ++ zeros k), e) (append-assoc (take p b) out _ ∙ ap (λ (l : List ℕ). take p b ++ l) (sym (append-assoc out (zeros k) _)))
 
   -- the zeros are laid behind the run
-  pub splice-laid : p + length out ≤ length b → used ≤ length b → laid (laid b p out) (p + length out) (zeros (used - (p + length out))) ≡ splice used p out b
-  splice-laid h u = laid-more b p out h (zeros (used - (p + length out))) ∙ sym (splice-run h)
+  pub splice-laid : p + length out ≤ length b → laid (laid b p out) (p + length out) (zeros (used - (p + length out))) ≡ splice used p out b
+  splice-laid h = laid-more b p out h (zeros (used - (p + length out))) ∙ sym (splice-run h)
 
   pub spliced-fits : p + length out ≤ length b → spliced used p out b ≡ (p + length out, splice used p out b)
   unfolding spliced
@@ -56,9 +59,9 @@ module _ (used p : ℕ) (out b : List ℕ) where
   spliced-full h = rw (spliced, lt-leb (p + length out) (length b) h) refl
 
   -- the run is laid, and the rest cleared
-  pub spliced-by : (end : ℕ) {l l′ : List ℕ} → end ≡ p + length out → end ≤ length b → used ≤ length b → l ≡ laid b p out → l′ ≡ laid l end (zeros (used - end)) →
+  pub spliced-by : (end : ℕ) {l l′ : List ℕ} → end ≡ p + length out → end ≤ length b → l ≡ laid b p out → l′ ≡ laid l end (zeros (used - end)) →
       _≡_ {A = ℕ × List ℕ} (end, l′) (spliced used p out b)
-  spliced-by end e h u q q′ = rw (q′, q, e) (rw (splice-laid (omega arith) u) (sym (spliced-fits (omega arith))))
+  spliced-by end e h q q′ = rw (q′, q, e) (rw (splice-laid (omega arith)) (sym (spliced-fits (omega arith))))
 
 -- a splice of nothing clears
 pub splice-nil : (used p : ℕ) (b : List ℕ) → p ≤ length b → splice used p [] b ≡ laid b p (zeros (used - p))
@@ -67,7 +70,9 @@ splice-nil used p b h =
     splice-run used p [] b (omega arith) ∙ ap (λ (n : ℕ). laid b p (zeros (used - n))) e
 
 -- at the used length nothing is freed
-pub splice-end : (used : ℕ) (out b : List ℕ) → used + length out ≤ length b → splice used used out b ≡ laid b used out
-splice-end used out b h =
-    let e : used - (used + length out) ≡ 0 = omega arith in
-    sym (splice-laid used used out b h (omega arith)) ∙ (rw e (laid-nil (laid b used out) (used + length out)))
+pub splice-end : (used : ℕ) (out b : List ℕ) → splice used used out b ≡ laid b used out
+unfolding splice laid
+splice-end used out b =
+    let z : used - (used + length out) ≡ 0 = omega arith in
+    let m : max used (used + length out) ≡ used + length out = omega arith in
+    rw (z, m) (append-assoc (take used b) out (drop (used + length out) b))

@@ -10,13 +10,7 @@ ghost use Rattle.buffer.specs.Laid.{laid, placed};
 ghost use Rattle.annotations.specs.Sids.{sidsOf};
 ghost use Rattle.containers.specs.Containers.{spliced, wrapped, closedOn, abandonedOn};
 
-// The type bytes of the containers and of an annotation wrapper.
-const LIST: u8 = 0xB0;
-
-const SEXP: u8 = 0xC0;
-
-const STRUCT: u8 = 0xD0;
-
+// The type byte of an annotation wrapper.
 const WRAPPER: u8 = 0xE0;
 
 // The bytes reserved for a header.

@@ -1,3 +1,2 @@
-pub mod Plain
-pub mod Ints
-pub mod Annotated
+pub mod Checked
+pub mod Wrapped

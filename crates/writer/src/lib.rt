@@ -8,7 +8,7 @@ ghost use Rattle.machine.specs.Machine.{innermostFirst, inStruct, containerCode
 ghost use Rattle.machine.specs.Numbers.{number, outcomeOf, run};
 ghost use Rattle.machine.specs.Call.{write, name, opening, closing, abandonment, versionMarker, emptying};
 ghost use Rattle.annotations.specs.Sids.{sidsOf};
-ghost use Rattle.values.specs.Types.{typeOf};
+ghost use Rattle.scalars.specs.Types.{typeOf};
 ghost use Rattle.timestamp.specs.Arguments.{argumentOf};
 ghost use Rattle.writer.specs.Refused.{ownRefusal};
 ghost use Rattle.writer.specs.Kinds.{kindOf};
@@ -19,8 +19,8 @@ use machine::Container;
 use machine::Refusal;
 use machine::State;
 use machine::Written;
+use scalars::IonType;
 use timestamp::Timestamp;
-use values::IonType;
 
 pub enum ContainerType {
     List,
@@ -100,7 +100,7 @@ pub fn start(buf: &mut [u8]) -> Written
 pub fn int_refusal(negative: bool, magnitude: &[u8]) -> Refusal
     ensures { λ r. ⌜ refused (number r) ≡ ownRefusal (writeInt negative (now (magnitude .entry))) ⌝ }
 {
-    if values::is_negative_zero(negative, magnitude) {
+    if scalars::is_negative_zero(negative, magnitude) {
         return Refusal::NegativeZero;
     }
     Refusal::NoRoom

@@ -1,12 +1,11 @@
 -- `annotations::sids_size` meets its contract. The loop's invariant: `sum` is the length of the first `i` sids' bytes.
 -- A sid takes ten bytes at most, and eight are lent for it, so the sum stays below a word. Assumes nothing.
 use mathlib.Core.Path.{_≡_, refl, sym, _∙_, ap}
-use Prim.Native.Nat.{ℕ, suc, _+_, _-_, _*_, _≤_, _<_}
+use Prim.Native.Nat.{ℕ, suc, _+_, _-_, _*_, _≤_}
 use native.Mathlib.Omega.{arith}
 use native.Mathlib.Numerals.{add-one}
 use lib.ListN.{length}
-use Rattle.encoding.specs.Fields.{varUIntBytes, varUIntsBytes}
-use Rattle.annotations.specs.Sids.{sidAt, sidCount}
+use Rattle.annotations.specs.Sids.{sidCount}
 use Rattle.annotations.proofs.Sids.{sidBytes, sidBytes-none, sidBytes-all, length-sidBytes-more, sidBytes-most}
 use Rattle.annotations.proofs.sids_size.Statement.{statement}
 use Rattle.annotations.proofs.sids_size.Tie as tie

@@ -1,6 +1,6 @@
 -- `annotations::size` meets its contract.
 -- By the measure of the annotations. Assumes nothing.
-use mathlib.Core.Path.{_≡_, sym, _∙_}
+use mathlib.Core.Path.{sym, _∙_}
 use native.Mathlib.Omega.{arith}
 use Rattle.encoding.specs.Headers.{annotationBytes}
 use Rattle.annotations.specs.Sids.{sidsOf}

@@ -1,7 +1,6 @@
 -- `annotations::write` meets its contract: room for the whole, and then it is put.
 -- Assumes nothing.
-use mathlib.Core.Path.{_≡_, refl, sym, _∙_, ap}
-use Prim.Native.Nat.{_+_, _≤_}
+use mathlib.Core.Path.{sym}
 use native.Mathlib.Omega.{arith}
 use Rattle.encoding.specs.Headers.{annotationBytes}
 use Rattle.buffer.proofs.Laid.{placed-full, no-room, room}

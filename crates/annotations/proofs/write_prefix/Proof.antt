@@ -2,7 +2,7 @@
 -- By the law of two placed runs. Assumes nothing.
 use mathlib.Core.Path.{_≡_, refl, sym, _∙_, ap}
 use mathlib.Core.List.{List, _++_}
-use Prim.Native.Nat.{ℕ, _+_, _^_, _≤_, _<_}
+use Prim.Native.Nat.{ℕ, _+_, _≤_}
 use native.Mathlib.Omega.{arith}
 use lib.ListN.{length}
 use Rattle.ion.specs.Value.{annotationCode}
@@ -11,7 +11,7 @@ use Rattle.buffer.specs.Laid.{placed}
 use Rattle.buffer.proofs.Laid.{placed-count, placed-length, placed-most, placed-then, no-room, room}
 use Rattle.fields.proofs.Headers.{length-header, header-most}
 use Rattle.annotations.specs.Sids.{sidsOf}
-use Rattle.annotations.specs.Prefix.{prefixBytes, placedBefore}
+use Rattle.annotations.specs.Prefix.{prefixBytes}
 use Rattle.annotations.proofs.Prefix.{length-prefix, placedBefore-fits, placedBefore-full}
 use borrow.Author.Needs.{needs}
 use Rattle.annotations.proofs.write_prefix.Statement.{statement}

@@ -1,7 +1,7 @@
 -- `containers::abandon` meets its contract: zeros are laid from the start on.
 -- By the law of a splice of nothing. Assumes nothing.
-use mathlib.Core.Path.{_≡_, refl, sym, _∙_, ap}
-use mathlib.Core.Bool.{Bool, true, and-eq-true-iff}
+use mathlib.Core.Path.{sym, _∙_, ap}
+use mathlib.Core.Bool.{true, and-eq-true-iff}
 use mathlib.Core.List.{List}
 use Prim.Native.Nat.{_≤_}
 use native.Mathlib.Omega.{arith}

@@ -1,7 +1,7 @@
 -- `containers::clear` meets its contract. The loop's invariant: zeros are laid from `from` up to `i`.
 -- Assumes nothing.
 use mathlib.Core.Path.{_≡_, refl, sym, _∙_, ap}
-use Prim.Native.Nat.{ℕ, _+_, _-_, _≤_, _<_}
+use Prim.Native.Nat.{ℕ, _+_, _-_, _≤_}
 use native.Mathlib.Omega.{arith}
 use native.Mathlib.Nat.{sub-self}
 use lib.ListN.{length, replicate, length-set}

@@ -1,11 +1,9 @@
 -- `containers::close_annotated` meets its contract: the parts reach their places, and what is freed becomes zero.
 -- Assumes nothing.
-use mathlib.Core.Path.{_≡_, refl, sym, _∙_, ap}
-use mathlib.Core.List.{List}
-use Prim.Native.Nat.{ℕ, _+_, _-_, _≤_}
+use mathlib.Core.Path.{_≡_, sym}
+use Prim.Native.Nat.{_+_, _-_, _≤_}
 use native.Mathlib.Omega.{arith}
 use lib.ListN.{length}
-use Rattle.encoding.specs.Headers.{headerBytes}
 use Rattle.fields.proofs.Headers.{header-most}
 use Rattle.containers.specs.Containers.{wrapped}
 use Rattle.containers.proofs.Splice.{spliced-by, spliced-full}
@@ -87,7 +85,7 @@ returns-2 c =
     let d = c .before .before .before .before .before .before .before .before .before in
     let k = known d in
     let a = d .before .before .before .args in
-    spliced-by (a .used) (a .start) (wrapped (a .buf .now) (a .start) (a .header) (a .code) (a .used - (a .header + 2))) (a .buf .now) _ (omega arith) (omega arith) (omega arith) (c .before .before .before .before .before .before .lay-wrapped .ensures) (c .before .before .clear .ensures)
+    spliced-by (a .used) (a .start) (wrapped (a .buf .now) (a .start) (a .header) (a .code) (a .used - (a .header + 2))) (a .buf .now) _ (omega arith) (omega arith) (c .before .before .before .before .before .before .lay-wrapped .ensures) (c .before .before .clear .ensures)
 
 pub close-annotated-spec : {M : Type 1} → statement M
 close-annotated-spec =

@@ -1,8 +1,7 @@
 -- `containers::close_plain` meets its contract: the body moves to its place, the header goes before it, and what is freed becomes zero.
 -- By the law of two runs side by side and of zeros behind a run. Assumes nothing.
 use mathlib.Core.Path.{_≡_, refl, sym, _∙_, ap}
-use mathlib.Core.List.{List, _++_}
-use Prim.Native.Nat.{ℕ, _+_, _-_, _≤_}
+use Prim.Native.Nat.{_+_, _-_, _≤_}
 use native.Mathlib.Omega.{arith}
 use lib.ListN.{length}
 use Rattle.encoding.specs.Headers.{headerBytes, framedBytes}
@@ -79,7 +78,7 @@ returns-2 c =
     let n = a .used - (a .start + 2) in
     let B = part (a .buf .now) (a .start + 2) n in
     let q = length-header (a .code) n in
-    spliced-by (a .used) (a .start) (framedBytes (a .code) B) (a .buf .now) (a .start + d .encoded-size-of .result + n) (omega arith) (omega arith) (omega arith)
+    spliced-by (a .used) (a .start) (framedBytes (a .code) B) (a .buf .now) (a .start + d .encoded-size-of .result + n) (omega arith) (omega arith)
     (then-before (a .buf .now) (a .start) (headerBytes (a .code) n) B (a .start + d .encoded-size-of .result) (omega arith) (omega arith) (c .before .before .before .before .before .before .before .before .before .before .move-bytes .ensures) (c .before .before .before .before .before .before .put-header .ensures)
     ∙ ap (laid (a .buf .now) (a .start)) (sym (framed-is (a .code) n B (k .body))))
     (c .before .before .clear .ensures)

@@ -1,6 +1,5 @@
 -- `containers::lay_wrapped` meets its contract, in the order of the one branch and of the other.
 -- By the laws of the two orders. Assumes nothing.
-use mathlib.Core.Path.{_≡_}
 use native.Mathlib.Omega.{arith}
 use Rattle.containers.proofs.Wrapped.{from-the-left, from-the-right}
 use borrow.Author.Needs.{needs}

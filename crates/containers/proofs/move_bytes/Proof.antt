@@ -1,6 +1,6 @@
 -- `containers::move_bytes` meets its contract: by the one move or the other, and where nothing moves a part is laid where it lies.
 -- Assumes nothing.
-use mathlib.Core.Path.{_≡_, refl, sym, _∙_, ap}
+use mathlib.Core.Path.{_≡_, _∙_, ap}
 use native.Mathlib.Omega.{arith}
 use Prim.Native.Nat.{ℕ}
 use Rattle.buffer.specs.Laid.{laid}

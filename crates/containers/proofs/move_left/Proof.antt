@@ -1,7 +1,7 @@
 -- `containers::move_left` meets its contract. The loop's invariant: the first `i` bytes are laid at `to`.
 -- What is read lies behind them. Assumes nothing.
 use mathlib.Core.Path.{_≡_, refl, sym, _∙_, ap}
-use Prim.Native.Nat.{ℕ, _+_, _-_, _≤_, _<_}
+use Prim.Native.Nat.{ℕ, _-_, _≤_}
 use native.Mathlib.Omega.{arith}
 use lib.ListN.{length, length-set}
 use Rattle.buffer.specs.Laid.{laid}

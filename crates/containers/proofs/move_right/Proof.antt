@@ -1,11 +1,10 @@
 -- `containers::move_right` meets its contract. The loop's invariant: the bytes from `i` on are laid at `to + i`.
 -- What is read lies before them. Assumes nothing.
 use mathlib.Core.Path.{_≡_, refl, sym, _∙_, ap}
-use mathlib.Core.List.{List}
-use Prim.Native.Nat.{ℕ, _+_, _-_, _≤_, _<_}
+use Prim.Native.Nat.{ℕ, _+_, _-_, _≤_}
 use native.Mathlib.Omega.{arith}
 use native.Mathlib.Nat.{add-zero}
-use lib.ListN.{length, getD, set, length-set, drop-of-length-le}
+use lib.ListN.{length, length-set, drop-of-length-le}
 use Rattle.buffer.specs.Laid.{laid}
 use Rattle.buffer.proofs.Laid.{laid-nil}
 use Rattle.containers.proofs.Moves.{part, length-part, rest, right-turn}

@@ -4,7 +4,6 @@ use mathlib.Core.Path.{_≡_, refl, sym, _∙_, ap}
 use mathlib.Core.List.{List, [], _∷_, _++_}
 use Prim.Native.Nat.{ℕ}
 use native.Mathlib.Omega.{arith}
-use lib.ListN.{length}
 use Rattle.encoding.specs.Headers.{annotationBytes}
 use Rattle.machine.specs.Machine.{reserve}
 use Rattle.buffer.specs.Laid.{placed}

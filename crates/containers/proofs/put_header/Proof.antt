@@ -1,7 +1,7 @@
 -- `containers::put_header` meets its contract: the header fits, and so it is laid.
 -- Assumes nothing.
-use mathlib.Core.Path.{_≡_, refl, sym, _∙_, ap}
-use Prim.Native.Nat.{ℕ, _+_, _*_, _/_}
+use mathlib.Core.Path.{_∙_, ap}
+use Prim.Native.Nat.{ℕ, _*_, _/_}
 use native.Mathlib.Omega.{arith}
 use Rattle.encoding.specs.Headers.{headerBytes}
 use Rattle.buffer.specs.Laid.{laid}

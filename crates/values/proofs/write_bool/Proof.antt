@@ -1,13 +1,13 @@
 -- `values::write_bool` meets its contract: the byte of the bool.
 -- By the laws of a call without annotations and with them. Assumes nothing.
 use Rattle.encoding.specs.Argument.{writeBool}
-use Rattle.values.proofs.Annotated.{unannotated}
+use Rattle.values.proofs.Checked.{unannotated}
 use borrow.Author.Needs.{needs}
 use Rattle.values.proofs.write_bool.Statement.{statement}
 use Rattle.values.proofs.write_bool.Tie as tie
 
-plain-bool-requires : tie.Need-plain-bool-requires
-plain-bool-requires c κs = search needs
+write-bool-requires : tie.Need-write-bool-requires
+write-bool-requires c κs = search needs
 
 same-length : tie.Need-same-length
 same-length c = search needs
@@ -15,10 +15,10 @@ same-length c = search needs
 returns : tie.Need-returns
 returns c =
     let a = c .before .before .before .before .before .before .before .args in
-    unannotated (a .buf .now) (a .at) (a .annotations .now) (writeBool (a .value)) (c .before .before .before .before .if1 .taken) _ _ (c .before .before .plain-bool .ensures)
+    unannotated (a .buf .now) (a .at) (a .annotations .now) (writeBool (a .value)) (c .before .before .before .before .if1 .taken) _ _ (c .before .before .write-bool .ensures)
 
-annotated-scalar-requires : tie.Need-annotated-scalar-requires
-annotated-scalar-requires c κs = search needs
+annotated-requires : tie.Need-annotated-requires
+annotated-requires c κs = search needs
 
 same-length-2 : tie.Need-same-length-2
 same-length-2 c = search needs
@@ -29,10 +29,4 @@ returns-2 c = search needs
 pub write-bool-spec : {M : Type 1} → statement M
 write-bool-spec =
     tie.close
-    (tie.spec
-    plain-bool-requires
-    same-length
-    returns
-    annotated-scalar-requires
-    same-length-2
-    returns-2)
+    (tie.spec write-bool-requires same-length returns annotated-requires same-length-2 returns-2)

@@ -1,15 +1,14 @@
 -- `values::write_bytes` meets its contract: the bytes with their header, or an annotated value of them.
 -- By the law of the annotated path. Assumes nothing.
-use mathlib.Core.Path.{_≡_, refl, sym, _∙_, ap}
-use mathlib.Core.List.{List}
-use Prim.Native.Nat.{ℕ, _+_, _*_, _/_, _<_}
+use mathlib.Core.Path.{refl}
+use Prim.Native.Nat.{_*_, _/_}
 use native.Mathlib.Omega.{arith}
-use lib.ListN.{length}
 use Rattle.encoding.specs.Headers.{framedBytes, annotatedBytes}
-use Rattle.buffer.specs.Laid.{placed}
 use Rattle.annotations.specs.Sids.{sidsOf}
-use Rattle.values.proofs.Plain.{framed-some}
-use Rattle.values.proofs.Annotated.{sids-none, sids-some, annotatedBytes-none, annotatedAny-some, Wrapped, wrapped}
+use Rattle.scalars.proofs.Bytes.{framed-some}
+use Rattle.annotations.proofs.Sids.{sids-none}
+use Rattle.values.proofs.Checked.{annotatedBytes-none}
+use Rattle.values.proofs.Wrapped.{Wrapped, wrapped-bytes}
 use borrow.Author.Needs.{needs}
 use Rattle.values.proofs.write_bytes.Statement.{statement}
 use Rattle.values.proofs.write_bytes.Tie as tie
@@ -20,13 +19,11 @@ path : (d : tie.After-write-wrapper) →
     Wrapped (a .buf .now) (a .at) v (annotatedBytes (sidsOf (a .annotations .now)) v) (d .write-wrapper .result) (d .write-wrapper .last .0)
 path d =
     let a = d .before .before .before .before .before .before .before .args in
-    let an = sidsOf (a .annotations .now) in
-    let v = framedBytes (a .code / 16 * 16) (a .bytes .now) in
-    rw (← (annotatedAny-some an v (framed-some (a .code / 16 * 16) (a .bytes .now))))
-    (wrapped (a .buf .now) (a .at) an v (sids-some (a .annotations .now) (omega arith)) _ (d .before .framed-size .ensures (a .code / 16 * 16) (a .bytes .now) refl) _ _ (d .write-wrapper .ensures))
+    let t = a .code / 16 * 16 in
+    wrapped-bytes (a .buf .now) (a .at) (a .annotations .now) (omega arith) _ _ _ (d .write-wrapper .ensures) (framedBytes t (a .bytes .now)) (framed-some t (a .bytes .now)) (d .before .framed-size .ensures t (a .bytes .now) refl)
 
-plain-bytes-requires : tie.Need-plain-bytes-requires
-plain-bytes-requires c κs = search needs
+write-bytes-requires : tie.Need-write-bytes-requires
+write-bytes-requires c κs = search needs
 
 same-length : tie.Need-same-length
 same-length c = search needs
@@ -35,8 +32,7 @@ returns : tie.Need-returns
 returns c =
     let a = c .before .before .before .before .before .before .before .before .args in
     let v = framedBytes (a .code / 16 * 16) (a .bytes .now) in
-    c .before .before .plain-bytes .ensures
-    ∙ ap (placed (a .buf .now) (a .at)) (sym (annotatedBytes-none (sidsOf (a .annotations .now)) v (sids-none (a .annotations .now) (c .before .before .before .before .if1 .taken))))
+    rw (annotatedBytes-none (sidsOf (a .annotations .now)) v (sids-none (a .annotations .now) (c .before .before .before .before .if1 .taken))) (c .before .before .write-bytes .ensures)
 
 framed-size-requires : tie.Need-framed-size-requires
 framed-size-requires c κs = search needs
@@ -50,34 +46,34 @@ same-length-2 c = search needs
 returns-2 : tie.Need-returns-2
 returns-2 c = path (c .before .before .before) .none (c .if2 .taken)
 
-add-plain-bytes : tie.Need-add-plain-bytes
-add-plain-bytes c = omega (arith, path (c .before .before .before .before) .room (omega arith))
+add-write-bytes : tie.Need-add-write-bytes
+add-write-bytes c = omega (arith, path (c .before .before .before .before) .room (omega arith))
 
-plain-bytes-requires-2 : tie.Need-plain-bytes-requires-2
-plain-bytes-requires-2 c κs = search needs
+write-bytes-requires-2 : tie.Need-write-bytes-requires-2
+write-bytes-requires-2 c κs = search needs
 
 add-result : tie.Need-add-result
-add-result c = omega (arith, path (c .before .before .before .before .before .before .before) .count (omega arith) _ _ (c .before .before .plain-bytes2 .ensures))
+add-result c = omega (arith, path (c .before .before .before .before .before .before .before) .count (omega arith) _ _ (c .before .before .write-bytes2 .ensures))
 
 same-length-3 : tie.Need-same-length-3
 same-length-3 c = search needs
 
 returns-3 : tie.Need-returns-3
-returns-3 c = path (c .before .before .before .before .before .before .before) .behind (omega arith) _ _ (c .before .before .plain-bytes2 .ensures)
+returns-3 c = path (c .before .before .before .before .before .before .before) .behind (omega arith) _ _ (c .before .before .write-bytes2 .ensures)
 
 pub write-bytes-spec : {M : Type 1} → statement M
 write-bytes-spec =
     tie.close
     (tie.spec
-    plain-bytes-requires
+    write-bytes-requires
     same-length
     returns
     framed-size-requires
     write-wrapper-requires
     same-length-2
     returns-2
-    add-plain-bytes
-    plain-bytes-requires-2
+    add-write-bytes
+    write-bytes-requires-2
     add-result
     same-length-3
     returns-3)

@@ -1,17 +1,16 @@
 -- `values::write_decimal` meets its contract: the decimal, or an annotated value of it.
 -- By the law of the annotated path. Assumes nothing.
 use mathlib.Core.Path.{_≡_, subst}
-use Prim.Native.Nat.{ℕ, _+_, _<_}
 use native.Mathlib.Omega.{arith}
 use lib.IntN.{ℤ}
-use lib.ListN.{length}
 use mir.Syntax.{w64}
 use mir.Val.{ofZ, toZ}
 use mir.ValLaws.{toZ-ofZ}
 use Rattle.encoding.specs.Argument.{checkedBytes, writeDecimal}
 use Rattle.annotations.specs.Sids.{sidsOf}
 use Rattle.values.specs.Values.{annotatedChecked}
-use Rattle.values.proofs.Annotated.{unannotated, Wrapped, wrapped-scalar}
+use Rattle.values.proofs.Checked.{unannotated}
+use Rattle.values.proofs.Wrapped.{Wrapped, wrapped-scalar}
 use borrow.Author.Needs.{needs}
 use Rattle.values.proofs.write_decimal.Statement.{statement}
 use Rattle.values.proofs.write_decimal.Tie as tie
@@ -37,7 +36,7 @@ path d =
     subst
     (λ (e : ℤ). Wrapped (a .buf .now) (a .at) (checkedBytes v) (annotatedChecked (sidsOf (a .annotations .now)) (writeDecimal (a .negative) (a .coefficient .now) e)) (d .write-wrapper .result) (d .write-wrapper .last .0))
     (same s)
-    (wrapped-scalar (a .buf .now) (a .at) (a .annotations .now) v (omega arith) _ (d .before .size .ensures) _ _ (d .write-wrapper .ensures))
+    (wrapped-scalar (a .buf .now) (a .at) (a .annotations .now) (omega arith) _ _ _ (d .write-wrapper .ensures) v (d .before .size .ensures))
 
 write-requires : tie.Need-write-requires
 write-requires c κs = search needs

@@ -1,9 +1,8 @@
 -- `values::write_f32` meets its contract: the float of these bits.
 -- By the laws of a call without annotations and with them. Assumes nothing.
-use mathlib.Core.Path.{_≡_, sym, _∙_, ap}
 use Rattle.encoding.specs.Argument.{writeF32}
-use Rattle.values.proofs.Plain.{f32-bytes}
-use Rattle.values.proofs.Annotated.{unannotated}
+use Rattle.scalars.proofs.Bytes.{f32-bytes}
+use Rattle.values.proofs.Checked.{unannotated}
 use borrow.Author.Needs.{needs}
 use Rattle.values.proofs.write_f32.Statement.{statement}
 use Rattle.values.proofs.write_f32.Tie as tie
@@ -19,8 +18,8 @@ returns c =
     let a = c .before .before .before .before .before .before .before .args in
     unannotated (a .buf .now) (a .at) (a .annotations .now) (writeF32 (a .bits)) (c .before .before .before .before .if1 .taken) _ _ (rw (f32-bytes (a .bits)) (c .before .before .write-f32-bits .ensures))
 
-annotated-scalar-requires : tie.Need-annotated-scalar-requires
-annotated-scalar-requires c κs = search needs
+annotated-requires : tie.Need-annotated-requires
+annotated-requires c κs = search needs
 
 same-length-2 : tie.Need-same-length-2
 same-length-2 c = search needs
@@ -35,6 +34,6 @@ write-f32-spec =
     write-f32-bits-requires
     same-length
     returns
-    annotated-scalar-requires
+    annotated-requires
     same-length-2
     returns-2)

@@ -1,14 +1,13 @@
 -- `values::write_string` meets its contract: check 6 is the one of its own.
 -- Assumes nothing.
-use mathlib.Core.Path.{_≡_, refl, sym, _∙_, ap}
+use mathlib.Core.Path.{_≡_, sym, _∙_, ap}
 use mathlib.Core.Bool.{Bool, true, false, not, _||_}
 use borrow.Author.Tests.{not-true, not-false}
 use Rattle.ion.specs.Text.{utf8}
 use Rattle.encoding.specs.Argument.{writeString, argumentBytes}
-use Rattle.buffer.specs.Laid.{placed}
 use Rattle.buffer.proofs.Laid.{placed-nil}
 use Rattle.annotations.specs.Sids.{sidsOf}
-use Rattle.values.proofs.Annotated.{annotated-accepted, annotated-refused}
+use Rattle.values.proofs.Checked.{annotated-accepted, annotated-refused}
 use borrow.Author.Needs.{needs}
 use Rattle.values.proofs.write_string.Statement.{statement}
 use Rattle.values.proofs.write_string.Tie as tie
@@ -21,7 +20,7 @@ returns c =
     let d = c .before in
     let a = d .before .before .before .before .args in
     let r : utf8 (a .bytes .now) ≡ false = sym (d .is-utf8 .ensures) ∙ not-true (d .is-utf8 .result) (c .if1 .taken) in
-    sym (ap (placed (a .buf .now) (a .at)) (annotated-refused (sidsOf (a .annotations .now)) (writeString (a .bytes .now)) (ap (λ (t : Bool). not t || false) r)) ∙ placed-nil (a .buf .now) (a .at))
+    rw (annotated-refused (sidsOf (a .annotations .now)) (writeString (a .bytes .now)) (ap (λ (t : Bool). not t || false) r)) (sym (placed-nil (a .buf .now) (a .at)))
 
 write-bytes-requires : tie.Need-write-bytes-requires
 write-bytes-requires c κs = search needs
@@ -35,8 +34,7 @@ returns-2 c =
     let d = c .before .before .before .before in
     let a = d .before .before .before .before .before .args in
     let r : utf8 (a .bytes .now) ≡ true = sym (d .before .is-utf8 .ensures) ∙ not-false (d .before .is-utf8 .result) (d .if1 .left) in
-    c .before .before .write-bytes .ensures
-    ∙ ap (placed (a .buf .now) (a .at)) (sym (annotated-accepted (sidsOf (a .annotations .now)) (writeString (a .bytes .now)) (ap (λ (t : Bool). not t || false) r)))
+    rw (annotated-accepted (sidsOf (a .annotations .now)) (writeString (a .bytes .now)) (ap (λ (t : Bool). not t || false) r)) (c .before .before .write-bytes .ensures)
 
 pub write-string-spec : {M : Type 1} → statement M
 write-string-spec =

@@ -1,13 +1,13 @@
 -- `values::write_symbol` meets its contract: the sid as a UInt.
 -- By the laws of a call without annotations and with them. Assumes nothing.
 use Rattle.encoding.specs.Argument.{writeSymbol}
-use Rattle.values.proofs.Annotated.{unannotated}
+use Rattle.values.proofs.Checked.{unannotated}
 use borrow.Author.Needs.{needs}
 use Rattle.values.proofs.write_symbol.Statement.{statement}
 use Rattle.values.proofs.write_symbol.Tie as tie
 
-plain-symbol-requires : tie.Need-plain-symbol-requires
-plain-symbol-requires c κs = search needs
+write-symbol-requires : tie.Need-write-symbol-requires
+write-symbol-requires c κs = search needs
 
 same-length : tie.Need-same-length
 same-length c = search needs
@@ -15,10 +15,10 @@ same-length c = search needs
 returns : tie.Need-returns
 returns c =
     let a = c .before .before .before .before .before .before .before .args in
-    unannotated (a .buf .now) (a .at) (a .annotations .now) (writeSymbol (a .sid)) (c .before .before .before .before .if1 .taken) _ _ (c .before .before .plain-symbol .ensures)
+    unannotated (a .buf .now) (a .at) (a .annotations .now) (writeSymbol (a .sid)) (c .before .before .before .before .if1 .taken) _ _ (c .before .before .write-symbol .ensures)
 
-annotated-scalar-requires : tie.Need-annotated-scalar-requires
-annotated-scalar-requires c κs = search needs
+annotated-requires : tie.Need-annotated-requires
+annotated-requires c κs = search needs
 
 same-length-2 : tie.Need-same-length-2
 same-length-2 c = search needs
@@ -29,10 +29,4 @@ returns-2 c = search needs
 pub write-symbol-spec : {M : Type 1} → statement M
 write-symbol-spec =
     tie.close
-    (tie.spec
-    plain-symbol-requires
-    same-length
-    returns
-    annotated-scalar-requires
-    same-length-2
-    returns-2)
+    (tie.spec write-symbol-requires same-length returns annotated-requires same-length-2 returns-2)

@@ -1,10 +1,23 @@
--- `values::write_timestamp` meets its contract: the timestamp.
--- By the laws of a call without annotations and with them. Assumes nothing.
+-- `values::write_timestamp` meets its contract: the timestamp, or an annotated value of it.
+-- By the law of the annotated path. Assumes nothing.
+use native.Mathlib.Omega.{arith}
+use Rattle.encoding.specs.Argument.{checkedBytes}
 use Rattle.timestamp.specs.Arguments.{argumentOf}
-use Rattle.values.proofs.Annotated.{unannotated}
+use Rattle.annotations.specs.Sids.{sidsOf}
+use Rattle.values.specs.Values.{annotatedChecked}
+use Rattle.values.proofs.Checked.{unannotated}
+use Rattle.values.proofs.Wrapped.{Wrapped, wrapped-scalar}
 use borrow.Author.Needs.{needs}
 use Rattle.values.proofs.write_timestamp.Statement.{statement}
 use Rattle.values.proofs.write_timestamp.Tie as tie
+
+path : (d : tie.After-write-wrapper) →
+    let a = d .before .before .before .before .before .before .args in
+    let v = argumentOf (a .value) in
+    Wrapped (a .buf .now) (a .at) (checkedBytes v) (annotatedChecked (sidsOf (a .annotations .now)) v) (d .write-wrapper .result) (d .write-wrapper .last .0)
+path d =
+    let a = d .before .before .before .before .before .before .args in
+    wrapped-scalar (a .buf .now) (a .at) (a .annotations .now) (omega arith) _ _ _ (d .write-wrapper .ensures) (argumentOf (a .value)) (d .before .size .ensures)
 
 write-requires : tie.Need-write-requires
 write-requires c κs = search needs
@@ -17,16 +30,46 @@ returns c =
     let a = c .before .before .before .before .before .before .before .args in
     unannotated (a .buf .now) (a .at) (a .annotations .now) (argumentOf (a .value)) (c .before .before .before .before .if1 .taken) _ _ (c .before .before .write .ensures)
 
-annotated-scalar-requires : tie.Need-annotated-scalar-requires
-annotated-scalar-requires c κs = search needs
+size-requires : tie.Need-size-requires
+size-requires c κs = search needs
+
+write-wrapper-requires : tie.Need-write-wrapper-requires
+write-wrapper-requires c κs = search needs
 
 same-length-2 : tie.Need-same-length-2
 same-length-2 c = search needs
 
 returns-2 : tie.Need-returns-2
-returns-2 c = search needs
+returns-2 c = path (c .before .before .before) .none (c .if2 .taken)
+
+add-write : tie.Need-add-write
+add-write c = omega (arith, path (c .before .before .before .before) .room (omega arith))
+
+write-requires-2 : tie.Need-write-requires-2
+write-requires-2 c κs = search needs
+
+add-result : tie.Need-add-result
+add-result c = omega (arith, path (c .before .before .before .before .before .before .before) .count (omega arith) _ _ (c .before .before .write2 .ensures))
+
+same-length-3 : tie.Need-same-length-3
+same-length-3 c = search needs
+
+returns-3 : tie.Need-returns-3
+returns-3 c = path (c .before .before .before .before .before .before .before) .behind (omega arith) _ _ (c .before .before .write2 .ensures)
 
 pub write-timestamp-spec : {M : Type 1} → statement M
 write-timestamp-spec =
     tie.close
-    (tie.spec write-requires same-length returns annotated-scalar-requires same-length-2 returns-2)
+    (tie.spec
+    write-requires
+    same-length
+    returns
+    size-requires
+    write-wrapper-requires
+    same-length-2
+    returns-2
+    add-write
+    write-requires-2
+    add-result
+    same-length-3
+    returns-3)

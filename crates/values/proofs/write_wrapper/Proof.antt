@@ -1,12 +1,9 @@
 -- `values::write_wrapper` meets its contract: a value of no bytes has nothing before it.
 -- Assumes nothing.
-use mathlib.Core.Path.{_≡_, refl, sym, _∙_, ap}
-use mathlib.Core.List.{List}
-use Prim.Native.Nat.{ℕ}
+use mathlib.Core.Path.{sym}
 use native.Mathlib.Omega.{arith}
 use Rattle.annotations.specs.Sids.{sidsOf}
-use Rattle.annotations.specs.Prefix.{placedBefore}
-use Rattle.values.proofs.Annotated.{before-none, prefixFor-some}
+use Rattle.values.proofs.Wrapped.{before-none, prefixFor-some}
 use borrow.Author.Needs.{needs}
 use Rattle.values.proofs.write_wrapper.Statement.{statement}
 use Rattle.values.proofs.write_wrapper.Tie as tie
@@ -25,8 +22,7 @@ same-length c = search needs
 returns-2 : tie.Need-returns-2
 returns-2 c =
     let a = c .before .before .before .before .before .before .before .args in
-    c .before .before .write-prefix .ensures
-    ∙ ap (λ (x : List ℕ). placedBefore (a .buf .now) (a .at) x (a .size)) (sym (prefixFor-some (sidsOf (a .annotations .now)) (a .size) (omega arith)))
+    rw (prefixFor-some (sidsOf (a .annotations .now)) (a .size) (omega arith)) (c .before .before .write-prefix .ensures)
 
 pub write-wrapper-spec : {M : Type 1} → statement M
 write-wrapper-spec = tie.close (tie.spec returns write-prefix-requires same-length returns-2)

@@ -9,7 +9,7 @@ use lib.ListN.{length}
 use Rattle.encoding.specs.Argument.{writeNull, argumentBytes, argumentChecks}
 use Rattle.encoding.specs.Headers.{annotatedBytes}
 use Rattle.annotations.specs.Sids.{sidsOf}
-use Rattle.values.specs.Types.{typeOf}
+use Rattle.scalars.specs.Types.{typeOf}
 use Rattle.values.specs.Values.{annotatedChecked}
 use Rattle.machine.specs.Call.{write}
 use Rattle.machine.specs.Machine.{lacksName}

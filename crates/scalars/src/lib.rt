@@ -1,0 +1,220 @@
+// The scalars of document 01's value_writer, without annotations: a descriptor byte with the type code in its high four bits, then the body.
+// A function that writes answers how many bytes it put. It puts all or none, and none where a check of its own refuses the value.
+ghost use mathlib.Core.Path.{_≡_};
+ghost use mathlib.Core.Bool.{_&&_};
+ghost use mathlib.Core.List.{List};
+ghost use Prim.Native.Nat.{ℕ, _*_, _/_, _<_};
+ghost use lib.Dec.{eqb};
+ghost use lib.ListN.{length};
+ghost use Rattle.ion.specs.Fields.{uint};
+ghost use Rattle.encoding.specs.Fields.{uintBytes};
+ghost use Rattle.encoding.specs.Headers.{typeByte, framedBytes};
+ghost use Rattle.encoding.specs.Argument.{codeOfSign, checkedBytes, writeNull, writeBool, writeI64, writeInt, writeSymbol};
+ghost use Rattle.buffer.specs.Laid.{placed, fitted};
+ghost use Rattle.scalars.specs.Types.{typeOf, nullByte, scalarArgument};
+
+pub enum IonType {
+    Null,
+    Bool,
+    Int,
+    Float,
+    Decimal,
+    Timestamp,
+    Symbol,
+    String,
+    Clob,
+    Blob,
+    List,
+    Sexp,
+    Struct,
+}
+
+// The scalars that no check refuses. Floats are given by their bits.
+pub enum Scalar {
+    Null(IonType),
+    Bool(bool),
+    I64(i64),
+    F32(u32),
+    F64(u64),
+    Symbol(u64),
+}
+
+const BOOL: u8 = 0x10;
+
+const INT: u8 = 0x20;
+
+// From the type byte of the ints to that of the negative ones.
+const NEGATIVE: u8 = 0x10;
+
+const SYMBOL: u8 = 0x70;
+
+// The type code, and F. Of the two codes of the ints it is that of zero and above.
+fn null_byte(t: IonType) -> u8
+    ensures { λ r. ⌜ r ≡ nullByte t ⌝ }
+{
+    match t {
+        IonType::Null => 0x0F,
+        IonType::Bool => 0x1F,
+        IonType::Int => 0x2F,
+        IonType::Float => 0x4F,
+        IonType::Decimal => 0x5F,
+        IonType::Timestamp => 0x6F,
+        IonType::Symbol => 0x7F,
+        IonType::String => 0x8F,
+        IonType::Clob => 0x9F,
+        IonType::Blob => 0xAF,
+        IonType::List => 0xBF,
+        IonType::Sexp => 0xCF,
+        IonType::Struct => 0xDF,
+    }
+}
+
+// One byte.
+pub fn write_null(buf: &mut [u8], at: usize, t: IonType) -> usize
+    ensures { λ r. ⌜ _≡_ {A = ℕ × List ℕ} (r, now (buf .exit)) (placed (now (buf .entry)) at (checkedBytes (writeNull (typeOf t)))) ⌝ }
+{
+    buffer::put(buf, at, null_byte(t))
+}
+
+// 10, and 11 for true.
+pub fn write_bool(buf: &mut [u8], at: usize, value: bool) -> usize
+    ensures { λ r. ⌜ _≡_ {A = ℕ × List ℕ} (r, now (buf .exit)) (placed (now (buf .entry)) at (checkedBytes (writeBool value))) ⌝ }
+{
+    buffer::put(buf, at, BOOL + value as u8)
+}
+
+// A type byte with the size in its low four bits, and `value` as a UInt, which has eight bytes at most.
+fn write_uint(buf: &mut [u8], at: usize, code: u8, value: u64) -> usize
+    requires { ⌜ code < 0xF0 ⌝ }
+    ensures { λ r. ⌜ _≡_ {A = ℕ × List ℕ} (r, now (buf .exit)) (placed (now (buf .entry)) at (framedBytes code (uintBytes value))) ⌝ }
+{
+    let size = fields::uint::encoded_size_of(value);
+    if !buffer::has_room(buf.len(), at, size + 1) {
+        return 0;
+    }
+    buf[at] = code + size as u8;
+    1 + fields::uint::write_fixed(buf, at + 1, size, value)
+}
+
+// 2 for zero and above, 3 below.
+fn int_code(negative: bool) -> u8
+    ensures { λ r. ⌜ (r ≡ typeByte (codeOfSign negative)) × (r < 0xF0) ⌝ }
+{
+    INT + NEGATIVE * (negative as u8)
+}
+
+// Zero has no body.
+pub fn write_i64(buf: &mut [u8], at: usize, value: i64) -> usize
+    ensures { λ r. ⌜ _≡_ {A = ℕ × List ℕ} (r, now (buf .exit)) (placed (now (buf .entry)) at (checkedBytes (writeI64 value))) ⌝ }
+{
+    write_uint(
+        buf,
+        at,
+        int_code(fields::sign::is_negative(value)),
+        fields::sign::magnitude(value),
+    )
+}
+
+// Sid 0 has no body.
+pub fn write_symbol(buf: &mut [u8], at: usize, sid: u64) -> usize
+    ensures { λ r. ⌜ _≡_ {A = ℕ × List ℕ} (r, now (buf .exit)) (placed (now (buf .entry)) at (checkedBytes (writeSymbol sid))) ⌝ }
+{
+    write_uint(buf, at, SYMBOL, sid)
+}
+
+// A body of any length behind its header: strings, clobs and blobs. The low four bits of `code` do not count.
+pub fn write_bytes(buf: &mut [u8], at: usize, code: u8, bytes: &[u8]) -> usize
+    ensures { λ r. ⌜ _≡_ {A = ℕ × List ℕ} (r, now (buf .exit)) (placed (now (buf .entry)) at (framedBytes (code / 16 * 16) (now (bytes .entry)))) ⌝ }
+{
+    let size = fields::header::encoded_size_of(bytes.len()) + bytes.len();
+    if !buffer::has_room(buf.len(), at, size) {
+        return 0;
+    }
+    let header = fields::header::write(buf, at, code, bytes.len());
+    header + buffer::copy(buf, at + header, bytes)
+}
+
+// Check 5 of document 01's table.
+pub fn is_negative_zero(negative: bool, magnitude: &[u8]) -> bool
+    ensures { λ r. ⌜ r ≡ (negative && eqb (uint (now (magnitude .entry))) 0) ⌝ }
+{
+    negative & (fields::uint::leading_zero_bytes(magnitude) == magnitude.len())
+}
+
+// The sign and a big-endian magnitude, whose leading zero bytes do not count. Zero has one byte; negative zero is refused.
+pub fn write_int(buf: &mut [u8], at: usize, negative: bool, magnitude: &[u8]) -> usize
+    ensures { λ r. ⌜ _≡_ {A = ℕ × List ℕ} (r, now (buf .exit)) (placed (now (buf .entry)) at (checkedBytes (writeInt negative (now (magnitude .entry))))) ⌝ }
+{
+    if is_negative_zero(negative, magnitude) {
+        return 0;
+    }
+    let code = int_code(negative);
+    let zeros = fields::uint::leading_zero_bytes(magnitude);
+    if zeros == magnitude.len() {
+        return write_bytes(buf, at, code, b"\0");
+    }
+    write_bytes(buf, at, code, &magnitude[zeros..])
+}
+
+// A size, or 0 where it passes `room`.
+fn fit(size: usize, room: usize) -> usize
+    ensures { λ r. ⌜ ((out : List ℕ) → length out ≡ size → r ≡ fitted room out) ⌝ }
+{
+    if room < size {
+        return 0;
+    }
+    size
+}
+
+// The bytes that `body` bytes take with their header, of any type; 0 where that passes `room`.
+pub fn framed_size(body: usize, room: usize) -> usize
+    ensures { λ r. ⌜ ((t : ℕ) (bytes : List ℕ) → length bytes ≡ body → r ≡ fitted room (framedBytes t bytes)) ⌝ }
+{
+    let header = fields::header::encoded_size_of(body);
+    if !buffer::has_room(room, header, body) {
+        return 0;
+    }
+    header + body
+}
+
+// The bytes that an int takes; 0 where they pass `room`, and for negative zero.
+pub fn int_size(negative: bool, magnitude: &[u8], room: usize) -> usize
+    ensures { λ r. ⌜ r ≡ fitted room (checkedBytes (writeInt negative (now (magnitude .entry)))) ⌝ }
+{
+    if is_negative_zero(negative, magnitude) {
+        return 0;
+    }
+    let body = magnitude.len() - fields::uint::leading_zero_bytes(magnitude);
+    framed_size(body + (body == 0) as usize, room)
+}
+
+// The bytes that a scalar takes; 0 where they pass `room`.
+pub fn size(value: Scalar, room: usize) -> usize
+    ensures { λ r. ⌜ r ≡ fitted room (checkedBytes (scalarArgument value)) ⌝ }
+{
+    match value {
+        Scalar::Null(_) => fit(1, room),
+        Scalar::Bool(_) => fit(1, room),
+        Scalar::I64(n) => framed_size(
+            fields::uint::encoded_size_of(fields::sign::magnitude(n)),
+            room,
+        ),
+        Scalar::F32(bits) => fit(floats::f32_size(bits), room),
+        Scalar::F64(bits) => fit(floats::f64_size(bits), room),
+        Scalar::Symbol(sid) => framed_size(fields::uint::encoded_size_of(sid), room),
+    }
+}
+
+// By its case.
+pub fn write(buf: &mut [u8], at: usize, value: Scalar) -> usize
+    ensures { λ r. ⌜ _≡_ {A = ℕ × List ℕ} (r, now (buf .exit)) (placed (now (buf .entry)) at (checkedBytes (scalarArgument value))) ⌝ }
+{
+    match value {
+        Scalar::Null(t) => write_null(buf, at, t),
+        Scalar::Bool(b) => write_bool(buf, at, b),
+        Scalar::I64(n) => write_i64(buf, at, n),
+        Scalar::F32(bits) => floats::write_f32_bits(buf, at, bits),
+        Scalar::F64(bits) => floats::write_f64_bits(buf, at, bits),
+        Scalar::Symbol(sid) => write_symbol(buf, at, sid),
+    }
+}
