@@ -11,7 +11,8 @@
 mod words;
 mod writes;
 
-ghost use Prim.Native.Nat.{_+_, _≤_};
+ghost use mathlib.Core.Path.{_≡_};
+ghost use Prim.Native.Nat.{_≤_};
 ghost use lib.ListN.{length};
 use libc::STDIN_FILENO;
 use libc::STDOUT_FILENO;
@@ -173,7 +174,8 @@ fn print_got(answer: u64, state: State) {
 }
 
 fn is_state(line: &[u8], state: State) -> bool {
-    (state.used == size(word(line, 2))) & (state.depth == size(word(line, 3)))
+    (state.used == size(word(line, 2)))
+        & (state.depth == size(word(line, 3)))
         & (state.waiting == is_one(word(line, 4)))
 }
 
@@ -217,7 +219,9 @@ fn is_as_said(line: &[u8], state: State, buf: &[u8]) -> bool {
 }
 
 fn is_comparison(name: &[u8]) -> bool {
-    check::same(name, b"open") | check::same(name, b"take") | check::same(name, b"all")
+    check::same(name, b"open")
+        | check::same(name, b"take")
+        | check::same(name, b"all")
         | check::same(name, b"bytes")
 }
 
@@ -260,6 +264,13 @@ fn run_lines(text: &[u8], buf: &mut [u8])
     }
 }
 
+// The `ensures` gives the length, which lending the array as a slice needs.
+fn longest_buffer() -> [u8; 2200000]
+    ensures { λ r. ⌜ 2200000 ≡ length r ⌝ }
+{
+    [FILL; 2200000]
+}
+
 fn main() {
     let mut text = io::large_buffer();
     let n = io::read_full(STDIN_FILENO, &mut text);
@@ -267,7 +278,7 @@ fn main() {
         print(b"more than is read\n");
         return;
     }
-    let mut buf = io::large_buffer();
+    let mut buf = longest_buffer();
     run_lines(&text[..n], &mut buf);
     print(b"end\n");
 }

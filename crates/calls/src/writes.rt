@@ -63,7 +63,13 @@ fn local_time(call: &[u8]) -> Timestamp {
 fn write_int(call: &[u8], annotations: &[u8], state: State, buf: &mut [u8]) -> Written {
     let mut bytes = [0u8; 256];
     let n = words::hex_bytes(word(call, 2), &mut bytes);
-    writer::write_int(state, buf, annotations, is_negative(word(call, 1)), &bytes[0..n])
+    writer::write_int(
+        state,
+        buf,
+        annotations,
+        is_negative(word(call, 1)),
+        &bytes[0..n],
+    )
 }
 
 fn write_decimal(call: &[u8], annotations: &[u8], state: State, buf: &mut [u8]) -> Written {
