@@ -384,7 +384,8 @@ pub fn field_name(s: State, buf: &mut [u8], sid: u64) -> Written
     ended(s, put, true, Refusal::NoRoom)
 }
 
-fn type_code(kind: ContainerType) -> u8
+// The type byte of a container.
+pub fn type_code(kind: ContainerType) -> u8
     ensures { λ r. ⌜ r ≡ containerCode (kindOf kind) ⌝ }
 {
     match kind {

@@ -1,4 +1,4 @@
--- `goatminute::gm_name` meets its contract: refused by place, refused for room, or put at the end of the used bytes.
+-- `goatminute::gm_field_name` meets its contract: refused by place, refused for room, or put at the end of the used bytes.
 -- Assumes nothing.
 use Prim.Native.Nat.{_+_}
 use native.Mathlib.Omega.{arith}
@@ -17,8 +17,8 @@ use Rattle.writer.proofs.Run.{config, past-place, put-fits, end-run}
 use Rattle.goatminute.specs.Entries.{enteredAs, endedNumber, endedState}
 use Rattle.goatminute.proofs.Entered.{refused-entry, accepted-entry, passed-entry, ended-nothing, ended-bytes, entered-ended}
 use borrow.Author.Needs.{needs}
-use Rattle.goatminute.proofs.gm_name.Statement.{statement}
-use Rattle.goatminute.proofs.gm_name.Tie as tie
+use Rattle.goatminute.proofs.gm_field_name.Statement.{statement}
+use Rattle.goatminute.proofs.gm_field_name.Tie as tie
 
 name-place-requires : tie.Need-name-place-requires
 name-place-requires c κs = search needs
@@ -66,8 +66,8 @@ returns-2 c =
     let r = end-run (name (a .sid)) (stateOf (a .state .now)) (a .buf .now) (varUIntBytes (a .sid)) (w .write .result) (w .write .last .0) true e past (varUInt-least (a .sid)) refl in
     rw (c .before .before .ended .ensures .0, c .before .before .ended .ensures .1) (entered-ended (name (a .sid)) (a .state .now) (a .buf .now) (not (inStruct (openContainers (stateOf (a .state .now)))) || stateOf (a .state .now) .waiting) ((ltb (length (a .buf .now)) (stateOf (a .state .now) .used + length (varUIntBytes (a .sid))), 10) ∷ []) refl (λ s. refl) (w .write .result) (w .write .last .0) true _ (accepted-entry (name (a .sid)) (a .state .now) (a .buf .now) (not (inStruct (openContainers (stateOf (a .state .now)))) || stateOf (a .state .now) .waiting) ((ltb (length (a .buf .now)) (stateOf (a .state .now) .used + length (varUIntBytes (a .sid))), 10) ∷ []) refl (p .name-place .result) (p .name-place .ensures) ok) r)
 
-pub gm-name-spec : {M : Type 1} → statement M
-gm-name-spec =
+pub gm-field-name-spec : {M : Type 1} → statement M
+gm-field-name-spec =
     tie.close
     (tie.spec
     name-place-requires
