@@ -83,8 +83,10 @@ fn type_of_code(code: u8) -> IonType
     ensures { λ r. ⌜ r ≡ typeCoded code ⌝ }
 {
     match code {
+        0 => IonType::Null,
         1 => IonType::Bool,
-        2 | 3 => IonType::Int,
+        2 => IonType::Int,
+        3 => IonType::Int,
         4 => IonType::Float,
         5 => IonType::Decimal,
         6 => IonType::Timestamp,
@@ -138,9 +140,9 @@ pub extern "C" fn gm_write_null(
     state: &mut [u8],
     buf: &mut [u8],
     annotations: &[u8],
-    type_code: u8,
+    code: u8,
 ) -> u8
-    ensures { λ r. ⌜ enteredAs r (now (state .exit)) (now (buf .exit)) ≡ entered (write (sidsOf (now (annotations .entry))) (writeNull (typeOf (typeCoded type_code)))) (now (state .entry)) (now (buf .entry)) ⌝ }
+    ensures { λ r. ⌜ enteredAs r (now (state .exit)) (now (buf .exit)) ≡ entered (write (sidsOf (now (annotations .entry))) (writeNull (typeOf (typeCoded code)))) (now (state .entry)) (now (buf .entry)) ⌝ }
 {
     let place = state_bytes::value_place(state, buf.len());
     let Answer::Accepted = place else {
@@ -150,7 +152,7 @@ pub extern "C" fn gm_write_null(
         buf,
         state_bytes::used(state),
         annotations,
-        type_of_code(type_code),
+        type_of_code(code),
     );
     ended(state, put, false, Refusal::NoRoom)
 }
@@ -313,13 +315,13 @@ pub extern "C" fn gm_write_timestamp(
     hour: u32,
     minute: u32,
     second: u32,
-    offset_known: u8,
+    known: u8,
     offset: i32,
-    fraction_given: u8,
+    given: u8,
     digits: u32,
     coefficient: u64,
 ) -> u8
-    ensures { λ r. ⌜ enteredAs r (now (state .exit)) (now (buf .exit)) ≡ entered (write (sidsOf (now (annotations .entry))) (argumentOf (timestampLent precision year month day hour minute second offset_known offset fraction_given digits coefficient))) (now (state .entry)) (now (buf .entry)) ⌝ }
+    ensures { λ r. ⌜ enteredAs r (now (state .exit)) (now (buf .exit)) ≡ entered (write (sidsOf (now (annotations .entry))) (argumentOf (timestampLent precision year month day hour minute second known offset given digits coefficient))) (now (state .entry)) (now (buf .entry)) ⌝ }
 {
     let value = Timestamp {
         precision: precision_of(precision),
@@ -329,8 +331,8 @@ pub extern "C" fn gm_write_timestamp(
         hour,
         minute,
         second,
-        offset: offset_of(offset_known, offset),
-        fraction: fraction_of(fraction_given, digits, coefficient),
+        offset: offset_of(known, offset),
+        fraction: fraction_of(given, digits, coefficient),
     };
     write_timestamp(state, buf, annotations, value)
 }

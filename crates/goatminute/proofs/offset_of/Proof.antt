@@ -1,0 +1,19 @@
+-- `goatminute::offset_of` meets its contract: given, or not.
+-- Assumes nothing.
+use borrow.Author.Tests.{eq-eqb, ne-eqb}
+use mir.ValLaws.{toZ-ofZ}
+use mir.Syntax.{w32}
+use Rattle.goatminute.specs.Lent.{offsetLent}
+use Rattle.goatminute.proofs.offset_of.Statement.{statement}
+use Rattle.goatminute.proofs.offset_of.Tie as tie
+
+returns : tie.Need-returns
+unfolding offsetLent
+returns c = rw (eq-eqb (c .before .args .known) 0 (c .if1 .taken), offsetLent)
+
+returns-2 : tie.Need-returns-2
+unfolding offsetLent
+returns-2 c = rw (ne-eqb (c .before .args .known) 0 (c .if1 .left), offsetLent)
+
+pub offset-of-spec : {M : Type 1} → statement M
+offset-of-spec = tie.close (tie.spec returns returns-2)
