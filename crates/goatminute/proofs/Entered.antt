@@ -1,26 +1,32 @@
 -- What an entry point answers and leaves: refused by place, or as the machine does.
 -- Assumes nothing.
-use Prim.Native.Nat.{ℕ, _+_, _<_, _≤_}
-use native.Mathlib.Omega.{arith}
+use Prim.Native.Nat.{ℕ, _+_}
 use mathlib.Core.Path.{_≡_, refl, sym, _∙_, ap}
-use mathlib.Core.Bool.{Bool, true, false, true≢false, false≢true, not, _&&_}
-use mathlib.Core.List.{List, [], _∷_, _++_}
+use mathlib.Core.Bool.{Bool, true, false, false≢true, not}
+use mathlib.Core.List.{List, _++_}
 use lib.Dec.{ltb, eqb}
 use lib.ListN.{length}
 use borrow.Author.Tests.{eq-eqb, ne-eqb, eqb-true, eqb-false}
-use Rattle.ion.proofs.Tests.{by-cases, both}
+use Rattle.ion.proofs.Tests.{by-cases}
 use Rattle.machine.specs.declared.State.{State}
 use Rattle.machine.specs.declared.Refusal.{Refusal}
 use Rattle.machine.specs.declared.Answer.{Answer}
-use Rattle.machine.specs.declared.Answer.the-variants.{Accepted, Refused}
 use Rattle.machine.specs.Call.{Call}
-use Rattle.machine.specs.Machine.{longestBuffer, fits, placeLines, checks, Verdict, accepted, refused, firstFailing, isAccepted}
+use Rattle.machine.specs.Machine.{longestBuffer, placeLines, checks, Verdict, accepted, refused, isAccepted}
 use Rattle.machine.specs.Numbers.{number, verdictOf, Outcome, outcomeOf, run}
 use Rattle.place.specs.Place.{placeVerdict}
-use Rattle.state_bytes.specs.StateBytes.{stateSize, stateOf, lentFits, lentPlace, storedHead, numberOf, storedBy, Entered, enteredBy, entered}
+use Rattle.state_bytes.specs.StateBytes.{stateSize, stateOf, lentPlace, storedHead, numberOf, storedBy, enteredBy, entered}
 use Rattle.goatminute.specs.Entries.{enteredAs, endedNumber, endedState}
 use Rattle.writer.specs.Ended.{endedBy}
-use Rattle.writer.proofs.Run.{outcome, config, run-misplaced, ended-none, ended-some}
+use Rattle.writer.proofs.Run.{config, run-misplaced, ended-none, ended-some}
+
+refused-is : (v : Verdict) → isAccepted v ≡ false → v ≡ refused (numberOf v)
+refused-is accepted e = absurd (false≢true (sym e))
+refused-is (refused n) e = refl
+
+pub accepted-is : (v : Verdict) → isAccepted v ≡ true → v ≡ accepted
+accepted-is accepted e = refl
+accepted-is (refused n) e = absurd (false≢true e)
 
 module _ (c : Call) (st b : List ℕ) (m : Bool) (rest : List (Bool × ℕ)) (q : checks c (config (stateOf st) b) ≡ placeLines (stateOf st) (length b) m ++ rest) where
   -- a slice of the right length and a buffer that is not too long: the machine decides
@@ -60,16 +66,9 @@ module _ (c : Call) (st b : List ℕ) (m : Bool) (rest : List (Bool × ℕ)) (q 
       (λ h. sym (unfold lentPlace placeVerdict in same-place l h) ∙ e)
       (λ h. absurd (false≢true (ap isAccepted (rw (l, h) at e)))))
 
-  -- the answer of a check by place
-  module _ (p : Answer) (e : verdictOf p ≡ lentPlace st (length b) m) where
-    pub refused-entry : (why : Refusal) (n : ℕ) → p ≡ Refused why → n ≡ numberOf (verdictOf p) → enteredAs n st b ≡ entered c st b
-    refused-entry why n h k = ap (λ (x : ℕ). enteredAs x st b) (k ∙ ap (λ (x : Answer). numberOf (verdictOf x)) h) ∙ entered-refused (number why) (sym e ∙ ap verdictOf h)
-
-    pub accepted-entry : p ≡ Accepted → lentPlace st (length b) m ≡ accepted
-    accepted-entry h = sym e ∙ ap verdictOf h
-
-    pub passed-entry : p ≡ Accepted → placeVerdict (stateOf st) (length b) m ≡ accepted
-    passed-entry h = lent-place (accepted-entry h)
+  -- a place that does not pass: p is its answer
+  pub barred-entry : (p : Answer) (n : ℕ) → isAccepted (lentPlace st (length b) m) ≡ false → verdictOf p ≡ lentPlace st (length b) m → n ≡ numberOf (verdictOf p) → enteredAs n st b ≡ entered c st b
+  barred-entry p n f e k = entered-refused n (refused-is (lentPlace st (length b) m) f ∙ ap (λ (v : Verdict). refused (numberOf v)) (sym e) ∙ sym (ap refused k))
 
 -- ---- an entry that puts bytes at the end of the used ones
 

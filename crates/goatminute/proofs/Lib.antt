@@ -1,3 +1,5 @@
+pub mod Calls
 pub mod Entered
 pub mod Lent
+pub mod Start
 pub mod Values

@@ -3,6 +3,7 @@
 use Prim.Native.Nat.{ℕ}
 use mathlib.Core.Bool.{true, false}
 use mathlib.Core.List.{[], _∷_}
+use mathlib.Core.List.{List as Listed}
 use lib.Dec.{eqb}
 use lib.IntN.{ℤ}
 use lib.ListN.{getD}
@@ -17,11 +18,18 @@ use Rattle.timestamp.specs.declared.Fraction.the-variants.{None, Digits}
 use Rattle.timestamp.specs.declared.Timestamp.{Timestamp as Stamp}
 
 -- "Typed Value Formats": a type by its code. 2 and 3 are both int; a number past 13 stands for null.
-unfoldable pub typeCoded : ℕ → IonType
-typeCoded code = getD (Null ∷ Bool ∷ Int ∷ Int ∷ Float ∷ Decimal ∷ Timestamp ∷ Symbol ∷ String ∷ Clob ∷ Blob ∷ List ∷ Sexp ∷ Struct ∷ []) code Null
+abbrev pub types : Listed IonType
+types = Null ∷ Bool ∷ Int ∷ Int ∷ Float ∷ Decimal ∷ Timestamp ∷ Symbol ∷ String ∷ Clob ∷ Blob ∷ List ∷ Sexp ∷ Struct ∷ []
 
+unfoldable pub typeCoded : ℕ → IonType
+typeCoded code = getD types code Null
+
+abbrev pub precisions : Listed Precision
+precisions = Year ∷ Month ∷ Day ∷ Minute ∷ []
+
+-- from 4 on it is second
 unfoldable pub precisionNumbered : ℕ → Precision
-precisionNumbered n = getD (Year ∷ Month ∷ Day ∷ Minute ∷ []) n Second
+precisionNumbered n = getD precisions n Second
 
 unfoldable pub offsetLent : ℕ → ℤ → Offset
 offsetLent known minutes = elim (eqb known 0) [ true ↦ Unknown | false ↦ Minutes minutes ]

@@ -144,10 +144,9 @@ pub extern "C" fn gm_write_null(
 ) -> u8
     ensures { λ r. ⌜ enteredAs r (now (state .exit)) (now (buf .exit)) ≡ entered (write (sidsOf (now (annotations .entry))) (writeNull (typeOf (typeCoded code)))) (now (state .entry)) (now (buf .entry)) ⌝ }
 {
-    let place = state_bytes::value_place(state, buf.len());
-    let Answer::Accepted = place else {
-        return answered(place);
-    };
+    if !state_bytes::value_passes(state, buf.len()) {
+        return answered(state_bytes::value_place(state, buf.len()));
+    }
     let put = values::write_null(
         buf,
         state_bytes::used(state),
@@ -167,10 +166,9 @@ pub extern "C" fn gm_write_bool(
 ) -> u8
     ensures { λ r. ⌜ enteredAs r (now (state .exit)) (now (buf .exit)) ≡ entered (write (sidsOf (now (annotations .entry))) (writeBool (not (eqb value 0)))) (now (state .entry)) (now (buf .entry)) ⌝ }
 {
-    let place = state_bytes::value_place(state, buf.len());
-    let Answer::Accepted = place else {
-        return answered(place);
-    };
+    if !state_bytes::value_passes(state, buf.len()) {
+        return answered(state_bytes::value_place(state, buf.len()));
+    }
     let put = values::write_bool(buf, state_bytes::used(state), annotations, value != 0);
     ended(state, put, false, Refusal::NoRoom)
 }
@@ -185,10 +183,9 @@ pub extern "C" fn gm_write_i64(
 ) -> u8
     ensures { λ r. ⌜ enteredAs r (now (state .exit)) (now (buf .exit)) ≡ entered (write (sidsOf (now (annotations .entry))) (writeI64 value)) (now (state .entry)) (now (buf .entry)) ⌝ }
 {
-    let place = state_bytes::value_place(state, buf.len());
-    let Answer::Accepted = place else {
-        return answered(place);
-    };
+    if !state_bytes::value_passes(state, buf.len()) {
+        return answered(state_bytes::value_place(state, buf.len()));
+    }
     let put = values::write_i64(buf, state_bytes::used(state), annotations, value);
     ended(state, put, false, Refusal::NoRoom)
 }
@@ -204,10 +201,9 @@ pub extern "C" fn gm_write_int(
 ) -> u8
     ensures { λ r. ⌜ enteredAs r (now (state .exit)) (now (buf .exit)) ≡ entered (write (sidsOf (now (annotations .entry))) (writeInt (not (eqb negative 0)) (now (magnitude .entry)))) (now (state .entry)) (now (buf .entry)) ⌝ }
 {
-    let place = state_bytes::value_place(state, buf.len());
-    let Answer::Accepted = place else {
-        return answered(place);
-    };
+    if !state_bytes::value_passes(state, buf.len()) {
+        return answered(state_bytes::value_place(state, buf.len()));
+    }
     let put = values::write_int(
         buf,
         state_bytes::used(state),
@@ -231,10 +227,9 @@ pub extern "C" fn gm_write_f32(
 ) -> u8
     ensures { λ r. ⌜ enteredAs r (now (state .exit)) (now (buf .exit)) ≡ entered (write (sidsOf (now (annotations .entry))) (writeF32 bits)) (now (state .entry)) (now (buf .entry)) ⌝ }
 {
-    let place = state_bytes::value_place(state, buf.len());
-    let Answer::Accepted = place else {
-        return answered(place);
-    };
+    if !state_bytes::value_passes(state, buf.len()) {
+        return answered(state_bytes::value_place(state, buf.len()));
+    }
     let put = values::write_f32(buf, state_bytes::used(state), annotations, bits);
     ended(state, put, false, Refusal::NoRoom)
 }
@@ -249,10 +244,9 @@ pub extern "C" fn gm_write_f64(
 ) -> u8
     ensures { λ r. ⌜ enteredAs r (now (state .exit)) (now (buf .exit)) ≡ entered (write (sidsOf (now (annotations .entry))) (writeF64 bits)) (now (state .entry)) (now (buf .entry)) ⌝ }
 {
-    let place = state_bytes::value_place(state, buf.len());
-    let Answer::Accepted = place else {
-        return answered(place);
-    };
+    if !state_bytes::value_passes(state, buf.len()) {
+        return answered(state_bytes::value_place(state, buf.len()));
+    }
     let put = values::write_f64(buf, state_bytes::used(state), annotations, bits);
     ended(state, put, false, Refusal::NoRoom)
 }
@@ -269,10 +263,9 @@ pub extern "C" fn gm_write_decimal(
 ) -> u8
     ensures { λ r. ⌜ enteredAs r (now (state .exit)) (now (buf .exit)) ≡ entered (write (sidsOf (now (annotations .entry))) (writeDecimal (not (eqb negative 0)) (now (coefficient .entry)) exponent)) (now (state .entry)) (now (buf .entry)) ⌝ }
 {
-    let place = state_bytes::value_place(state, buf.len());
-    let Answer::Accepted = place else {
-        return answered(place);
-    };
+    if !state_bytes::value_passes(state, buf.len()) {
+        return answered(state_bytes::value_place(state, buf.len()));
+    }
     let put = values::write_decimal(
         buf,
         state_bytes::used(state),
@@ -291,10 +284,9 @@ pub extern "C" fn gm_write_decimal(
 fn write_timestamp(state: &mut [u8], buf: &mut [u8], annotations: &[u8], value: Timestamp) -> u8
     ensures { λ r. ⌜ enteredAs r (now (state .exit)) (now (buf .exit)) ≡ entered (write (sidsOf (now (annotations .entry))) (argumentOf value)) (now (state .entry)) (now (buf .entry)) ⌝ }
 {
-    let place = state_bytes::value_place(state, buf.len());
-    let Answer::Accepted = place else {
-        return answered(place);
-    };
+    if !state_bytes::value_passes(state, buf.len()) {
+        return answered(state_bytes::value_place(state, buf.len()));
+    }
     let put = values::write_timestamp(buf, state_bytes::used(state), annotations, value);
     if put == 0 {
         return number_of(writer::timestamp_refusal(value));
@@ -347,10 +339,9 @@ pub extern "C" fn gm_write_symbol(
 ) -> u8
     ensures { λ r. ⌜ enteredAs r (now (state .exit)) (now (buf .exit)) ≡ entered (write (sidsOf (now (annotations .entry))) (writeSymbol sid)) (now (state .entry)) (now (buf .entry)) ⌝ }
 {
-    let place = state_bytes::value_place(state, buf.len());
-    let Answer::Accepted = place else {
-        return answered(place);
-    };
+    if !state_bytes::value_passes(state, buf.len()) {
+        return answered(state_bytes::value_place(state, buf.len()));
+    }
     let put = values::write_symbol(buf, state_bytes::used(state), annotations, sid);
     ended(state, put, false, Refusal::NoRoom)
 }
@@ -365,10 +356,9 @@ pub extern "C" fn gm_write_string(
 ) -> u8
     ensures { λ r. ⌜ enteredAs r (now (state .exit)) (now (buf .exit)) ≡ entered (write (sidsOf (now (annotations .entry))) (writeString (now (bytes .entry)))) (now (state .entry)) (now (buf .entry)) ⌝ }
 {
-    let place = state_bytes::value_place(state, buf.len());
-    let Answer::Accepted = place else {
-        return answered(place);
-    };
+    if !state_bytes::value_passes(state, buf.len()) {
+        return answered(state_bytes::value_place(state, buf.len()));
+    }
     let put = values::write_string(buf, state_bytes::used(state), annotations, bytes);
     if put == 0 {
         return number_of(writer::string_refusal(bytes));
@@ -386,10 +376,9 @@ pub extern "C" fn gm_write_clob(
 ) -> u8
     ensures { λ r. ⌜ enteredAs r (now (state .exit)) (now (buf .exit)) ≡ entered (write (sidsOf (now (annotations .entry))) (writeClob (now (bytes .entry)))) (now (state .entry)) (now (buf .entry)) ⌝ }
 {
-    let place = state_bytes::value_place(state, buf.len());
-    let Answer::Accepted = place else {
-        return answered(place);
-    };
+    if !state_bytes::value_passes(state, buf.len()) {
+        return answered(state_bytes::value_place(state, buf.len()));
+    }
     let put = values::write_clob(buf, state_bytes::used(state), annotations, bytes);
     ended(state, put, false, Refusal::NoRoom)
 }
@@ -404,10 +393,9 @@ pub extern "C" fn gm_write_blob(
 ) -> u8
     ensures { λ r. ⌜ enteredAs r (now (state .exit)) (now (buf .exit)) ≡ entered (write (sidsOf (now (annotations .entry))) (writeBlob (now (bytes .entry)))) (now (state .entry)) (now (buf .entry)) ⌝ }
 {
-    let place = state_bytes::value_place(state, buf.len());
-    let Answer::Accepted = place else {
-        return answered(place);
-    };
+    if !state_bytes::value_passes(state, buf.len()) {
+        return answered(state_bytes::value_place(state, buf.len()));
+    }
     let put = values::write_blob(buf, state_bytes::used(state), annotations, bytes);
     ended(state, put, false, Refusal::NoRoom)
 }
@@ -419,10 +407,9 @@ pub extern "C" fn gm_write_blob(
 pub extern "C" fn gm_field_name(state: &mut [u8], buf: &mut [u8], sid: u64) -> u8
     ensures { λ r. ⌜ enteredAs r (now (state .exit)) (now (buf .exit)) ≡ entered (name sid) (now (state .entry)) (now (buf .entry)) ⌝ }
 {
-    let place = state_bytes::name_place(state, buf.len());
-    let Answer::Accepted = place else {
-        return answered(place);
-    };
+    if !state_bytes::name_passes(state, buf.len()) {
+        return answered(state_bytes::name_place(state, buf.len()));
+    }
     let put = fields::var_uint::write(buf, state_bytes::used(state), sid);
     ended(state, put, true, Refusal::NoRoom)
 }
@@ -431,10 +418,9 @@ pub extern "C" fn gm_field_name(state: &mut [u8], buf: &mut [u8], sid: u64) -> u
 fn open(state: &mut [u8], buf: &mut [u8], annotations: &[u8], kind: ContainerType) -> u8
     ensures { λ r. ⌜ enteredAs r (now (state .exit)) (now (buf .exit)) ≡ entered (opening (sidsOf (now (annotations .entry))) (kindOf kind)) (now (state .entry)) (now (buf .entry)) ⌝ }
 {
-    let place = state_bytes::value_place(state, buf.len());
-    let Answer::Accepted = place else {
-        return answered(place);
-    };
+    if !state_bytes::value_passes(state, buf.len()) {
+        return answered(state_bytes::value_place(state, buf.len()));
+    }
     let depth = state_bytes::depth(state);
     if MOST_OPEN <= depth {
         return number_of(Refusal::TooDeep);
@@ -484,10 +470,9 @@ pub extern "C" fn gm_open_struct(state: &mut [u8], buf: &mut [u8], annotations: 
 pub extern "C" fn gm_close(state: &mut [u8], buf: &mut [u8]) -> u8
     ensures { λ r. ⌜ enteredAs r (now (state .exit)) (now (buf .exit)) ≡ entered (closing) (now (state .entry)) (now (buf .entry)) ⌝ }
 {
-    let place = state_bytes::close_place(state, buf.len());
-    let Answer::Accepted = place else {
-        return answered(place);
-    };
+    if !state_bytes::close_passes(state, buf.len()) {
+        return answered(state_bytes::close_place(state, buf.len()));
+    }
     let depth = state_bytes::depth(state);
     let c = state_bytes::container(state, depth - 1);
     let used = containers::close(buf, state_bytes::used(state), c);
@@ -503,10 +488,9 @@ pub extern "C" fn gm_close(state: &mut [u8], buf: &mut [u8]) -> u8
 pub extern "C" fn gm_abandon(state: &mut [u8], buf: &mut [u8]) -> u8
     ensures { λ r. ⌜ enteredAs r (now (state .exit)) (now (buf .exit)) ≡ entered (abandonment) (now (state .entry)) (now (buf .entry)) ⌝ }
 {
-    let place = state_bytes::abandon_place(state, buf.len());
-    let Answer::Accepted = place else {
-        return answered(place);
-    };
+    if !state_bytes::abandon_passes(state, buf.len()) {
+        return answered(state_bytes::abandon_place(state, buf.len()));
+    }
     let depth = state_bytes::depth(state);
     let c = state_bytes::container(state, depth - 1);
     let waiting = state_bytes::outer_is_struct(state);
@@ -555,10 +539,9 @@ pub extern "C" fn gm_start(state: &mut [u8], buf: &mut [u8]) -> u8
 pub extern "C" fn gm_version_marker(state: &mut [u8], buf: &mut [u8]) -> u8
     ensures { λ r. ⌜ enteredAs r (now (state .exit)) (now (buf .exit)) ≡ entered (versionMarker) (now (state .entry)) (now (buf .entry)) ⌝ }
 {
-    let place = state_bytes::top_place(state, buf.len());
-    let Answer::Accepted = place else {
-        return answered(place);
-    };
+    if !state_bytes::top_passes(state, buf.len()) {
+        return answered(state_bytes::top_place(state, buf.len()));
+    }
     let put = buffer::copy(buf, state_bytes::used(state), &MARKER);
     ended(state, put, state_bytes::waiting(state), Refusal::NoRoom)
 }
@@ -568,10 +551,9 @@ pub extern "C" fn gm_version_marker(state: &mut [u8], buf: &mut [u8]) -> u8
 pub extern "C" fn gm_empty(state: &mut [u8], buf: &[u8]) -> u8
     ensures { λ r. ⌜ enteredAs r (now (state .exit)) (now (buf .entry)) ≡ entered (emptying) (now (state .entry)) (now (buf .entry)) ⌝ }
 {
-    let place = state_bytes::top_place(state, buf.len());
-    let Answer::Accepted = place else {
-        return answered(place);
-    };
+    if !state_bytes::top_passes(state, buf.len()) {
+        return answered(state_bytes::top_place(state, buf.len()));
+    }
     let depth = state_bytes::depth(state);
     let waiting = state_bytes::waiting(state);
     state_bytes::store(state, 0, depth, waiting);

@@ -1,23 +1,23 @@
 -- The state that bytes spell, part by part, and the answers of a check by place over them.
 -- Assumes nothing.
-use Prim.Native.Nat.{ℕ, zero, suc, _+_, _-_, _%_, _<_, _≤_}
+use Prim.Native.Nat.{ℕ, zero, suc, _+_, _-_, _*_, _%_, _<_, _≤_}
 use native.Mathlib.Omega.{arith}
 use native.Mathlib.Nat.{add-zero, add-suc, suc-add, zero-add}
 use mathlib.Core.Path.{_≡_, refl, sym, _∙_, ap}
-use mathlib.Core.Bool.{Bool, true, false, true≢false, false≢true, not, _&&_, _||_, and-false}
+use mathlib.Core.Bool.{Bool, true, false, false≢true, not, _&&_, _||_, and-false, and-true}
 use mathlib.Core.List.{List, [], _∷_, _++_}
-use lib.Dec.{eqb, leb}
+use lib.Dec.{eqb, ltb, leb}
 use lib.ListN.{length, getD, set, List·getD-eq-default, replicate}
 use mir.Val.{boolByte}
-use borrow.Author.Tests.{eq-eqb, ne-eqb, eqb-false, lt-ltb, le-ltb, lt-leb, le-leb}
+use borrow.Author.Tests.{eq-eqb, ne-eqb, eqb-true, eqb-false, lt-ltb, le-ltb, lt-leb, le-leb, leb-true, leb-false, ltb-true, ltb-false}
 use Rattle.ion.proofs.Tests.{by-cases, both}
 use Rattle.buffer.specs.Laid.{laid}
 use Rattle.buffer.proofs.Laid.{laid-one, laid-snoc, laid-more}
 use Rattle.machine.specs.declared.Container.{Container}
 use Rattle.machine.specs.declared.State.{State}
-use Rattle.machine.specs.Machine.{noContainer, innermostFirst, openContainers, isOpen, inStruct, outer, fits, emptyState, accepted, refused, usedIf, finishedLength}
+use Rattle.machine.specs.Machine.{noContainer, innermostFirst, openContainers, inStruct, outer, containersFit, fits, emptyState, accepted, refused, isAccepted, usedIf, finishedLength}
 use Rattle.place.proofs.Finished.{unfinished-unfit}
-use Rattle.place.proofs.Laws.{innermost-step, innermost-none, open-of}
+use Rattle.place.proofs.Laws.{innermost-step, innermost-none, fits-overused, fits-overopen}
 use Rattle.state_bytes.specs.StateBytes.{four, placeOf, containerAt, containersFrom, stateOf, lentFits, lentPlace, fourBytes, flag, storedHead, storedContainer}
 
 -- ---- the state
@@ -74,6 +74,19 @@ inStruct-step l n h = rw (innermost-step l n h)
 pub inStruct-none : (l : List Container) (n : ℕ) → n ≤ 0 → false ≡ inStruct (innermostFirst l n)
 inStruct-none l n h = rw (innermost-none l n h)
 
+-- the code of the container below d; at 0 the byte there belongs to none
+pub struct-below : (b : List ℕ) (d : ℕ) → length b ≡ 296 → d ≤ 32 → (not (eqb d 0) && eqb (getD b (7 + 9 * d) 0) 0xD0) ≡ inStruct (innermostFirst (stateOf b .containers) d)
+struct-below b d h k =
+    by-cases (eqb d 0)
+    (λ p. rw p (inStruct-none (stateOf b .containers) d (omega (arith, eqb-true d 0 p))))
+    (λ p.
+    let q : 0 < d = positive (eqb-false d 0 p) in
+    let e : 7 + 9 * d ≡ placeOf (d - 1) + 8 = omega arith in
+    rw (p, e) (sym (ap (λ (c : Container). eqb (c .code) 0xD0) (ap (λ (s : State). getD (s .containers) (d - 1) noContainer) (state-is b h) ∙ container-is b (d - 1) (omega arith))) ∙ inStruct-step (stateOf b .containers) d q))
+  where
+    positive : (d ≡ 0 → ⊥) → 0 < d
+    positive n = omega (arith, n)
+
 pub outer-step : (l : List Container) (n : ℕ) → 0 < n → inStruct (innermostFirst l (n - 1)) ≡ inStruct (outer (innermostFirst l n))
 outer-step l n h = rw (innermost-step l n h)
 
@@ -90,6 +103,20 @@ fits-lent b room e = both {a = eqb (length b) 296} e .1
 
 pub unfit : (b : List ℕ) (room : ℕ) → (length b ≡ 296 → ⊥) → false ≡ lentFits b room
 unfit b room h = rw (ne-eqb (length b) 296 h)
+
+pub readable-both : (b : List ℕ) (d : ℕ) → (eqb (length b) 296 && leb d 32) ≡ true → (length b ≡ 296) × (d ≤ 32)
+readable-both b d e = let h = both {a = eqb (length b) 296} e in (eqb-true (length b) 296 (h .0), leb-true d 32 (h .1))
+
+-- a header that is the start or lies four beyond it
+pub apart : (header start : ℕ) → (not (eqb header start) && ltb header (start + 4)) ≡ false → (eqb header start || leb (start + 4) header) ≡ true
+apart header start e =
+    by-cases (eqb header start) (λ p. rw p)
+    (λ p. let q : ltb header (start + 4) ≡ false = rw p at e in rw (p, le-leb (start + 4) header (ltb-false header (start + 4) q)))
+
+pub between : (header start : ℕ) → (not (eqb header start) && ltb header (start + 4)) ≡ true → (eqb header start || leb (start + 4) header) ≡ false
+between header start e =
+    by-cases (eqb header start) (λ p. let q : false ≡ true = rw p at e in absurd (false≢true q))
+    (λ p. let q : ltb header (start + 4) ≡ true = rw p at e in rw (p, lt-leb (start + 4) header (ltb-true header (start + 4) q)))
 
 -- ---- the answers
 
@@ -161,3 +188,45 @@ unfinished-lent b room e =
     by-cases (eqb (length b) 296)
     (λ p. let f : fits (stateOf b) room ≡ false = rw p at e in unfinished-unfit (stateOf b) room f)
     (λ p. rw (state-none b (λ q. eqb-false (length b) 296 p q)) (unfold finishedLength in (empty-finished room)))
+
+-- ---- whether no line fails
+
+tests : (f w i m : Bool) → ((f && (not w || i)) && not m) ≡ (not ((w && not i) || m) && f)
+tests false w i m = sym (and-false (not ((w && not i) || m)))
+tests true false i m = sym (and-true (not m))
+tests true true true m = sym (and-true (not m))
+tests true true false m = refl
+
+module _ (b : List ℕ) (room : ℕ) (m : Bool) where
+  accepted-is : isAccepted (lentPlace b room m) ≡ (leb room 16777215 && (lentFits b room && not m))
+  unfolding lentPlace
+  accepted-is =
+      by-cases (leb room 16777215)
+      (λ p. rw (p, le-ltb 16777215 room (leb-true room 16777215 p)) (by-cases (lentFits b room) (λ f. rw f (by-cases m (λ q. rw q) (λ q. rw q))) (λ f. rw f)))
+      (λ p. rw (p, lt-ltb 16777215 room (leb-false room 16777215 p)))
+
+  pub unreadable : (eqb (length b) 296 && leb (stateOf b .depth) 32) ≡ false → false ≡ isAccepted (lentPlace b room m)
+  unreadable e = sym (accepted-is ∙ rw (unfit-by e, and-false (leb room 16777215)))
+    where
+      unfit-by : (eqb (length b) 296 && leb (stateOf b .depth) 32) ≡ false → lentFits b room ≡ false
+      unfit-by e = by-cases (eqb (length b) 296) (λ p. rw p (overopen (rw p at e))) (λ p. rw p)
+        where
+          overopen : leb (stateOf b .depth) 32 ≡ false → fits (stateOf b) room ≡ false
+          overopen d =
+              by-cases (leb (stateOf b .used) room)
+              (λ u. sym (fits-overopen (stateOf b) room (leb-true (stateOf b .used) room u) (leb-false (stateOf b .depth) 32 d)))
+              (λ u. sym (fits-overused (stateOf b) room (leb-false (stateOf b .used) room u)))
+
+  -- of a slice that can be read: the lines in the order in which they are asked
+  pub passes-is : (eqb (length b) 296 && leb (stateOf b .depth) 32) ≡ true
+      → isAccepted (lentPlace b room m)
+      ≡ (leb room 16777215 && (leb (stateOf b .used) room && (not ((stateOf b .waiting && not (inStruct (openContainers (stateOf b)))) || m) && containersFit (stateOf b .used) (openContainers (stateOf b)))))
+  unfolding fits
+  passes-is e =
+      let h = both {a = eqb (length b) 296} e in
+      accepted-is
+      ∙ rw (h .0, h .1)
+      (ap (λ (x : Bool). leb room 16777215 && x)
+      (by-cases (leb (stateOf b .used) room)
+      (λ u. rw u (tests (containersFit (stateOf b .used) (openContainers (stateOf b))) (stateOf b .waiting) (inStruct (openContainers (stateOf b))) m))
+      (λ u. rw u)))

@@ -1,13 +1,14 @@
 // A writer's state as lent bytes, and the checks by place on them. No State is made: what lies in an array at a computed place would be copied at every call.
 ghost use mathlib.Core.Path.{_≡_};
-ghost use mathlib.Core.Bool.{not, _||_};
+ghost use mathlib.Core.Bool.{not, _&&_, _||_};
 ghost use mathlib.Core.List.{[], _∷_};
-ghost use Prim.Native.Nat.{_+_, _-_, _*_, _≤_, _<_};
+ghost use Prim.Native.Nat.{_+_, _-_, _*_, _^_, _≤_, _<_};
+ghost use lib.Dec.{eqb, leb};
 ghost use lib.ListN.{length, getD};
 ghost use Rattle.buffer.specs.Laid.{laid};
-ghost use Rattle.machine.specs.Machine.{noContainer, innermostFirst, openContainers, isOpen, inStruct, outer, containersFit, lacksName, finishedLength};
+ghost use Rattle.machine.specs.Machine.{noContainer, innermostFirst, openContainers, isOpen, inStruct, outer, containerFits, containersFit, longestBuffer, lacksName, isAccepted, finishedLength};
 ghost use Rattle.machine.specs.Numbers.{verdictOf};
-ghost use Rattle.state_bytes.specs.StateBytes.{four, placeOf, containerAt, stateOf, lentFits, lentPlace, fourBytes, storedHead, storedContainer};
+ghost use Rattle.state_bytes.specs.StateBytes.{stateSize, four, placeOf, containerAt, stateOf, lentFits, lentPlace, fourBytes, storedHead, storedContainer};
 use machine::Answer;
 use machine::Container;
 use machine::Refusal;
@@ -17,6 +18,10 @@ const STATE_SIZE: usize = 296;
 const LONGEST_BUFFER: usize = 16_777_215;
 
 const MOST_OPEN: usize = 32;
+
+const LIST: u8 = 0xB0;
+
+const SEXP: u8 = 0xC0;
 
 const STRUCT: u8 = 0xD0;
 
@@ -28,14 +33,14 @@ fn wide(x: u8) -> usize
 
 fn get_four(st: &[u8], at: usize) -> usize
     requires { ⌜ at + 4 ≤ length (now st) ⌝ }
-    ensures { λ r. ⌜ r ≡ four (now (st .entry)) at ⌝ }
+    ensures { λ r. ⌜ (r ≡ four (now (st .entry)) at) × (r < 2 ^ 32) ⌝ }
 {
     wide(st[at]) + 256 * wide(st[at + 1]) + 65536 * wide(st[at + 2]) + 16777216 * wide(st[at + 3])
 }
 
 fn get_container(st: &[u8], i: usize) -> Container
     requires { ⌜ (i < 32) × (length (now st) ≡ 296) ⌝ }
-    ensures { λ r. ⌜ r ≡ containerAt (now (st .entry)) (placeOf i) ⌝ }
+    ensures { λ r. ⌜ (r ≡ containerAt (now (st .entry)) (placeOf i)) × (r .start < 2 ^ 32) × (r .header < 2 ^ 32) ⌝ }
 {
     let at = 8 + 9 * i;
     Container {
@@ -118,6 +123,23 @@ pub fn outer_is_struct(st: &[u8]) -> bool
     in_struct(st, depth - 1)
 }
 
+// A container by itself, with what follows it starting at `limit`. Its numbers come from four bytes each, so that no sum wraps.
+fn container_fits(c: Container, limit: usize) -> bool
+    requires { ⌜ (c .start < 2 ^ 32) × (c .header < 2 ^ 32) ⌝ }
+    ensures { λ r. ⌜ r ≡ containerFits limit c ⌝ }
+{
+    let code = c.code;
+    let start = c.start;
+    let header = c.header;
+    if limit < header + 2 {
+        return false;
+    }
+    if (header != start) & (header < start + 4) {
+        return false;
+    }
+    (code == LIST) | ((code == SEXP) | (code == STRUCT))
+}
+
 // From the innermost container outwards: each has to end before the next begins.
 fn containers_fit(st: &[u8], used: usize, depth: usize) -> bool
     requires { ⌜ (depth ≤ 32) × (length (now st) ≡ 296) ⌝ }
@@ -128,7 +150,7 @@ fn containers_fit(st: &[u8], used: usize, depth: usize) -> bool
     while 0 < i {
         i -= 1;
         let c = get_container(st, i);
-        if !place::container_fits(c, limit) {
+        if !container_fits(c, limit) {
             return false;
         }
         limit = c.start;
@@ -214,6 +236,109 @@ pub fn top_place(st: &[u8], room: usize) -> Answer
 {
     let depth = depth(st);
     judged(st, room, depth != 0)
+}
+
+// ---- the same, asked with yes or no. Most calls pass: the entries ask this first, and which line fails only where it is no.
+
+// Whether the slice has the length of a state, and its depth is one that fits.
+fn readable(st: &[u8]) -> bool
+    ensures { λ r. ⌜ r ≡ (eqb (length (now (st .entry))) stateSize && leb (stateOf (now (st .entry)) .depth) 32) ⌝ }
+{
+    if st.len() != STATE_SIZE {
+        return false;
+    }
+    wide(st[4]) <= MOST_OPEN
+}
+
+// Whether the container below `depth` is a struct. At depth 0 the byte that is read belongs to none.
+fn innermost_is_struct(st: &[u8], depth: usize) -> bool
+    requires { ⌜ (depth ≤ 32) × (length (now st) ≡ 296) ⌝ }
+    ensures { λ r. ⌜ r ≡ inStruct (innermostFirst (stateOf (now (st .entry)) .containers) depth) ⌝ }
+{
+    (depth != 0) & (st[7 + 9 * depth] == STRUCT)
+}
+
+// Whether no line fails; `barred` says that a name waits outside a struct or that line 3 fails.
+fn passes(st: &[u8], room: usize, depth: usize, barred: bool) -> bool
+    requires { ⌜ (depth ≤ 32) × (length (now st) ≡ 296) ⌝ }
+    ensures { λ r. ⌜ r ≡ (leb room longestBuffer && (leb (stateOf (now (st .entry)) .used) room && (not barred && containersFit (stateOf (now (st .entry)) .used) (innermostFirst (stateOf (now (st .entry)) .containers) depth)))) ⌝ }
+{
+    if LONGEST_BUFFER < room {
+        return false;
+    }
+    let used = get_four(st, 0);
+    if room < used {
+        return false;
+    }
+    if barred {
+        return false;
+    }
+    containers_fit(st, used, depth)
+}
+
+// Whether a scalar or an opening may stand here.
+pub fn value_passes(st: &[u8], room: usize) -> bool
+    ensures { λ r. ⌜ r ≡ isAccepted (lentPlace (now (st .entry)) room (lacksName (stateOf (now (st .entry))))) ⌝ }
+{
+    if !readable(st) {
+        return false;
+    }
+    let depth = depth(st);
+    let inside = innermost_is_struct(st, depth);
+    let waits = waiting(st);
+    passes(st, room, depth, (waits & !inside) | (inside & !waits))
+}
+
+// Whether a field name may stand here.
+pub fn name_passes(st: &[u8], room: usize) -> bool
+    ensures { λ r. ⌜ r ≡ isAccepted (lentPlace (now (st .entry)) room (not (inStruct (openContainers (stateOf (now (st .entry))))) || (stateOf (now (st .entry))) .waiting)) ⌝ }
+{
+    if !readable(st) {
+        return false;
+    }
+    let depth = depth(st);
+    let inside = innermost_is_struct(st, depth);
+    let waits = waiting(st);
+    passes(st, room, depth, (waits & !inside) | (!inside | waits))
+}
+
+// Whether a closing may stand here.
+pub fn close_passes(st: &[u8], room: usize) -> bool
+    ensures { λ r. ⌜ r ≡ isAccepted (lentPlace (now (st .entry)) room (not (isOpen (openContainers (stateOf (now (st .entry))))) || (stateOf (now (st .entry))) .waiting)) ⌝ }
+{
+    if !readable(st) {
+        return false;
+    }
+    let depth = depth(st);
+    let inside = innermost_is_struct(st, depth);
+    let waits = waiting(st);
+    passes(st, room, depth, (waits & !inside) | ((depth == 0) | waits))
+}
+
+// Whether an abandonment may stand here.
+pub fn abandon_passes(st: &[u8], room: usize) -> bool
+    ensures { λ r. ⌜ r ≡ isAccepted (lentPlace (now (st .entry)) room (not (isOpen (openContainers (stateOf (now (st .entry))))))) ⌝ }
+{
+    if !readable(st) {
+        return false;
+    }
+    let depth = depth(st);
+    let inside = innermost_is_struct(st, depth);
+    let waits = waiting(st);
+    passes(st, room, depth, (waits & !inside) | (depth == 0))
+}
+
+// Whether a version marker or an emptying may stand here.
+pub fn top_passes(st: &[u8], room: usize) -> bool
+    ensures { λ r. ⌜ r ≡ isAccepted (lentPlace (now (st .entry)) room (isOpen (openContainers (stateOf (now (st .entry)))))) ⌝ }
+{
+    if !readable(st) {
+        return false;
+    }
+    let depth = depth(st);
+    let inside = innermost_is_struct(st, depth);
+    let waits = waiting(st);
+    passes(st, room, depth, (waits & !inside) | (depth != 0))
 }
 
 // How many bytes from the buffer's front are finished.

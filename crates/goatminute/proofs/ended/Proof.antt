@@ -1,21 +1,8 @@
 -- `goatminute::ended` meets its contract: the two cases of the definition.
 -- Assumes nothing.
-use Prim.Native.Nat.{_+_}
 use native.Mathlib.Omega.{arith}
-use mathlib.Core.Path.{_≡_, refl, sym, _∙_, ap}
-use mathlib.Core.Bool.{Bool, true, false, not, _||_}
-use mathlib.Core.List.{List, [], _∷_}
-use lib.Dec.{ltb}
-use lib.ListN.{length}
-use Rattle.encoding.specs.Fields.{varUIntBytes}
-use Rattle.encoding.specs.Headers.{markerBytes}
-use Rattle.fields.proofs.Sizes.{varUInt-least}
-use Rattle.machine.specs.Call.{name, versionMarker, emptying}
-use Rattle.machine.specs.Machine.{openContainers, isOpen, inStruct}
-use Rattle.state_bytes.specs.StateBytes.{stateOf, entered}
-use Rattle.writer.proofs.Run.{config, past-place, put-fits, end-run}
-use Rattle.goatminute.specs.Entries.{enteredAs, endedNumber, endedState}
-use Rattle.goatminute.proofs.Entered.{refused-entry, accepted-entry, passed-entry, ended-nothing, ended-bytes, entered-ended}
+use mathlib.Core.Path.{_∙_}
+use Rattle.goatminute.proofs.Entered.{ended-nothing, ended-bytes}
 use borrow.Author.Needs.{needs}
 use Rattle.goatminute.proofs.ended.Statement.{statement}
 use Rattle.goatminute.proofs.ended.Tie as tie

@@ -1,91 +1,73 @@
+-- `goatminute::gm_abandon` meets its contract: refused by place, or abandoned.
+-- Assumes nothing.
+use native.Mathlib.Omega.{arith}
+use Prim.Native.Nat.{_-_}
+use mathlib.Core.Path.{refl, sym, _∙_}
+use mathlib.Core.Bool.{not}
+use borrow.Author.Tests.{not-true, not-false}
+use Rattle.machine.specs.Call.{abandonment}
+use Rattle.machine.specs.Machine.{openContainers, isOpen}
+use Rattle.state_bytes.specs.StateBytes.{stateOf}
+use Rattle.goatminute.proofs.Entered.{barred-entry}
+use Rattle.goatminute.proofs.Calls.{roomLine, abandon-open, abandon-done}
 use borrow.Author.Needs.{needs}
 use Rattle.goatminute.proofs.gm_abandon.Statement.{statement}
 use Rattle.goatminute.proofs.gm_abandon.Tie as tie
-use Rattle.goatminute.proofs.gm_abandon.Reads as reads
-use Rattle.goatminute.proofs.gm_abandon.Lts as lts
-use Rattle.containers.proofs.abandon.Reads as abandon-reads
-use Rattle.goatminute.proofs.answered.Reads as answered-reads
-use Rattle.state_bytes.proofs.abandon_place.Reads as abandon-place-reads
-use Rattle.state_bytes.proofs.container.Reads as container-reads
-use Rattle.state_bytes.proofs.depth.Reads as depth-reads
-use Rattle.state_bytes.proofs.outer_is_struct.Reads as outer-is-struct-reads
-use Rattle.state_bytes.proofs.store.Reads as store-reads
-use Rattle.state_bytes.proofs.used.Reads as used-reads
 
--- src/lib.rt:504:9
+abandon-passes-requires : tie.Need-abandon-passes-requires
+abandon-passes-requires c κs = search needs
+
 abandon-place-requires : tie.Need-abandon-place-requires
 abandon-place-requires c κs = search needs
 
-enum-told : tie.Need-enum-told
-enum-told c = search needs
-
--- src/lib.rt:506:9
-enum-told-2 : tie.Need-enum-told-2
-enum-told-2 c = search needs
-
--- src/lib.rt:506:9
 answered-requires : tie.Need-answered-requires
 answered-requires c κs = search needs
 
--- src/lib.rt:506:9
 same-length : tie.Need-same-length
 same-length c = search needs
 
--- src/lib.rt:506:9
 returns : tie.Need-returns
-returns c = ?
+returns c = barred-entry (abandonment) (c .before .before .before .before .before .before .before .before .args .state .now) (c .before .before .before .before .before .before .before .before .args .buf .now) (not (isOpen (openContainers (stateOf (c .before .before .before .before .before .before .before .before .args .state .now))))) (roomLine (abandonment) (c .before .before .before .before .before .before .before .before .args .state .now) (c .before .before .before .before .before .before .before .before .args .buf .now)) refl (c .before .abandon-place .result) (c .answered .result) (sym (c .before .before .before .before .abandon-passes .ensures) ∙ not-true _ (c .before .before .before .if1 .taken)) (c .before .abandon-place .ensures) (c .answered .ensures)
 
--- src/lib.rt:508:9
 depth-requires : tie.Need-depth-requires
 depth-requires c κs = search needs
 
--- src/lib.rt:509:43
 sub-container : tie.Need-sub-container
-sub-container c = ?
+sub-container c = omega (arith, c .before .depth .ensures, abandon-open (c .before .before .before .before .before .before .before .before .args .state .now) (c .before .before .before .before .before .before .before .before .args .buf .now) (sym (c .before .before .before .before .abandon-passes .ensures) ∙ not-false _ (c .before .before .before .if1 .left)))
 
--- src/lib.rt:509:9
 container-requires : tie.Need-container-requires
 container-requires c κs = search needs
 
--- src/lib.rt:510:9
 outer-is-struct-requires : tie.Need-outer-is-struct-requires
 outer-is-struct-requires c κs = search needs
 
--- src/lib.rt:511:30
 used-requires : tie.Need-used-requires
 used-requires c κs = search needs
 
--- src/lib.rt:511:5
 abandon-requires : tie.Need-abandon-requires
 abandon-requires c κs = search needs
 
--- src/lib.rt:512:40
 sub-store : tie.Need-sub-store
-sub-store c = ?
+sub-store c = omega (arith, c .before .before .before .before .before .before .before .before .before .before .before .depth .ensures, abandon-open (c .before .before .before .before .before .before .before .before .before .before .before .before .before .before .before .before .before .before .args .state .now) (c .before .before .before .before .before .before .before .before .before .before .before .before .before .before .before .before .before .before .args .buf .now) (sym (c .before .before .before .before .before .before .before .before .before .before .before .before .before .before .abandon-passes .ensures) ∙ not-false _ (c .before .before .before .before .before .before .before .before .before .before .before .before .before .if1 .left)))
 
--- src/lib.rt:512:5
 store-requires : tie.Need-store-requires
 store-requires c κs = search needs
 
--- src/lib.rt:500:1
 same-length-2 : tie.Need-same-length-2
 same-length-2 c = search needs
 
--- src/lib.rt:500:1
 same-length-3 : tie.Need-same-length-3
 same-length-3 c = search needs
 
--- src/lib.rt:500:1
 returns-2 : tie.Need-returns-2
-returns-2 c = ?
+returns-2 c = rw (c .before .before .store .ensures, c .before .before .before .before .before .before .before .before .before .before .before .before .container .ensures, c .before .before .before .before .before .before .before .before .before .before .before .before .before .before .depth .ensures) (abandon-done (c .before .before .before .before .before .before .before .before .before .before .before .before .before .before .before .before .before .before .before .before .before .args .state .now) (c .before .before .before .before .before .before .before .before .before .before .before .before .before .before .before .before .before .before .before .before .before .args .buf .now) (sym (c .before .before .before .before .before .before .before .before .before .before .before .before .before .before .before .before .before .abandon-passes .ensures) ∙ not-false _ (c .before .before .before .before .before .before .before .before .before .before .before .before .before .before .before .before .if1 .left)) (c .before .before .before .before .before .before .abandon .result) (c .before .before .before .before .before .before .abandon .last .0) (c .before .before .before .before .before .before .before .before .before .before .outer-is-struct .result) (rw (c .before .before .before .before .before .before .before .used .ensures, c .before .before .before .before .before .before .before .before .before .before .before .before .container .ensures, c .before .before .before .before .before .before .before .before .before .before .before .before .before .before .depth .ensures) at (c .before .before .before .before .before .before .abandon .ensures)) (c .before .before .before .before .before .before .before .before .before .before .outer-is-struct .ensures))
 
 pub gm-abandon-spec : {M : Type 1} → statement M
 gm-abandon-spec =
     tie.close
     (tie.spec
+    abandon-passes-requires
     abandon-place-requires
-    enum-told
-    enum-told-2
     answered-requires
     same-length
     returns

@@ -1,103 +1,82 @@
+-- `goatminute::gm_close` meets its contract: refused by place or for room, or closed.
+-- Assumes nothing.
+use native.Mathlib.Omega.{arith}
+use Prim.Native.Nat.{_-_}
+use mathlib.Core.Path.{refl, sym, _∙_}
+use mathlib.Core.Bool.{not, _||_}
+use borrow.Author.Tests.{not-true, not-false}
+use Rattle.machine.specs.Call.{closing}
+use Rattle.machine.specs.Machine.{openContainers, isOpen}
+use Rattle.state_bytes.specs.StateBytes.{stateOf}
+use Rattle.goatminute.proofs.Entered.{barred-entry}
+use Rattle.goatminute.proofs.Calls.{roomLine, close-open, close-full, close-done}
 use borrow.Author.Needs.{needs}
 use Rattle.goatminute.proofs.gm_close.Statement.{statement}
 use Rattle.goatminute.proofs.gm_close.Tie as tie
-use Rattle.goatminute.proofs.gm_close.Reads as reads
-use Rattle.goatminute.proofs.gm_close.Lts as lts
-use Rattle.containers.proofs.close.Reads as close-reads
-use Rattle.goatminute.proofs.answered.Reads as answered-reads
-use Rattle.goatminute.proofs.number_of.Reads as number-of-reads
-use Rattle.state_bytes.proofs.close_place.Reads as close-place-reads
-use Rattle.state_bytes.proofs.container.Reads as container-reads
-use Rattle.state_bytes.proofs.depth.Reads as depth-reads
-use Rattle.state_bytes.proofs.store.Reads as store-reads
-use Rattle.state_bytes.proofs.used.Reads as used-reads
 
--- src/lib.rt:485:9
+close-passes-requires : tie.Need-close-passes-requires
+close-passes-requires c κs = search needs
+
 close-place-requires : tie.Need-close-place-requires
 close-place-requires c κs = search needs
 
-enum-told : tie.Need-enum-told
-enum-told c = search needs
-
--- src/lib.rt:487:9
-enum-told-2 : tie.Need-enum-told-2
-enum-told-2 c = search needs
-
--- src/lib.rt:487:9
 answered-requires : tie.Need-answered-requires
 answered-requires c κs = search needs
 
--- src/lib.rt:487:9
 same-length : tie.Need-same-length
 same-length c = search needs
 
--- src/lib.rt:487:9
 returns : tie.Need-returns
-returns c = ?
+returns c = barred-entry (closing) (c .before .before .before .before .before .before .before .before .args .state .now) (c .before .before .before .before .before .before .before .before .args .buf .now) (not (isOpen (openContainers (stateOf (c .before .before .before .before .before .before .before .before .args .state .now)))) || (stateOf (c .before .before .before .before .before .before .before .before .args .state .now)) .waiting) (roomLine (closing) (c .before .before .before .before .before .before .before .before .args .state .now) (c .before .before .before .before .before .before .before .before .args .buf .now)) refl (c .before .close-place .result) (c .answered .result) (sym (c .before .before .before .before .close-passes .ensures) ∙ not-true _ (c .before .before .before .if1 .taken)) (c .before .close-place .ensures) (c .answered .ensures)
 
--- src/lib.rt:489:9
 depth-requires : tie.Need-depth-requires
 depth-requires c κs = search needs
 
--- src/lib.rt:490:43
 sub-container : tie.Need-sub-container
-sub-container c = ?
+sub-container c = omega (arith, c .before .depth .ensures, close-open (c .before .before .before .before .before .before .before .before .args .state .now) (c .before .before .before .before .before .before .before .before .args .buf .now) (sym (c .before .before .before .before .close-passes .ensures) ∙ not-false _ (c .before .before .before .if1 .left)))
 
--- src/lib.rt:490:9
 container-requires : tie.Need-container-requires
 container-requires c κs = search needs
 
--- src/lib.rt:491:39
 used-requires : tie.Need-used-requires
 used-requires c κs = search needs
 
--- src/lib.rt:491:9
 close-requires : tie.Need-close-requires
 close-requires c κs = search needs
 
--- src/lib.rt:493:9
 number-of-requires : tie.Need-number-of-requires
 number-of-requires c κs = search needs
 
--- src/lib.rt:493:9
 same-length-2 : tie.Need-same-length-2
 same-length-2 c = search needs
 
--- src/lib.rt:493:9
 same-length-3 : tie.Need-same-length-3
 same-length-3 c = search needs
 
--- src/lib.rt:493:9
 returns-2 : tie.Need-returns-2
-returns-2 c = ?
+returns-2 c = rw (c .number-of .ensures) (close-full (c .before .before .before .before .before .before .before .before .before .before .before .before .before .before .before .before .before .args .state .now) (c .before .before .before .before .before .before .before .before .before .before .before .before .before .before .before .before .before .args .buf .now) (sym (c .before .before .before .before .before .before .before .before .before .before .before .before .before .close-passes .ensures) ∙ not-false _ (c .before .before .before .before .before .before .before .before .before .before .before .before .if1 .left)) (c .before .before .before .before .close .result) (c .before .before .before .before .close .last .0) (rw (c .before .before .before .before .before .used .ensures, c .before .before .before .before .before .before .before .before .container .ensures, c .before .before .before .before .before .before .before .before .before .before .depth .ensures) at (c .before .before .before .before .close .ensures)) (c .before .if2 .taken))
 
--- src/lib.rt:495:37
 sub-store : tie.Need-sub-store
-sub-store c = ?
+sub-store c = omega (arith, c .before .before .before .before .before .before .before .before .before .before .depth .ensures, close-open (c .before .before .before .before .before .before .before .before .before .before .before .before .before .before .before .before .before .args .state .now) (c .before .before .before .before .before .before .before .before .before .before .before .before .before .before .before .before .before .args .buf .now) (sym (c .before .before .before .before .before .before .before .before .before .before .before .before .before .close-passes .ensures) ∙ not-false _ (c .before .before .before .before .before .before .before .before .before .before .before .before .if1 .left)))
 
--- src/lib.rt:495:5
 store-requires : tie.Need-store-requires
 store-requires c κs = search needs
 
--- src/lib.rt:481:1
 same-length-4 : tie.Need-same-length-4
 same-length-4 c = search needs
 
--- src/lib.rt:481:1
 same-length-5 : tie.Need-same-length-5
 same-length-5 c = search needs
 
--- src/lib.rt:481:1
 returns-3 : tie.Need-returns-3
-returns-3 c = ?
+returns-3 c = rw (c .before .before .store .ensures, c .before .before .before .before .before .before .before .before .before .before .before .before .before .depth .ensures) (close-done (c .before .before .before .before .before .before .before .before .before .before .before .before .before .before .before .before .before .before .before .before .args .state .now) (c .before .before .before .before .before .before .before .before .before .before .before .before .before .before .before .before .before .before .before .before .args .buf .now) (sym (c .before .before .before .before .before .before .before .before .before .before .before .before .before .before .before .before .close-passes .ensures) ∙ not-false _ (c .before .before .before .before .before .before .before .before .before .before .before .before .before .before .before .if1 .left)) (c .before .before .before .before .before .before .before .close .result) (c .before .before .before .before .before .before .before .close .last .0) (rw (c .before .before .before .before .before .before .before .before .used .ensures, c .before .before .before .before .before .before .before .before .before .before .before .container .ensures, c .before .before .before .before .before .before .before .before .before .before .before .before .before .depth .ensures) at (c .before .before .before .before .before .before .before .close .ensures)) (c .before .before .before .before .if2 .left))
 
 pub gm-close-spec : {M : Type 1} → statement M
 gm-close-spec =
     tie.close
     (tie.spec
+    close-passes-requires
     close-place-requires
-    enum-told
-    enum-told-2
     answered-requires
     same-length
     returns

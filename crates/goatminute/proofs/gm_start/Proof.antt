@@ -1,67 +1,56 @@
+-- `goatminute::gm_start` meets its contract: refused, or the marker is laid and the used length stored.
+-- Assumes nothing.
+use native.Mathlib.Omega.{arith}
+use Rattle.machine.specs.Machine.{accepted, refused, emptyState}
+use Rattle.encoding.specs.Headers.{markerBytes}
+use Rattle.writer.proofs.Run.{outcome, placed-some}
+use Rattle.writer.proofs.Started.{start-long, start-full, start-put}
+use Rattle.goatminute.proofs.Start.{start-short-long, start-short, start-entry, cleared, begun}
 use borrow.Author.Needs.{needs}
 use Rattle.goatminute.proofs.gm_start.Statement.{statement}
 use Rattle.goatminute.proofs.gm_start.Tie as tie
-use Rattle.goatminute.proofs.gm_start.Reads as reads
-use Rattle.goatminute.proofs.gm_start.Lts as lts
-use Rattle.buffer.proofs.copy.Reads as copy-reads
-use Rattle.goatminute.proofs.clear.Reads as clear-reads
-use Rattle.state_bytes.proofs.store.Reads as store-reads
 
--- src/lib.rt:536:13
 returns : tie.Need-returns
-returns c = ?
+returns c = start-short-long (c .before .before .before .before .args .state .now) (c .before .before .before .before .args .buf .now) (c .before .if1 .taken) (omega arith)
 
--- src/lib.rt:538:9
 returns-2 : tie.Need-returns-2
-returns-2 c = ?
+returns-2 c = start-short (c .before .before .before .before .args .state .now) (c .before .before .before .before .args .buf .now) (c .before .if1 .taken) (omega arith)
 
--- src/lib.rt:540:5
 clear-requires : tie.Need-clear-requires
 clear-requires c κs = search needs
 
--- src/lib.rt:542:9
 same-length : tie.Need-same-length
 same-length c = search needs
 
--- src/lib.rt:542:9
 returns-3 : tie.Need-returns-3
-returns-3 c = ?
+returns-3 c = rw (cleared (c .before .before .before .clear .last .0) (c .before .before .before .before .before .before .before .before .args .state .now) (c .before .before .before .before .before .if1 .left) (c .before .before .before .clear .ensures)) (start-entry (c .before .before .before .before .before .before .before .before .args .state .now) (c .before .before .before .before .before .before .before .before .args .buf .now) (c .before .before .before .before .before .if1 .left) (outcome (refused 1) (emptyState 0) (c .before .before .before .before .before .before .before .before .args .buf .now)) (start-long (c .before .before .before .before .before .before .before .before .args .buf .now) (omega arith)))
 
--- src/lib.rt:544:36
 slice-aggregate-copy : tie.Need-slice-aggregate-copy
 slice-aggregate-copy c = search needs
 
--- src/lib.rt:544:9
 copy-requires : tie.Need-copy-requires
 copy-requires c κs = search needs
 
--- src/lib.rt:546:9
 same-length-2 : tie.Need-same-length-2
 same-length-2 c = search needs
 
--- src/lib.rt:546:9
 same-length-3 : tie.Need-same-length-3
 same-length-3 c = search needs
 
--- src/lib.rt:546:9
 returns-4 : tie.Need-returns-4
-returns-4 c = ?
+returns-4 c = rw (cleared (c .before .before .before .before .before .before .before .before .before .clear .last .0) (c .before .before .before .before .before .before .before .before .before .before .before .before .before .before .args .state .now) (c .before .before .before .before .before .before .before .before .before .before .before .if1 .left) (c .before .before .before .before .before .before .before .before .before .clear .ensures)) (start-entry (c .before .before .before .before .before .before .before .before .before .before .before .before .before .before .args .state .now) (c .before .before .before .before .before .before .before .before .before .before .before .before .before .before .args .buf .now) (c .before .before .before .before .before .before .before .before .before .before .before .if1 .left) (outcome (refused 10) (emptyState 0) (c .before .before .before .copy .last .0)) (start-full (c .before .before .before .before .before .before .before .before .before .before .before .before .before .before .args .buf .now) (omega arith) (c .before .before .before .copy .result) (c .before .before .before .copy .last .0) (c .before .before .before .copy .ensures) (c .if4 .taken)))
 
--- src/lib.rt:548:5
 store-requires : tie.Need-store-requires
 store-requires c κs = search needs
 
--- src/lib.rt:530:1
 same-length-4 : tie.Need-same-length-4
 same-length-4 c = search needs
 
--- src/lib.rt:530:1
 same-length-5 : tie.Need-same-length-5
 same-length-5 c = search needs
 
--- src/lib.rt:530:1
 returns-5 : tie.Need-returns-5
-returns-5 c = ?
+returns-5 c = rw (begun (c .before .before .before .before .before .before .before .before .before .before .before .before .before .clear .last .0) (c .before .before .store .last .0) (c .before .before .before .before .before .before .before .before .before .before .before .before .before .before .before .before .before .before .args .state .now) (c .before .before .before .before .before .before .before .copy .result) (c .before .before .before .before .before .before .before .before .before .before .before .before .before .before .before .if1 .left) (c .before .before .before .before .before .before .before .before .before .before .before .before .before .clear .ensures) (c .before .before .store .ensures), placed-some (c .before .before .before .before .before .before .before .before .before .before .before .before .before .before .before .before .before .before .args .buf .now) 0 markerBytes (c .before .before .before .before .before .before .before .copy .result) (c .before .before .before .before .before .before .before .copy .last .0) (c .before .before .before .before .before .before .before .copy .ensures) (c .before .before .before .before .if4 .left) .1) (start-entry (c .before .before .before .before .before .before .before .before .before .before .before .before .before .before .before .before .before .before .args .state .now) (c .before .before .before .before .before .before .before .before .before .before .before .before .before .before .before .before .before .before .args .buf .now) (c .before .before .before .before .before .before .before .before .before .before .before .before .before .before .before .if1 .left) (outcome accepted (emptyState 4) (c .before .before .before .before .before .before .before .copy .last .0)) (start-put (c .before .before .before .before .before .before .before .before .before .before .before .before .before .before .before .before .before .before .args .buf .now) (omega arith) (c .before .before .before .before .before .before .before .copy .result) (c .before .before .before .before .before .before .before .copy .last .0) (c .before .before .before .before .before .before .before .copy .ensures) (c .before .before .before .before .if4 .left)))
 
 pub gm-start-spec : {M : Type 1} → statement M
 gm-start-spec =

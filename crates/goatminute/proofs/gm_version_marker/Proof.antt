@@ -1,77 +1,65 @@
+-- `goatminute::gm_version_marker` meets its contract: refused by place or for room, or put at the end of the used bytes.
+-- Assumes nothing.
+use native.Mathlib.Omega.{arith}
+use Prim.Native.Nat.{_-_}
+use mathlib.Core.Path.{refl, sym, _∙_}
+use borrow.Author.Tests.{not-true, not-false}
+use Rattle.encoding.specs.Headers.{markerBytes}
+use Rattle.machine.specs.Call.{versionMarker}
+use Rattle.machine.specs.Machine.{openContainers, isOpen}
+use Rattle.writer.proofs.Run.{put-fits}
+use Rattle.state_bytes.specs.StateBytes.{stateOf}
+use Rattle.goatminute.proofs.Entered.{barred-entry}
+use Rattle.goatminute.proofs.Calls.{roomLine, end-entry}
 use borrow.Author.Needs.{needs}
 use Rattle.goatminute.proofs.gm_version_marker.Statement.{statement}
 use Rattle.goatminute.proofs.gm_version_marker.Tie as tie
-use Rattle.goatminute.proofs.gm_version_marker.Reads as reads
-use Rattle.goatminute.proofs.gm_version_marker.Lts as lts
-use Rattle.buffer.proofs.copy.Reads as copy-reads
-use Rattle.goatminute.proofs.answered.Reads as answered-reads
-use Rattle.goatminute.proofs.ended.Reads as ended-reads
-use Rattle.state_bytes.proofs.top_place.Reads as top-place-reads
-use Rattle.state_bytes.proofs.used.Reads as used-reads
-use Rattle.state_bytes.proofs.waiting.Reads as waiting-reads
 
--- src/lib.rt:556:9
+top-passes-requires : tie.Need-top-passes-requires
+top-passes-requires c κs = search needs
+
 top-place-requires : tie.Need-top-place-requires
 top-place-requires c κs = search needs
 
-enum-told : tie.Need-enum-told
-enum-told c = search needs
-
--- src/lib.rt:558:9
-enum-told-2 : tie.Need-enum-told-2
-enum-told-2 c = search needs
-
--- src/lib.rt:558:9
 answered-requires : tie.Need-answered-requires
 answered-requires c κs = search needs
 
--- src/lib.rt:558:9
 same-length : tie.Need-same-length
 same-length c = search needs
 
--- src/lib.rt:558:9
 returns : tie.Need-returns
-returns c = ?
+returns c = barred-entry (versionMarker) (c .before .before .before .before .before .before .before .before .args .state .now) (c .before .before .before .before .before .before .before .before .args .buf .now) (isOpen (openContainers (stateOf (c .before .before .before .before .before .before .before .before .args .state .now)))) (roomLine (versionMarker) (c .before .before .before .before .before .before .before .before .args .state .now) (c .before .before .before .before .before .before .before .before .args .buf .now)) refl (c .before .top-place .result) (c .answered .result) (sym (c .before .before .before .before .top-passes .ensures) ∙ not-true _ (c .before .before .before .if1 .taken)) (c .before .top-place .ensures) (c .answered .ensures)
 
--- src/lib.rt:560:33
 used-requires : tie.Need-used-requires
 used-requires c κs = search needs
 
--- src/lib.rt:560:59
 slice-aggregate-copy : tie.Need-slice-aggregate-copy
 slice-aggregate-copy c = search needs
 
--- src/lib.rt:560:9
 copy-requires : tie.Need-copy-requires
 copy-requires c κs = search needs
 
--- src/lib.rt:561:23
 waiting-requires : tie.Need-waiting-requires
 waiting-requires c κs = search needs
 
--- src/lib.rt:561:5
 ended-requires : tie.Need-ended-requires
-ended-requires c κs = ?
+ended-requires c κs = λ h. omega (arith, put-fits (c .before .before .before .before .before .before .before .before .before .before .before .before .before .before .before .args .buf .now) (stateOf (c .before .before .before .before .before .before .before .before .before .before .before .before .before .before .before .args .state .now) .used) (markerBytes) (c .before .before .before .before .before .copy .result) (c .before .before .before .before .before .copy .last .0) (rw (c .before .before .before .before .before .before .before .used .ensures) at (c .before .before .before .before .before .copy .ensures)) h)
 
--- src/lib.rt:552:1
 same-length-2 : tie.Need-same-length-2
 same-length-2 c = search needs
 
--- src/lib.rt:552:1
 same-length-3 : tie.Need-same-length-3
 same-length-3 c = search needs
 
--- src/lib.rt:552:1
 returns-2 : tie.Need-returns-2
-returns-2 c = ?
+returns-2 c = rw (c .before .before .ended .ensures .0, c .before .before .ended .ensures .1, c .before .before .before .waiting .ensures) (end-entry (versionMarker) (c .before .before .before .before .before .before .before .before .before .before .before .before .before .before .before .before .before .before .args .state .now) (c .before .before .before .before .before .before .before .before .before .before .before .before .before .before .before .before .before .before .args .buf .now) (isOpen (openContainers (stateOf (c .before .before .before .before .before .before .before .before .before .before .before .before .before .before .before .before .before .before .args .state .now)))) (markerBytes) ((stateOf (c .before .before .before .before .before .before .before .before .before .before .before .before .before .before .before .before .before .before .args .state .now)) .waiting) refl (λ s. refl) (omega arith) refl (sym (c .before .before .before .before .before .before .before .before .before .before .before .before .before .before .top-passes .ensures) ∙ not-false _ (c .before .before .before .before .before .before .before .before .before .before .before .before .before .if1 .left)) (c .before .before .before .before .before .before .before .before .copy .result) (c .before .before .before .before .before .before .before .before .copy .last .0) (rw (c .before .before .before .before .before .before .before .before .before .before .used .ensures) at (c .before .before .before .before .before .before .before .before .copy .ensures)))
 
 pub gm-version-marker-spec : {M : Type 1} → statement M
 gm-version-marker-spec =
     tie.close
     (tie.spec
+    top-passes-requires
     top-place-requires
-    enum-told
-    enum-told-2
     answered-requires
     same-length
     returns

@@ -13,7 +13,7 @@ returns c = rw (eq-eqb (c .before .args .known) 0 (c .if1 .taken), offsetLent)
 
 returns-2 : tie.Need-returns-2
 unfolding offsetLent
-returns-2 c = rw (ne-eqb (c .before .args .known) 0 (c .if1 .left), offsetLent)
+returns-2 c = rw (ne-eqb (c .before .args .known) 0 (c .if1 .left), offsetLent, toZ-ofZ w32 (c .before .args .minutes) (c .before .fits .minutes))
 
 pub offset-of-spec : {M : Type 1} → statement M
 offset-of-spec = tie.close (tie.spec returns returns-2)

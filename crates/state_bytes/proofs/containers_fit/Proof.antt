@@ -27,13 +27,13 @@ get-container-requires : tie.Need-get-container-requires Inv-loop μ-loop
 get-container-requires c κs = (omega arith, c .before .before .before .pre .1)
 
 container-fits-requires : tie.Need-container-fits-requires Inv-loop μ-loop
-container-fits-requires c κs = tt
+container-fits-requires c κs = (c .get-container .ensures .1, c .get-container .ensures .2)
 
 returns : tie.Need-returns Inv-loop μ-loop
 returns c =
     let a = c .before .before .before .before .before .before .args in
     let b = c .before .before .before .before in
-    let g = container-at (a .st .now) (b .loop .i) (c .before .before .get-container .result) (c .before .before .before .before .before .before .pre .1) (omega arith) (omega arith) (c .before .before .get-container .ensures) in
+    let g = container-at (a .st .now) (b .loop .i) (c .before .before .get-container .result) (c .before .before .before .before .before .before .pre .1) (omega arith) (omega arith) (c .before .before .get-container .ensures .0) in
     let n = sym (c .before .container-fits .ensures) ∙ not-true _ (c .if1 .taken) in
     sym (b .loop .inv .1 ∙ (chain-step (stateOf (a .st .now) .containers) (b .loop .i) (b .loop .limit) (omega arith) ∙ rw (← g, n)))
 
@@ -44,7 +44,7 @@ loop-again : tie.Need-loop-again Inv-loop μ-loop
 loop-again c =
     let a = c .before .before .before .before .before .before .args in
     let b = c .before .before .before .before in
-    let g = container-at (a .st .now) (b .loop .i) (c .before .before .get-container .result) (c .before .before .before .before .before .before .pre .1) (omega arith) (omega arith) (c .before .before .get-container .ensures) in
+    let g = container-at (a .st .now) (b .loop .i) (c .before .before .get-container .result) (c .before .before .before .before .before .before .pre .1) (omega arith) (omega arith) (c .before .before .get-container .ensures .0) in
     let n = sym (c .before .container-fits .ensures) ∙ not-false _ (c .if1 .left) in
     (omega arith, b .loop .inv .1 ∙ (chain-step (stateOf (a .st .now) .containers) (b .loop .i) (b .loop .limit) (omega arith) ∙ rw (← g, n)))
 

@@ -26,7 +26,7 @@ shared-slice-read-t9 : tie.Need-shared-slice-read-t9
 shared-slice-read-t9 c = search needs
 
 returns : tie.Need-returns
-returns c = rw (c .before .before .get-four .ensures, c .before .get-four2 .ensures)
+returns c = (rw (c .before .before .get-four .ensures .0, c .before .get-four2 .ensures .0), c .before .before .get-four .ensures .1, c .before .get-four2 .ensures .1)
 
 pub get-container-spec : {M : Type 1} → statement M
 get-container-spec =

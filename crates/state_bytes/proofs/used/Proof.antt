@@ -13,7 +13,7 @@ get-four-requires : tie.Need-get-four-requires
 get-four-requires c κs = search needs
 
 returns-2 : tie.Need-returns-2
-returns-2 c = let a = c .before .before .before .args in c .get-four .ensures ∙ rw (state-is (a .st .now) (c .before .if1 .left))
+returns-2 c = let a = c .before .before .before .args in c .get-four .ensures .0 ∙ rw (state-is (a .st .now) (c .before .if1 .left))
 
 pub used-spec : {M : Type 1} → statement M
 used-spec = tie.close (tie.spec returns get-four-requires returns-2)
