@@ -1,0 +1,156 @@
+//! Measures the writer. `bench winch N` writes N records of a winch log and prints their size, hash and time.
+use goatminute::{Decimal, ListWriter, Refusal, StructWriter, Timestamp, WriteValues, Writer};
+use std::env;
+use std::process::ExitCode;
+use std::time::{Duration, Instant};
+
+const BATCH: usize = 1000;
+const ROOM: usize = 200_000;
+
+/// A record as the controller has it: plain numbers and bytes.
+struct Record {
+    time: i64,
+    position: u64,
+    load: i64,
+    brake: bool,
+    at: [u32; 6],
+    millis: u64,
+    offset: i32,
+    currents: [i64; 8],
+    state: u64,
+    note: [u8; 12],
+}
+
+struct Draws(u64);
+
+impl Draws {
+    fn draw(&mut self) -> u64 {
+        self.0 = self.0.wrapping_mul(6364136223846793005).wrapping_add(1442695040888963407);
+        self.0 >> 32
+    }
+
+    fn record(&mut self, i: u64) -> Record {
+        let time = (1_000_000 + 10 * i + self.draw() % 10) as i64;
+        let exponent = 1023 + self.draw() % 12;
+        let high = self.draw();
+        let low = self.draw();
+        let mut fraction = (high << 20) + (low >> 12);
+        if low % 4 == 0 {
+            fraction &= !((1 << 29) - 1);
+        }
+        let position = (exponent << 52) + fraction;
+        let load = (self.draw() % 20_000_001) as i64 - 10_000_000;
+        let brake = self.draw() % 2 == 1;
+        let mut at = [2026, 0, 0, 0, 0, 0];
+        at[1] = 1 + (self.draw() % 12) as u32;
+        at[2] = 1 + (self.draw() % 28) as u32;
+        at[3] = (self.draw() % 24) as u32;
+        at[4] = (self.draw() % 60) as u32;
+        at[5] = (self.draw() % 60) as u32;
+        let millis = self.draw() % 1000;
+        let offset = [0, 60, -210, 120][(self.draw() % 4) as usize];
+        let mut currents = [0; 8];
+        for (j, current) in currents.iter_mut().enumerate() {
+            let bits = 8 * (1 + j as u32 % 4);
+            *current = (self.draw() % (1 << bits)) as i64 - (1 << (bits - 1));
+        }
+        let state = 30 + self.draw() % 300;
+        let mut note = [0; 12];
+        for byte in note.iter_mut() {
+            *byte = 97 + (self.draw() % 26) as u8;
+        }
+        Record { time, position, load, brake, at, millis, offset, currents, state, note }
+    }
+}
+
+fn write(writer: &mut Writer, record: &Record) -> Result<(), Refusal> {
+    let mut fields: StructWriter = writer.with_annotations(&[20]).struct_writer()?;
+    fields.field_name(10)?.write_i64(record.time)?;
+    fields.field_name(11)?.write_f64(f64::from_bits(record.position))?;
+    fields.field_name(12)?.write_decimal(Decimal::new(record.load, -3))?;
+    fields.field_name(13)?.write_bool(record.brake)?;
+    let [year, month, day, hour, minute, second] = record.at;
+    let at = Timestamp::second(year, month, day, hour, minute, second)
+        .with_fraction(3, record.millis)
+        .with_offset(record.offset);
+    fields.field_name(14)?.write_timestamp(at)?;
+    let mut currents: ListWriter = fields.field_name(15)?.list_writer()?;
+    for &current in &record.currents {
+        currents.write_i64(current)?;
+    }
+    currents.close()?;
+    fields.field_name(16)?.write_symbol(record.state)?;
+    fields.field_name(17)?.write_string_bytes(&record.note)?;
+    fields.close()
+}
+
+/// FNV-1a of 64 bits, and a count.
+struct Sum {
+    bytes: u64,
+    hash: u64,
+}
+
+impl Sum {
+    fn add(&mut self, bytes: &[u8]) {
+        self.bytes += bytes.len() as u64;
+        for &byte in bytes {
+            self.hash = (self.hash ^ byte as u64).wrapping_mul(0x100000001B3);
+        }
+    }
+}
+
+fn winch(count: u64) -> Result<(), Refusal> {
+    let mut buf = vec![0; ROOM];
+    let mut draws = Draws(20260314);
+    let mut sum = Sum { bytes: 0, hash: 0xCBF29CE484222325 };
+    let mut time = Duration::ZERO;
+    let mut records = Vec::with_capacity(BATCH);
+    let mut writer = Writer::new(&mut buf)?;
+    let mut i = 0;
+    while i < count {
+        records.clear();
+        while i < count && records.len() < BATCH {
+            records.push(draws.record(i));
+            i += 1;
+        }
+        let begun = Instant::now();
+        for record in &records {
+            write(&mut writer, record)?;
+        }
+        let finished = writer.finished();
+        time += begun.elapsed();
+        sum.add(finished);
+        writer.empty()?;
+    }
+    println!("structs {count}");
+    println!("bytes {}", sum.bytes);
+    println!("fnv1a64 {:016x}", sum.hash);
+    println!("total_ns {}", time.as_nanos());
+    println!("total_ns_per_struct {:.1}", time.as_nanos() as f64 / count.max(1) as f64);
+    Ok(())
+}
+
+fn main() -> ExitCode {
+    let arguments: Vec<String> = env::args().skip(1).collect();
+    let words: Vec<&str> = arguments.iter().map(String::as_str).collect();
+    let done = match words[..] {
+        ["winch", count] => match count.parse() {
+            Ok(count) => winch(count),
+            Err(_) => {
+                eprintln!("not a count: {count}");
+                return ExitCode::FAILURE;
+            }
+        },
+        _ => {
+            eprintln!("use: bench winch N");
+            return ExitCode::FAILURE;
+        }
+    };
+    match done {
+        Ok(()) => ExitCode::SUCCESS,
+        Err(why) => {
+            eprintln!("refused: {why}");
+            ExitCode::FAILURE
+        }
+    }
+}
