@@ -20,4 +20,6 @@ fn main() {
     }
     println!("cargo:rustc-link-search=native={}", directory.display());
     println!("cargo:rustc-link-lib=static=goatminute");
+    // for the tests that link it from C
+    println!("cargo:rustc-env=GOATMINUTE_ARCHIVE={}", archive.display());
 }

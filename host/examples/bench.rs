@@ -59,7 +59,18 @@ impl Draws {
         for byte in note.iter_mut() {
             *byte = 97 + (self.draw() % 26) as u8;
         }
-        Record { time, position, load, brake, at, millis, offset, currents, state, note }
+        Record {
+            time,
+            position,
+            load,
+            brake,
+            at,
+            millis,
+            offset,
+            currents,
+            state,
+            note,
+        }
     }
 }
 
@@ -102,7 +113,10 @@ impl Sum {
 fn winch(count: u64) -> Result<(), Refusal> {
     let mut buf = vec![0; ROOM];
     let mut draws = Draws(20260314);
-    let mut sum = Sum { bytes: 0, hash: 0xCBF29CE484222325 };
+    let mut sum = Sum {
+        bytes: 0,
+        hash: 0xCBF29CE484222325,
+    };
     let mut time = Duration::ZERO;
     let mut records = Vec::with_capacity(BATCH);
     let mut writer = Writer::new(&mut buf)?;
