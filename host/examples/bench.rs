@@ -1,6 +1,8 @@
-//! Measures the writer. `bench winch N` writes N records of a winch log and prints their size, hash and time.
-use goatminute::{Decimal, ListWriter, Refusal, StructWriter, Timestamp, WriteValues, Writer};
+//! Measures the writer. `bench winch N` writes N records of a winch log and prints their size, hash and time; `bench calls`,
+//! `bench closes` and `bench strings` print tables. Times of the tables are the least of many turns.
+use goatminute::{sys, Decimal, ListWriter, Refusal, StructWriter, Timestamp, WriteValues, Writer, STATE_SIZE};
 use std::env;
+use std::hint::black_box;
 use std::process::ExitCode;
 use std::time::{Duration, Instant};
 
@@ -74,7 +76,9 @@ impl Draws {
     }
 }
 
-fn write(writer: &mut Writer, record: &Record) -> Result<(), Refusal> {
+// not inlined, so that callgrind can count its instructions apart
+#[inline(never)]
+fn write_record(writer: &mut Writer, record: &Record) -> Result<(), Refusal> {
     let mut fields: StructWriter = writer.with_annotations(&[20]).struct_writer()?;
     fields.field_name(10)?.write_i64(record.time)?;
     fields.field_name(11)?.write_f64(f64::from_bits(record.position))?;
@@ -129,7 +133,7 @@ fn winch(count: u64) -> Result<(), Refusal> {
         }
         let begun = Instant::now();
         for record in &records {
-            write(&mut writer, record)?;
+            write_record(&mut writer, record)?;
         }
         let finished = writer.finished();
         time += begun.elapsed();
@@ -144,6 +148,127 @@ fn winch(count: u64) -> Result<(), Refusal> {
     Ok(())
 }
 
+// ---- single calls
+
+/// The least time of one run of `work` in nanoseconds, each of `turns` timed over `times` runs.
+fn least(turns: usize, times: usize, mut work: impl FnMut()) -> f64 {
+    let mut least = f64::INFINITY;
+    for _ in 0..turns {
+        let begun = Instant::now();
+        for _ in 0..times {
+            work();
+        }
+        least = least.min(begun.elapsed().as_nanos() as f64 / times as f64);
+    }
+    least
+}
+
+/// A state over a buffer, with `depth` lists open.
+fn opened(buf: &mut [u8], depth: usize) -> Result<[u8; STATE_SIZE], Refusal> {
+    let mut state = [0; STATE_SIZE];
+    sys::start(&mut state, buf)?;
+    for _ in 0..depth {
+        sys::open_list(&mut state, buf, &[])?;
+    }
+    Ok(state)
+}
+
+/// Goes back to a state that has the same containers: used length, depth and waiting name.
+fn go_back(state: &mut [u8; STATE_SIZE], kept: &[u8; STATE_SIZE]) {
+    state[..6].copy_from_slice(&kept[..6]);
+}
+
+fn row(name: &str, buf: &mut [u8], call: impl Fn(&mut [u8], &mut [u8]) -> Result<(), Refusal>) -> Result<(), Refusal> {
+    print!("{name:<12}");
+    for depth in [0, 2, 8, 32] {
+        let kept = opened(buf, depth)?;
+        let mut state = kept;
+        let mut answer = Ok(());
+        let time = least(300, 1, || {
+            go_back(&mut state, &kept);
+            for _ in 0..1000 {
+                answer = answer.and(call(&mut state, buf));
+            }
+        });
+        answer?;
+        print!("{:>8.1}", time / 1000.0);
+    }
+    println!();
+    Ok(())
+}
+
+fn calls() -> Result<(), Refusal> {
+    println!("ns a call, by open containers");
+    println!("{:<12}{:>8}{:>8}{:>8}{:>8}", "", 0, 2, 8, 32);
+    let buf = &mut vec![0; ROOM][..];
+    row("bool", buf, |s, b| sys::write_bool(s, b, &[], black_box(true)))?;
+    row("i64", buf, |s, b| sys::write_i64(s, b, &[], black_box(-123_456)))?;
+    row("f64", buf, |s, b| sys::write_f64(s, b, &[], black_box(0x3FB999999999999A)))?;
+    row("symbol", buf, |s, b| sys::write_symbol(s, b, &[], black_box(300)))?;
+    row("decimal", buf, |s, b| {
+        sys::write_decimal(s, b, &[], false, black_box(&[0x1F, 0xBD]), -1)
+    })?;
+    let at = Timestamp::second(2026, 3, 14, 20, 30, 7)
+        .with_fraction(3, 200)
+        .with_offset(60);
+    row("timestamp", buf, |s, b| sys::write_timestamp(s, b, &[], black_box(at)))
+}
+
+fn closes() -> Result<(), Refusal> {
+    println!("ns a close of a list that moves its body, beside copy_within of as many bytes");
+    println!("{:>12}{:>12}{:>14}", "body", "close", "copy_within");
+    let mut buf = vec![0; 2_000_000];
+    for (length, by) in [(128, 1), (10_000, 1), (1_000_000, 2)] {
+        let mut kept = opened(&mut buf, 1)?;
+        for _ in 0..length {
+            sys::write_bool(&mut kept, &mut buf, &[], true)?;
+        }
+        let mut state = kept;
+        let times = 1 + 100_000 / length;
+        let close = least(300, times, || {
+            go_back(&mut state, &kept);
+            let _ = sys::close(black_box(&mut state), &mut buf);
+        });
+        let copy = least(300, times, || {
+            let buf: &mut [u8] = black_box(&mut buf);
+            buf.copy_within(6..6 + length, 6 + by);
+        });
+        println!("{length:>12}{close:>12.1}{copy:>14.1}");
+    }
+    Ok(())
+}
+
+fn strings() -> Result<(), Refusal> {
+    println!("ns a string, beside from_utf8 and a copy of its bytes");
+    println!("{:>12}{:>12}{:>12}{:>18}", "bytes", "text", "string", "from_utf8, copy");
+    let mut buf = vec![0; 2_000_000];
+    for length in [100, 10_000, 1_000_000] {
+        for (name, letters) in [("ASCII", "a log line; "), ("mixed", "Höhe 12 € ")] {
+            let text: String = letters.chars().cycle().take(length).collect();
+            let mut end = length;
+            while !text.is_char_boundary(end) {
+                end -= 1;
+            }
+            let text = &text.as_bytes()[..end];
+            let kept = opened(&mut buf, 0)?;
+            let mut state = kept;
+            let times = 1 + 100_000 / length;
+            let ours = least(200, times, || {
+                go_back(&mut state, &kept);
+                let _ = sys::write_string(&mut state, &mut buf, &[], black_box(text));
+            });
+            let theirs = least(200, times, || {
+                if let Ok(text) = std::str::from_utf8(black_box(text)) {
+                    buf[8..8 + text.len()].copy_from_slice(text.as_bytes());
+                }
+                black_box(&mut buf);
+            });
+            println!("{:>12}{name:>12}{ours:>12.1}{theirs:>18.1}", text.len());
+        }
+    }
+    Ok(())
+}
+
 fn main() -> ExitCode {
     let arguments: Vec<String> = env::args().skip(1).collect();
     let words: Vec<&str> = arguments.iter().map(String::as_str).collect();
@@ -155,8 +280,11 @@ fn main() -> ExitCode {
                 return ExitCode::FAILURE;
             }
         },
+        ["calls"] => calls(),
+        ["closes"] => closes(),
+        ["strings"] => strings(),
         _ => {
-            eprintln!("use: bench winch N");
+            eprintln!("use: bench winch N | calls | closes | strings");
             return ExitCode::FAILURE;
         }
     };
