@@ -13,7 +13,6 @@ fn dropped_container_is_abandoned() {
     assert_eq!(writer.finished(), MARKER);
     writer.write_bool(true).unwrap();
     assert_eq!(writer.finished(), [0xE0, 0x01, 0x00, 0xEA, 0x11]);
-    drop(writer);
     // two reserves, the annotations and the string were freed; the bool took the first of these bytes
     assert_eq!(buf[5..16], [0; 11]);
     assert!(buf[16..].iter().all(|&byte| byte == 0xEE));
@@ -131,7 +130,6 @@ fn emptying_alters_no_byte_and_writes_no_marker() {
     assert!(writer.finished().is_empty());
     writer.write_bool(true).unwrap();
     assert_eq!(writer.finished(), [0x11]);
-    drop(writer);
     assert_eq!(buf[1..before.len()], before[1..]);
     assert!(buf[before.len()..].iter().all(|&byte| byte == 0xEE));
 }
@@ -142,7 +140,6 @@ fn state_can_be_kept_and_resumed() {
     let mut writer = Writer::new(&mut buf).unwrap();
     writer.write_bool(true).unwrap();
     let kept: [u8; STATE_SIZE] = *writer.state().as_bytes();
-    drop(writer);
     let mut writer = Writer::resume(State::from_bytes(kept), &mut buf);
     writer.write_bool(false).unwrap();
     assert_eq!(writer.finished(), [0xE0, 0x01, 0x00, 0xEA, 0x11, 0x10]);

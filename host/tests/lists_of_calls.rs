@@ -64,7 +64,7 @@ fn decimal_body(negative: bool, coefficient: &[u8], exponent: i64) -> Vec<u8> {
     if magnitude.is_empty() && !negative {
         return body;
     }
-    if magnitude.first().map_or(true, |&byte| byte >= 0x80) {
+    if magnitude.first().is_none_or(|&byte| byte >= 0x80) {
         magnitude.insert(0, 0);
     }
     if negative {

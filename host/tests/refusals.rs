@@ -139,7 +139,7 @@ fn state_of_another_length_is_2() {
         for (name, call) in every_call() {
             refused(name, &mut other, &mut buf, Refusal::StateUnfit, call);
         }
-        refused("start", &mut other, &mut buf, Refusal::StateUnfit, |s, b| sys::start(s, b));
+        refused("start", &mut other, &mut buf, Refusal::StateUnfit, sys::start);
         assert!(sys::finished(&other, &buf).is_empty());
     }
 }
