@@ -13,7 +13,7 @@
 //! record.field_name(10)?.write_decimal(Decimal::new(8125, -1))?;
 //! record.field_name(11)?.write_bool(true)?;
 //! record.close()?;
-//! assert_eq!(writer.finished(), b"\xE0\x01\x00\xEA\xE9\x81\x94\xD6\x8A\x53\xC1\x1F\xBD\x8B\x11");
+//! assert_eq!(writer.finished(), b"\xE0\x01\x00\xEA\xEA\x81\x94\xD7\x8A\x53\xC1\x1F\xBD\x8B\x11");
 //! writer.empty()?;
 //! # Ok(())
 //! # }

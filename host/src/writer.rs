@@ -74,20 +74,21 @@ impl<'b> Writer<'b> {
 }
 
 /// Writes one value, with its annotations if it has any.
-pub struct ValueWriter<'w> {
+pub struct ValueWriter<'w, 'a> {
     state: &'w mut [u8; STATE_SIZE],
     buf: &'w mut [u8],
-    annotations: &'w [u8],
+    annotations: &'a [u8],
 }
 
-impl<'w> ValueWriter<'w> {
+impl<'w> ValueWriter<'w, '_> {
     /// The sids before the value, in their order, as many as the buffer has room for. They replace any given before; none means no
     /// annotations.
     #[inline]
-    pub fn with_annotations(self, sids: &'w [u64]) -> Self {
+    pub fn with_annotations<'s>(self, sids: &'s [u64]) -> ValueWriter<'w, 's> {
         ValueWriter {
+            state: self.state,
+            buf: self.buf,
             annotations: sys::sid_bytes(sids),
-            ..self
         }
     }
 
@@ -191,10 +192,10 @@ impl<'w> ValueWriter<'w> {
 
 /// The calls of everything that holds values. Each writes one value at its end; in a struct, after a field name.
 pub trait WriteValues {
-    fn value_writer(&mut self) -> ValueWriter<'_>;
+    fn value_writer(&mut self) -> ValueWriter<'_, 'static>;
 
     #[inline]
-    fn with_annotations<'a>(&'a mut self, sids: &'a [u64]) -> ValueWriter<'a> {
+    fn with_annotations<'a>(&mut self, sids: &'a [u64]) -> ValueWriter<'_, 'a> {
         self.value_writer().with_annotations(sids)
     }
 
@@ -281,7 +282,7 @@ pub trait WriteValues {
 
 impl WriteValues for Writer<'_> {
     #[inline]
-    fn value_writer(&mut self) -> ValueWriter<'_> {
+    fn value_writer(&mut self) -> ValueWriter<'_, 'static> {
         ValueWriter {
             state: &mut self.state.bytes,
             buf: self.buf,
@@ -304,7 +305,7 @@ impl<'w> Open<'w> {
     }
 
     #[inline]
-    fn value_writer(&mut self) -> ValueWriter<'_> {
+    fn value_writer(&mut self) -> ValueWriter<'_, 'static> {
         ValueWriter {
             state: self.state,
             buf: self.buf,
@@ -370,21 +371,21 @@ impl StructWriter<'_> {
 
 impl WriteValues for ListWriter<'_> {
     #[inline]
-    fn value_writer(&mut self) -> ValueWriter<'_> {
+    fn value_writer(&mut self) -> ValueWriter<'_, 'static> {
         self.0.value_writer()
     }
 }
 
 impl WriteValues for SexpWriter<'_> {
     #[inline]
-    fn value_writer(&mut self) -> ValueWriter<'_> {
+    fn value_writer(&mut self) -> ValueWriter<'_, 'static> {
         self.0.value_writer()
     }
 }
 
 impl WriteValues for StructWriter<'_> {
     #[inline]
-    fn value_writer(&mut self) -> ValueWriter<'_> {
+    fn value_writer(&mut self) -> ValueWriter<'_, 'static> {
         self.0.value_writer()
     }
 }

@@ -87,6 +87,19 @@ fn leaked_container_stays_open() {
 }
 
 #[test]
+fn annotations_need_not_outlive_the_opening() {
+    let mut buf = [0xEE; 64];
+    let mut writer = Writer::new(&mut buf).unwrap();
+    for sid in 10..12 {
+        let mut list = writer.with_annotations(&[sid, sid + 2]).list_writer().unwrap();
+        list.write_symbol(sid).unwrap();
+        list.close().unwrap();
+    }
+    let expected = [0xE6, 0x82, 0x8A, 0x8C, 0xB2, 0x71, 10, 0xE6, 0x82, 0x8B, 0x8D, 0xB2, 0x71, 11];
+    assert_eq!(writer.finished()[4..], expected);
+}
+
+#[test]
 fn thirty_two_deep() {
     fn open(outer: &mut impl WriteValues, left: usize) -> Result<(), Refusal> {
         if left == 0 {
