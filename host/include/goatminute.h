@@ -44,7 +44,7 @@ extern "C" {
 /* For a value or an opening, GM_MISPLACED is: in a struct with no name waiting. */
 
 /* A start: the empty state over a buffer that begins with a version marker.
- * Refusals 1 and 10 leave the empty state with used length 0; 2 is a state of another length. */
+ * A state of another length is refused by 1 or 2; else 1 and 10 leave the empty state with used length 0. */
 uint8_t gm_start(uint8_t *state, size_t state_len, uint8_t *buf, size_t buf_len);
 
 /* A version marker, E0 01 00 EA, at the place of the call.

@@ -1,5 +1,5 @@
 //! The bytes of each call, at the edges that document 01 names and beside them.
-use goatminute::{Decimal, IonType, Refusal, Timestamp, WriteValues, Writer};
+use goatminute::{sys, Decimal, IonType, Refusal, Timestamp, WriteValues, Writer, STATE_SIZE};
 
 const MARKER: [u8; 4] = [0xE0, 0x01, 0x00, 0xEA];
 
@@ -79,6 +79,22 @@ fn nulls() {
     ];
     for (ion_type, expected) in all {
         assert_eq!(bytes(|w| w.write_null(ion_type)), expected);
+    }
+}
+
+/// A host that calls the entry points with numbers: 3, the code of negative ints, is int, and codes past 13 are null.
+#[test]
+fn null_by_every_code() {
+    for code in 0..=255 {
+        let mut state = [0; STATE_SIZE];
+        let mut buf = [0xEE; 2];
+        sys::write_null(&mut state, &mut buf, &[], code).unwrap();
+        let expected = match code {
+            3 => 0x2F,
+            0..=13 => 16 * code + 15,
+            _ => 0x0F,
+        };
+        assert_eq!(buf, [expected, 0xEE]);
     }
 }
 
@@ -330,6 +346,26 @@ fn containers() {
         outer.close()
     };
     assert_eq!(closed(nested), "EC 81 85 B9 E6 82 86 87 D2 81 B0 81 78");
+}
+
+#[test]
+fn field_names() {
+    for (sid, name) in [
+        (0, "80"),
+        (127, "FF"),
+        (128, "01 80"),
+        (16_383, "7F FF"),
+        (16_384, "01 00 80"),
+        (u64::MAX, "01 7F 7F 7F 7F 7F 7F 7F 7F FF"),
+    ] {
+        let field = |w: &mut Writer| {
+            let mut fields = w.struct_writer()?;
+            fields.field_name(sid)?.write_bool(true)?;
+            fields.close()
+        };
+        let length = name.len() / 3 + 2;
+        assert_eq!(closed(field), format!("D{length:X} {name} 11"));
+    }
 }
 
 #[test]

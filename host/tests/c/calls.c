@@ -70,8 +70,10 @@ int main(void) {
     CHECK(gm_write_f32(state, sizeof state, buf, sizeof buf, none, 0, UINT32_C(0x80000000)) == GM_ACCEPTED);
     CHECK(gm_write_clob(state, sizeof state, buf, sizeof buf, sid, sizeof sid, text, sizeof text) == GM_ACCEPTED);
     CHECK(gm_version_marker(state, sizeof state, buf, sizeof buf) == GM_ACCEPTED);
-    CHECK(gm_finished(state, sizeof state, buf, sizeof buf) == 15);
-    CHECK(memcmp(buf, "\x44\x80\x00\x00\x00\xE5\x81\x94\x92ok\xE0\x01\x00\xEA", 15) == 0);
+    CHECK(gm_write_bool(state, sizeof state, buf, sizeof buf, none, 0, 7) == GM_ACCEPTED);
+    CHECK(gm_write_int(state, sizeof state, buf, sizeof buf, none, 0, 7, text, 1) == GM_ACCEPTED);
+    CHECK(gm_finished(state, sizeof state, buf, sizeof buf) == 18);
+    CHECK(memcmp(buf, "\x44\x80\x00\x00\x00\xE5\x81\x94\x92ok\xE0\x01\x00\xEA\x11\x31o", 18) == 0);
     CHECK(gm_close(state, sizeof state, buf, sizeof buf) == GM_MISPLACED);
     CHECK(gm_close(state, sizeof state - 1, buf, sizeof buf) == GM_STATE_UNFIT);
     CHECK(gm_start(state, sizeof state, buf, 3) == GM_NO_ROOM);
