@@ -1,0 +1,157 @@
+/* Goatminute: an Ion 1.0 binary log writer over one lent buffer. Link with libgoatminute.a.
+ *
+ * The state is GM_STATE_SIZE bytes that the caller keeps between the calls:
+ *   0     4  used length, least significant byte first
+ *   4     1  how many containers are open
+ *   5     1  0 if no field name waits, else one does
+ *   6     2  no meaning
+ *   8   288  32 containers of nine bytes: start (4) and header (4), least significant byte first, type code (1)
+ *
+ * A slice is a pointer and a length. A slice of length 0 may have any pointer but a null one. State, buffer and the
+ * slices that are read must not overlap. Annotations are eight bytes a sid, least significant byte first; none are no
+ * annotations, and a last group of fewer bytes is filled up with zeros.
+ *
+ * Each call answers GM_ACCEPTED or a refusal's number; the first reason by number answers. A refused call leaves state
+ * and buffer as they were. No call allocates or keeps a pointer. */
+#ifndef GOATMINUTE_H
+#define GOATMINUTE_H
+
+#include <stddef.h>
+#include <stdint.h>
+
+#define GM_STATE_SIZE 296
+#define GM_LONGEST_BUFFER 16777215
+#define GM_MOST_OPEN 32
+
+enum gm_answer {
+    GM_ACCEPTED = 0,
+    GM_BUFFER_TOO_LONG = 1,    /* the buffer is longer than GM_LONGEST_BUFFER */
+    GM_STATE_UNFIT = 2,        /* the state has another length, or does not fit the buffer or itself */
+    GM_MISPLACED = 3,          /* a call that cannot stand here: see each call */
+    GM_TOO_DEEP = 4,           /* GM_MOST_OPEN containers are open */
+    GM_NEGATIVE_ZERO = 5,      /* an int of negative sign and magnitude zero */
+    GM_NOT_UTF8 = 6,           /* a string that is not UTF-8 */
+    GM_BAD_TIMESTAMP = 7,      /* a field of a timestamp is out of its range */
+    GM_DECIMAL_TOO_LONG = 8,   /* a decimal's body is over 32 bytes */
+    GM_TIMESTAMP_TOO_LONG = 9, /* a timestamp's body is over 32 bytes: no call meets it */
+    GM_NO_ROOM = 10            /* the used length on return would pass the buffer */
+};
+
+#ifdef __cplusplus
+extern "C" {
+#endif
+
+/* For a value or an opening, GM_MISPLACED is: in a struct with no name waiting. */
+
+/* A start: the empty state over a buffer that begins with a version marker.
+ * A state of another length is refused by 1 or 2; else 1 and 10 leave the empty state with used length 0. */
+uint8_t gm_start(uint8_t *state, size_t state_len, uint8_t *buf, size_t buf_len);
+
+/* A version marker, E0 01 00 EA, at the place of the call.
+ * Refusals 1, 2, 3 (inside a container), 10. */
+uint8_t gm_version_marker(uint8_t *state, size_t state_len, uint8_t *buf, size_t buf_len);
+
+/* A null, by the type code in the Ion document: 0 null, 1 bool, 2 int, 4 float, 5 decimal, 6 timestamp,
+ * 7 symbol, 8 string, 9 clob, 10 blob, 11 list, 12 sexp, 13 struct; 3 is int, past 13 is null. Refusals 1, 2, 3, 10. */
+uint8_t gm_write_null(uint8_t *state, size_t state_len, uint8_t *buf, size_t buf_len,
+                      const uint8_t *annotations, size_t annotations_len, uint8_t code);
+
+/* A bool; every number but 0 is true.
+ * Refusals 1, 2, 3, 10. */
+uint8_t gm_write_bool(uint8_t *state, size_t state_len, uint8_t *buf, size_t buf_len,
+                      const uint8_t *annotations, size_t annotations_len, uint8_t value);
+
+/* An int of 64 bits with its sign.
+ * Refusals 1, 2, 3, 10. */
+uint8_t gm_write_i64(uint8_t *state, size_t state_len, uint8_t *buf, size_t buf_len,
+                     const uint8_t *annotations, size_t annotations_len, int64_t value);
+
+/* An int of any size: its sign (every number but 0 is negative), and its magnitude from the highest byte on.
+ * Refusals 1, 2, 3, 5, 10. */
+uint8_t gm_write_int(uint8_t *state, size_t state_len, uint8_t *buf, size_t buf_len,
+                     const uint8_t *annotations, size_t annotations_len, uint8_t negative,
+                     const uint8_t *magnitude, size_t magnitude_len);
+
+/* A float by the bits of binary32.
+ * Refusals 1, 2, 3, 10. */
+uint8_t gm_write_f32(uint8_t *state, size_t state_len, uint8_t *buf, size_t buf_len,
+                     const uint8_t *annotations, size_t annotations_len, uint32_t bits);
+
+/* A float by the bits of binary64, in four bytes where binary32 holds it.
+ * Refusals 1, 2, 3, 10. */
+uint8_t gm_write_f64(uint8_t *state, size_t state_len, uint8_t *buf, size_t buf_len,
+                     const uint8_t *annotations, size_t annotations_len, uint64_t bits);
+
+/* A decimal: its sign, its coefficient from the highest byte on, its exponent.
+ * Refusals 1, 2, 3, 8, 10. */
+uint8_t gm_write_decimal(uint8_t *state, size_t state_len, uint8_t *buf, size_t buf_len,
+                         const uint8_t *annotations, size_t annotations_len, uint8_t negative,
+                         const uint8_t *coefficient, size_t coefficient_len, int64_t exponent);
+
+/* A timestamp by its local fields. Precision 0 year, 1 month, 2 day, 3 minute, 4 second; offset in minutes if known,
+ * fraction of `digits` digits if given. Fields past the precision mean nothing. Refusals 1, 2, 3, 7, 10. */
+uint8_t gm_write_timestamp(uint8_t *state, size_t state_len, uint8_t *buf, size_t buf_len,
+                           const uint8_t *annotations, size_t annotations_len, uint8_t precision, uint32_t year,
+                           uint32_t month, uint32_t day, uint32_t hour, uint32_t minute, uint32_t second,
+                           uint8_t known, int32_t offset, uint8_t given, uint32_t digits, uint64_t coefficient);
+
+/* A symbol by its sid.
+ * Refusals 1, 2, 3, 10. */
+uint8_t gm_write_symbol(uint8_t *state, size_t state_len, uint8_t *buf, size_t buf_len,
+                        const uint8_t *annotations, size_t annotations_len, uint64_t sid);
+
+/* A string, in UTF-8.
+ * Refusals 1, 2, 3, 6, 10. */
+uint8_t gm_write_string(uint8_t *state, size_t state_len, uint8_t *buf, size_t buf_len,
+                        const uint8_t *annotations, size_t annotations_len, const uint8_t *bytes, size_t bytes_len);
+
+/* A clob.
+ * Refusals 1, 2, 3, 10. */
+uint8_t gm_write_clob(uint8_t *state, size_t state_len, uint8_t *buf, size_t buf_len,
+                      const uint8_t *annotations, size_t annotations_len, const uint8_t *bytes, size_t bytes_len);
+
+/* A blob.
+ * Refusals 1, 2, 3, 10. */
+uint8_t gm_write_blob(uint8_t *state, size_t state_len, uint8_t *buf, size_t buf_len,
+                      const uint8_t *annotations, size_t annotations_len, const uint8_t *bytes, size_t bytes_len);
+
+/* A field name by its sid; the next value or container is the field's.
+ * Refusals 1, 2, 3 (outside a struct, or after a waiting name), 10. */
+uint8_t gm_field_name(uint8_t *state, size_t state_len, uint8_t *buf, size_t buf_len, uint64_t sid);
+
+/* The opening of a list.
+ * Refusals 1, 2, 3, 4, 10. */
+uint8_t gm_open_list(uint8_t *state, size_t state_len, uint8_t *buf, size_t buf_len,
+                     const uint8_t *annotations, size_t annotations_len);
+
+/* The opening of an s-expression.
+ * Refusals 1, 2, 3, 4, 10. */
+uint8_t gm_open_sexp(uint8_t *state, size_t state_len, uint8_t *buf, size_t buf_len,
+                     const uint8_t *annotations, size_t annotations_len);
+
+/* The opening of a struct.
+ * Refusals 1, 2, 3, 4, 10. */
+uint8_t gm_open_struct(uint8_t *state, size_t state_len, uint8_t *buf, size_t buf_len,
+                       const uint8_t *annotations, size_t annotations_len);
+
+/* The closing of the innermost container, which sets its lengths.
+ * Refusals 1, 2, 3 (none open, or a name waits), 10. */
+uint8_t gm_close(uint8_t *state, size_t state_len, uint8_t *buf, size_t buf_len);
+
+/* The abandonment of the innermost container: its bytes are given back, and a name before it waits again.
+ * Refusals 1, 2, 3 (none open). */
+uint8_t gm_abandon(uint8_t *state, size_t state_len, uint8_t *buf, size_t buf_len);
+
+/* An emptying, once the finished bytes are taken: the used length becomes 0, and no byte of the buffer alters.
+ * Refusals 1, 2, 3 (inside a container). */
+uint8_t gm_empty(uint8_t *state, size_t state_len, const uint8_t *buf, size_t buf_len);
+
+/* A taking: how many bytes from the buffer's front are finished. 0 while a container is open or a field name waits,
+ * or if state or buffer would be refused by 1 or 2. */
+size_t gm_finished(const uint8_t *state, size_t state_len, const uint8_t *buf, size_t buf_len);
+
+#ifdef __cplusplus
+}
+#endif
+
+#endif

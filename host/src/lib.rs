@@ -1,0 +1,44 @@
+//! An Ion 1.0 binary log writer over one lent buffer, for hosts in Rust.
+//!
+//! The calls are those of ion-rust's `LazyRawBinaryWriter_1_0`; docs/MIGRATION.md has them side by side. What they write and refuse
+//! is proved of the library that this crate links. No call allocates, and none panics.
+//!
+//! ```
+//! use goatminute::{Decimal, WriteValues, Writer};
+//!
+//! # fn main() -> Result<(), goatminute::Refusal> {
+//! let mut buf = [0; 64];
+//! let mut writer = Writer::new(&mut buf)?;
+//! let mut record = writer.with_annotations(&[20]).struct_writer()?;
+//! record.field_name(10)?.write_decimal(Decimal::new(8125, -1))?;
+//! record.field_name(11)?.write_bool(true)?;
+//! record.close()?;
+//! assert_eq!(writer.finished(), b"\xE0\x01\x00\xEA\xEA\x81\x94\xD7\x8A\x53\xC1\x1F\xBD\x8B\x11");
+//! writer.empty()?;
+//! # Ok(())
+//! # }
+//! ```
+
+#![no_std]
+#![deny(unsafe_code)]
+
+mod refusal;
+#[allow(unsafe_code)]
+pub mod sys;
+mod values;
+mod writer;
+
+pub use refusal::Refusal;
+pub use values::{Coefficient, Decimal, IonType, Precision, Timestamp};
+pub use writer::{ListWriter, SexpWriter, State, StructWriter, ValueWriter, WriteValues, Writer};
+
+pub(crate) use refusal::answer;
+
+/// The longest buffer that can be lent.
+pub const LONGEST_BUFFER: usize = 16_777_215;
+
+/// How many containers may be open.
+pub const MOST_OPEN: usize = 32;
+
+/// The bytes of a state.
+pub const STATE_SIZE: usize = 296;

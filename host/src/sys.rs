@@ -1,0 +1,334 @@
+//! The entry points over numbers and byte slices, for whoever keeps the state's bytes. All unsafe code of this crate is here.
+//!
+//! Why each call is sound. A slice crosses the C boundary as a pointer and a length, in that order, and every pair below is of one
+//! Rust slice: the pointer is valid for that length while the call runs. The library reads and writes inside the lent slices only,
+//! keeps no pointer and has no memory of its own. State and buffer are borrowed mutably, so no two slices that it may write overlap.
+//! Every value of every number, and every content and length of every slice, is allowed: the library refuses what it cannot take.
+//!
+//! The state is 296 bytes (docs/STATE.md); a slice of another length is refused by 2. Annotations are eight little-endian bytes for
+//! each sid, see [`sid_bytes`]. A refused call leaves state and buffer as they were.
+
+use crate::{answer, Refusal, Timestamp};
+
+// As in include/goatminute.h.
+#[rustfmt::skip]
+extern "C" {
+    fn gm_start(state: *mut u8, state_len: usize, buf: *mut u8, buf_len: usize) -> u8;
+    fn gm_write_null(state: *mut u8, state_len: usize, buf: *mut u8, buf_len: usize, annotations: *const u8,
+        annotations_len: usize, code: u8) -> u8;
+    fn gm_write_bool(state: *mut u8, state_len: usize, buf: *mut u8, buf_len: usize, annotations: *const u8,
+        annotations_len: usize, value: u8) -> u8;
+    fn gm_write_i64(state: *mut u8, state_len: usize, buf: *mut u8, buf_len: usize, annotations: *const u8,
+        annotations_len: usize, value: i64) -> u8;
+    fn gm_write_int(state: *mut u8, state_len: usize, buf: *mut u8, buf_len: usize, annotations: *const u8,
+        annotations_len: usize, negative: u8, magnitude: *const u8, magnitude_len: usize) -> u8;
+    fn gm_write_f32(state: *mut u8, state_len: usize, buf: *mut u8, buf_len: usize, annotations: *const u8,
+        annotations_len: usize, bits: u32) -> u8;
+    fn gm_write_f64(state: *mut u8, state_len: usize, buf: *mut u8, buf_len: usize, annotations: *const u8,
+        annotations_len: usize, bits: u64) -> u8;
+    fn gm_write_decimal(state: *mut u8, state_len: usize, buf: *mut u8, buf_len: usize, annotations: *const u8,
+        annotations_len: usize, negative: u8, coefficient: *const u8, coefficient_len: usize, exponent: i64) -> u8;
+    fn gm_write_timestamp(state: *mut u8, state_len: usize, buf: *mut u8, buf_len: usize, annotations: *const u8,
+        annotations_len: usize, precision: u8, year: u32, month: u32, day: u32, hour: u32, minute: u32, second: u32, known: u8,
+        offset: i32, given: u8, digits: u32, coefficient: u64) -> u8;
+    fn gm_write_symbol(state: *mut u8, state_len: usize, buf: *mut u8, buf_len: usize, annotations: *const u8,
+        annotations_len: usize, sid: u64) -> u8;
+    fn gm_write_string(state: *mut u8, state_len: usize, buf: *mut u8, buf_len: usize, annotations: *const u8,
+        annotations_len: usize, bytes: *const u8, bytes_len: usize) -> u8;
+    fn gm_write_clob(state: *mut u8, state_len: usize, buf: *mut u8, buf_len: usize, annotations: *const u8,
+        annotations_len: usize, bytes: *const u8, bytes_len: usize) -> u8;
+    fn gm_write_blob(state: *mut u8, state_len: usize, buf: *mut u8, buf_len: usize, annotations: *const u8,
+        annotations_len: usize, bytes: *const u8, bytes_len: usize) -> u8;
+    fn gm_field_name(state: *mut u8, state_len: usize, buf: *mut u8, buf_len: usize, sid: u64) -> u8;
+    fn gm_open_list(state: *mut u8, state_len: usize, buf: *mut u8, buf_len: usize, annotations: *const u8,
+        annotations_len: usize) -> u8;
+    fn gm_open_sexp(state: *mut u8, state_len: usize, buf: *mut u8, buf_len: usize, annotations: *const u8,
+        annotations_len: usize) -> u8;
+    fn gm_open_struct(state: *mut u8, state_len: usize, buf: *mut u8, buf_len: usize, annotations: *const u8,
+        annotations_len: usize) -> u8;
+    fn gm_close(state: *mut u8, state_len: usize, buf: *mut u8, buf_len: usize) -> u8;
+    fn gm_abandon(state: *mut u8, state_len: usize, buf: *mut u8, buf_len: usize) -> u8;
+    fn gm_version_marker(state: *mut u8, state_len: usize, buf: *mut u8, buf_len: usize) -> u8;
+    fn gm_empty(state: *mut u8, state_len: usize, buf: *const u8, buf_len: usize) -> u8;
+    fn gm_finished(state: *const u8, state_len: usize, buf: *const u8, buf_len: usize) -> usize;
+}
+
+/// The two parts of a slice that crosses.
+#[inline]
+fn lend(slice: &[u8]) -> (*const u8, usize) {
+    (slice.as_ptr(), slice.len())
+}
+
+#[inline]
+fn lend_mut(slice: &mut [u8]) -> (*mut u8, usize) {
+    (slice.as_mut_ptr(), slice.len())
+}
+
+/// A start: the empty state over a buffer that begins with a version marker. Refused, the state becomes the empty one with used length 0.
+#[inline]
+pub fn start(state: &mut [u8], buf: &mut [u8]) -> Result<(), Refusal> {
+    let (state, state_len) = lend_mut(state);
+    let (buf, buf_len) = lend_mut(buf);
+    answer(unsafe { gm_start(state, state_len, buf, buf_len) })
+}
+
+/// A null of the type with this code of the Ion document: 0 null, 1 bool, 2 int, 4 float, 5 decimal, 6 timestamp, 7 symbol, 8 string,
+/// 9 clob, 10 blob, 11 list, 12 sexp, 13 struct. 3 is int too, and a number past 13 is null.
+#[inline]
+pub fn write_null(state: &mut [u8], buf: &mut [u8], annotations: &[u8], code: u8) -> Result<(), Refusal> {
+    let (state, state_len) = lend_mut(state);
+    let (buf, buf_len) = lend_mut(buf);
+    let (annotations, annotations_len) = lend(annotations);
+    answer(unsafe { gm_write_null(state, state_len, buf, buf_len, annotations, annotations_len, code) })
+}
+
+/// A bool.
+#[inline]
+pub fn write_bool(state: &mut [u8], buf: &mut [u8], annotations: &[u8], value: bool) -> Result<(), Refusal> {
+    let (state, state_len) = lend_mut(state);
+    let (buf, buf_len) = lend_mut(buf);
+    let (annotations, annotations_len) = lend(annotations);
+    answer(unsafe { gm_write_bool(state, state_len, buf, buf_len, annotations, annotations_len, value as u8) })
+}
+
+/// An int of 64 bits with its sign.
+#[inline]
+pub fn write_i64(state: &mut [u8], buf: &mut [u8], annotations: &[u8], value: i64) -> Result<(), Refusal> {
+    let (state, state_len) = lend_mut(state);
+    let (buf, buf_len) = lend_mut(buf);
+    let (annotations, annotations_len) = lend(annotations);
+    answer(unsafe { gm_write_i64(state, state_len, buf, buf_len, annotations, annotations_len, value) })
+}
+
+/// An int of any size: its sign, and its magnitude from the highest byte on.
+#[inline]
+pub fn write_int(state: &mut [u8], buf: &mut [u8], annotations: &[u8], negative: bool, magnitude: &[u8]) -> Result<(), Refusal> {
+    let (state, state_len) = lend_mut(state);
+    let (buf, buf_len) = lend_mut(buf);
+    let (annotations, annotations_len) = lend(annotations);
+    let (magnitude, magnitude_len) = lend(magnitude);
+    answer(unsafe {
+        gm_write_int(
+            state,
+            state_len,
+            buf,
+            buf_len,
+            annotations,
+            annotations_len,
+            negative as u8,
+            magnitude,
+            magnitude_len,
+        )
+    })
+}
+
+/// A float by the bits of binary32.
+#[inline]
+pub fn write_f32(state: &mut [u8], buf: &mut [u8], annotations: &[u8], bits: u32) -> Result<(), Refusal> {
+    let (state, state_len) = lend_mut(state);
+    let (buf, buf_len) = lend_mut(buf);
+    let (annotations, annotations_len) = lend(annotations);
+    answer(unsafe { gm_write_f32(state, state_len, buf, buf_len, annotations, annotations_len, bits) })
+}
+
+/// A float by the bits of binary64, in four bytes where binary32 holds it.
+#[inline]
+pub fn write_f64(state: &mut [u8], buf: &mut [u8], annotations: &[u8], bits: u64) -> Result<(), Refusal> {
+    let (state, state_len) = lend_mut(state);
+    let (buf, buf_len) = lend_mut(buf);
+    let (annotations, annotations_len) = lend(annotations);
+    answer(unsafe { gm_write_f64(state, state_len, buf, buf_len, annotations, annotations_len, bits) })
+}
+
+/// A decimal: its sign, its coefficient from the highest byte on, its exponent.
+#[inline]
+pub fn write_decimal(
+    state: &mut [u8],
+    buf: &mut [u8],
+    annotations: &[u8],
+    negative: bool,
+    coefficient: &[u8],
+    exponent: i64,
+) -> Result<(), Refusal> {
+    let (state, state_len) = lend_mut(state);
+    let (buf, buf_len) = lend_mut(buf);
+    let (annotations, annotations_len) = lend(annotations);
+    let (coefficient, coefficient_len) = lend(coefficient);
+    answer(unsafe {
+        gm_write_decimal(
+            state,
+            state_len,
+            buf,
+            buf_len,
+            annotations,
+            annotations_len,
+            negative as u8,
+            coefficient,
+            coefficient_len,
+            exponent,
+        )
+    })
+}
+
+/// A timestamp by its local fields and its offset.
+#[inline]
+pub fn write_timestamp(state: &mut [u8], buf: &mut [u8], annotations: &[u8], value: Timestamp) -> Result<(), Refusal> {
+    let (known, offset) = match value.offset {
+        Some(minutes) => (1, minutes),
+        None => (0, 0),
+    };
+    let (given, digits, coefficient) = match value.fraction {
+        Some((digits, coefficient)) => (1, digits, coefficient),
+        None => (0, 0, 0),
+    };
+    let (state, state_len) = lend_mut(state);
+    let (buf, buf_len) = lend_mut(buf);
+    let (annotations, annotations_len) = lend(annotations);
+    answer(unsafe {
+        gm_write_timestamp(
+            state,
+            state_len,
+            buf,
+            buf_len,
+            annotations,
+            annotations_len,
+            value.precision as u8,
+            value.year,
+            value.month,
+            value.day,
+            value.hour,
+            value.minute,
+            value.second,
+            known,
+            offset,
+            given,
+            digits,
+            coefficient,
+        )
+    })
+}
+
+/// A symbol by its sid.
+#[inline]
+pub fn write_symbol(state: &mut [u8], buf: &mut [u8], annotations: &[u8], sid: u64) -> Result<(), Refusal> {
+    let (state, state_len) = lend_mut(state);
+    let (buf, buf_len) = lend_mut(buf);
+    let (annotations, annotations_len) = lend(annotations);
+    answer(unsafe { gm_write_symbol(state, state_len, buf, buf_len, annotations, annotations_len, sid) })
+}
+
+/// A string, in UTF-8.
+#[inline]
+pub fn write_string(state: &mut [u8], buf: &mut [u8], annotations: &[u8], bytes: &[u8]) -> Result<(), Refusal> {
+    let (state, state_len) = lend_mut(state);
+    let (buf, buf_len) = lend_mut(buf);
+    let (annotations, annotations_len) = lend(annotations);
+    let (bytes, bytes_len) = lend(bytes);
+    answer(unsafe { gm_write_string(state, state_len, buf, buf_len, annotations, annotations_len, bytes, bytes_len) })
+}
+
+/// A clob.
+#[inline]
+pub fn write_clob(state: &mut [u8], buf: &mut [u8], annotations: &[u8], bytes: &[u8]) -> Result<(), Refusal> {
+    let (state, state_len) = lend_mut(state);
+    let (buf, buf_len) = lend_mut(buf);
+    let (annotations, annotations_len) = lend(annotations);
+    let (bytes, bytes_len) = lend(bytes);
+    answer(unsafe { gm_write_clob(state, state_len, buf, buf_len, annotations, annotations_len, bytes, bytes_len) })
+}
+
+/// A blob.
+#[inline]
+pub fn write_blob(state: &mut [u8], buf: &mut [u8], annotations: &[u8], bytes: &[u8]) -> Result<(), Refusal> {
+    let (state, state_len) = lend_mut(state);
+    let (buf, buf_len) = lend_mut(buf);
+    let (annotations, annotations_len) = lend(annotations);
+    let (bytes, bytes_len) = lend(bytes);
+    answer(unsafe { gm_write_blob(state, state_len, buf, buf_len, annotations, annotations_len, bytes, bytes_len) })
+}
+
+/// A field name.
+#[inline]
+pub fn field_name(state: &mut [u8], buf: &mut [u8], sid: u64) -> Result<(), Refusal> {
+    let (state, state_len) = lend_mut(state);
+    let (buf, buf_len) = lend_mut(buf);
+    answer(unsafe { gm_field_name(state, state_len, buf, buf_len, sid) })
+}
+
+/// The opening of a list.
+#[inline]
+pub fn open_list(state: &mut [u8], buf: &mut [u8], annotations: &[u8]) -> Result<(), Refusal> {
+    let (state, state_len) = lend_mut(state);
+    let (buf, buf_len) = lend_mut(buf);
+    let (annotations, annotations_len) = lend(annotations);
+    answer(unsafe { gm_open_list(state, state_len, buf, buf_len, annotations, annotations_len) })
+}
+
+/// The opening of an s-expression.
+#[inline]
+pub fn open_sexp(state: &mut [u8], buf: &mut [u8], annotations: &[u8]) -> Result<(), Refusal> {
+    let (state, state_len) = lend_mut(state);
+    let (buf, buf_len) = lend_mut(buf);
+    let (annotations, annotations_len) = lend(annotations);
+    answer(unsafe { gm_open_sexp(state, state_len, buf, buf_len, annotations, annotations_len) })
+}
+
+/// The opening of a struct.
+#[inline]
+pub fn open_struct(state: &mut [u8], buf: &mut [u8], annotations: &[u8]) -> Result<(), Refusal> {
+    let (state, state_len) = lend_mut(state);
+    let (buf, buf_len) = lend_mut(buf);
+    let (annotations, annotations_len) = lend(annotations);
+    answer(unsafe { gm_open_struct(state, state_len, buf, buf_len, annotations, annotations_len) })
+}
+
+/// The closing of the innermost container.
+#[inline]
+pub fn close(state: &mut [u8], buf: &mut [u8]) -> Result<(), Refusal> {
+    let (state, state_len) = lend_mut(state);
+    let (buf, buf_len) = lend_mut(buf);
+    answer(unsafe { gm_close(state, state_len, buf, buf_len) })
+}
+
+/// The abandonment of the innermost container: its bytes are given back, and a name before it waits again.
+#[inline]
+pub fn abandon(state: &mut [u8], buf: &mut [u8]) -> Result<(), Refusal> {
+    let (state, state_len) = lend_mut(state);
+    let (buf, buf_len) = lend_mut(buf);
+    answer(unsafe { gm_abandon(state, state_len, buf, buf_len) })
+}
+
+/// A version marker, at the place of the call.
+#[inline]
+pub fn version_marker(state: &mut [u8], buf: &mut [u8]) -> Result<(), Refusal> {
+    let (state, state_len) = lend_mut(state);
+    let (buf, buf_len) = lend_mut(buf);
+    answer(unsafe { gm_version_marker(state, state_len, buf, buf_len) })
+}
+
+/// An emptying: the used length becomes 0, and no byte of the buffer alters.
+#[inline]
+pub fn empty(state: &mut [u8], buf: &[u8]) -> Result<(), Refusal> {
+    let (state, state_len) = lend_mut(state);
+    let (buf, buf_len) = lend(buf);
+    answer(unsafe { gm_empty(state, state_len, buf, buf_len) })
+}
+
+/// A taking: the finished bytes, as a part of the lent buffer. The part is empty if a container is open, a field name waits, or the
+/// state or buffer would be refused by 1 or 2.
+#[inline]
+pub fn finished<'b>(state: &[u8], buf: &'b [u8]) -> &'b [u8] {
+    let length = unsafe { gm_finished(state.as_ptr(), state.len(), buf.as_ptr(), buf.len()) };
+    buf.get(..length).unwrap_or(&[])
+}
+
+/// Sids as the entry points read them, eight little-endian bytes each.
+#[cfg(target_endian = "little")]
+#[inline]
+pub fn sid_bytes(sids: &[u64]) -> &[u8] {
+    // Sound: a u64 has eight bytes, all of them set, and bytes need no alignment. On such a machine they lie least significant first.
+    unsafe { core::slice::from_raw_parts(sids.as_ptr().cast(), core::mem::size_of_val(sids)) }
+}
+
+#[cfg(not(target_endian = "little"))]
+compile_error!("sid_bytes reads sids in place, which needs a little-endian machine");

@@ -1,0 +1,81 @@
+/* Drives the entry points from C through goatminute.h. Answers 0 if every byte and number is as expected. */
+#include "goatminute.h"
+
+#include <stdio.h>
+#include <string.h>
+
+static int failed;
+
+static void check(int ok, const char *what) {
+    if (!ok) {
+        printf("failed: %s\n", what);
+        failed = 1;
+    }
+}
+
+#define CHECK(condition) check((condition), #condition)
+
+int main(void) {
+    static uint8_t state[GM_STATE_SIZE];
+    static uint8_t buf[96];
+    static const uint8_t none[1];
+    static const uint8_t sid[8] = {20};
+    static const uint8_t coefficient[] = {0x1F, 0xBD};
+    static const uint8_t text[] = {'o', 'k'};
+    static const uint8_t wrong[] = {0xFF};
+    static const uint8_t expected[] = {
+        0xE0, 0x01, 0x00, 0xEA, 0xEE, 0xAA, 0x81, 0x94, 0xDE, 0xA6, 0x8A, 0x53, 0xC1, 0x1F, 0xBD, 0x8B,
+        0x11, 0x8C, 0x6A, 0xBC, 0x0F, 0xEA, 0x83, 0x8E, 0x93, 0x9E, 0x80, 0xC3, 0x07, 0x8D, 0x82, 0x6F,
+        0x6B, 0x8E, 0xB7, 0x31, 0x05, 0x21, 0x07, 0x71, 0x1E, 0x0F, 0x8F, 0x44, 0x3F, 0xC0, 0x00, 0x00};
+
+    memset(buf, 0xEE, sizeof buf);
+    CHECK(gm_start(state, sizeof state, buf, sizeof buf) == GM_ACCEPTED);
+    CHECK(gm_open_struct(state, sizeof state, buf, sizeof buf, sid, sizeof sid) == GM_ACCEPTED);
+    CHECK(gm_write_bool(state, sizeof state, buf, sizeof buf, none, 0, 1) == GM_MISPLACED);
+    CHECK(gm_field_name(state, sizeof state, buf, sizeof buf, 10) == GM_ACCEPTED);
+    CHECK(gm_finished(state, sizeof state, buf, sizeof buf) == 0);
+    CHECK(gm_write_decimal(state, sizeof state, buf, sizeof buf, none, 0, 0, coefficient, sizeof coefficient, -1) ==
+          GM_ACCEPTED);
+    CHECK(gm_field_name(state, sizeof state, buf, sizeof buf, 11) == GM_ACCEPTED);
+    CHECK(gm_write_bool(state, sizeof state, buf, sizeof buf, none, 0, 1) == GM_ACCEPTED);
+    CHECK(gm_field_name(state, sizeof state, buf, sizeof buf, 12) == GM_ACCEPTED);
+    CHECK(gm_write_timestamp(state, sizeof state, buf, sizeof buf, none, 0, 4, 2026, 2, 30, 20, 0, 0, 1, 60, 1, 3, 7) ==
+          GM_BAD_TIMESTAMP);
+    CHECK(gm_write_timestamp(state, sizeof state, buf, sizeof buf, none, 0, 4, 2026, 3, 14, 20, 30, 0, 1, 60, 1, 3, 7) ==
+          GM_ACCEPTED);
+    CHECK(gm_field_name(state, sizeof state, buf, sizeof buf, 13) == GM_ACCEPTED);
+    CHECK(gm_write_string(state, sizeof state, buf, sizeof buf, none, 0, wrong, sizeof wrong) == GM_NOT_UTF8);
+    CHECK(gm_write_string(state, sizeof state, buf, sizeof buf, none, 0, text, sizeof text) == GM_ACCEPTED);
+    CHECK(gm_field_name(state, sizeof state, buf, sizeof buf, 14) == GM_ACCEPTED);
+    CHECK(gm_open_sexp(state, sizeof state, buf, sizeof buf, none, 0) == GM_ACCEPTED);
+    CHECK(gm_write_blob(state, sizeof state, buf, sizeof buf, none, 0, text, sizeof text) == GM_ACCEPTED);
+    CHECK(gm_abandon(state, sizeof state, buf, sizeof buf) == GM_ACCEPTED);
+    CHECK(gm_field_name(state, sizeof state, buf, sizeof buf, 14) == GM_MISPLACED);
+    CHECK(gm_open_list(state, sizeof state, buf, sizeof buf, none, 0) == GM_ACCEPTED);
+    CHECK(gm_write_i64(state, sizeof state, buf, sizeof buf, none, 0, -5) == GM_ACCEPTED);
+    CHECK(gm_write_int(state, sizeof state, buf, sizeof buf, none, 0, 1, none, 1) == GM_NEGATIVE_ZERO);
+    CHECK(gm_write_int(state, sizeof state, buf, sizeof buf, none, 0, 0, (const uint8_t *)"\x07", 1) == GM_ACCEPTED);
+    CHECK(gm_write_symbol(state, sizeof state, buf, sizeof buf, none, 0, 30) == GM_ACCEPTED);
+    CHECK(gm_write_null(state, sizeof state, buf, sizeof buf, none, 0, 0) == GM_ACCEPTED);
+    CHECK(gm_close(state, sizeof state, buf, sizeof buf) == GM_ACCEPTED);
+    CHECK(gm_field_name(state, sizeof state, buf, sizeof buf, 15) == GM_ACCEPTED);
+    CHECK(gm_write_f64(state, sizeof state, buf, sizeof buf, none, 0, UINT64_C(0x3FF8000000000000)) == GM_ACCEPTED);
+    CHECK(gm_empty(state, sizeof state, buf, sizeof buf) == GM_MISPLACED);
+    CHECK(gm_close(state, sizeof state, buf, sizeof buf) == GM_ACCEPTED);
+    CHECK(gm_finished(state, sizeof state, buf, sizeof buf) == sizeof expected);
+    CHECK(memcmp(buf, expected, sizeof expected) == 0);
+    CHECK(state[0] == sizeof expected && state[4] == 0 && state[5] == 0);
+    CHECK(gm_empty(state, sizeof state, buf, sizeof buf) == GM_ACCEPTED);
+    CHECK(memcmp(buf, expected, sizeof expected) == 0);
+    CHECK(gm_write_f32(state, sizeof state, buf, sizeof buf, none, 0, UINT32_C(0x80000000)) == GM_ACCEPTED);
+    CHECK(gm_write_clob(state, sizeof state, buf, sizeof buf, sid, sizeof sid, text, sizeof text) == GM_ACCEPTED);
+    CHECK(gm_version_marker(state, sizeof state, buf, sizeof buf) == GM_ACCEPTED);
+    CHECK(gm_write_bool(state, sizeof state, buf, sizeof buf, none, 0, 7) == GM_ACCEPTED);
+    CHECK(gm_write_int(state, sizeof state, buf, sizeof buf, none, 0, 7, text, 1) == GM_ACCEPTED);
+    CHECK(gm_finished(state, sizeof state, buf, sizeof buf) == 18);
+    CHECK(memcmp(buf, "\x44\x80\x00\x00\x00\xE5\x81\x94\x92ok\xE0\x01\x00\xEA\x11\x31o", 18) == 0);
+    CHECK(gm_close(state, sizeof state, buf, sizeof buf) == GM_MISPLACED);
+    CHECK(gm_close(state, sizeof state - 1, buf, sizeof buf) == GM_STATE_UNFIT);
+    CHECK(gm_start(state, sizeof state, buf, 3) == GM_NO_ROOM);
+    return failed;
+}
