@@ -507,7 +507,7 @@ fn timestamp_offsets() -> Vec<String> {
 
 fn timestamp_fractions() -> Vec<String> {
     let mut lines = Vec::new();
-    let digit_counts = (0..=21).chain([38, 63, 64, 127, 128, 255, 256, 2147483647, 2147483648, 4294967297]);
+    let digit_counts = (0..=21u64).chain([38, 63, 64, 127, 128, 255, 256, 2147483647, 2147483648, 4294967297]);
     for digits in digit_counts {
         let mut coefficients: Vec<u128> = vec![0, 1, 9, 10, 127, 128, 255, 256, 32767, 32768];
         for bits in [31, 32, 63, 64] {
