@@ -41,7 +41,10 @@ pub fn all() -> Vec<Family> {
         text("order of refusals", order_of_refusals()),
         text("line lengths", line_lengths()),
         text("forms", forms()),
-        Family { name: "damaged", lines: damaged() },
+        Family {
+            name: "damaged",
+            lines: damaged(),
+        },
     ]
 }
 
@@ -190,10 +193,21 @@ fn nulls_and_bools() -> Vec<String> {
         lines.push(format!("(null {})", name.to_uppercase()));
         lines.push(format!("({name})"));
     }
-    for bad in ["(null)", "(null )", "(null i64)", "(null f64)", "(null dec)", "(null ts)", "(null ann)", "(null 0)"] {
+    for bad in [
+        "(null)",
+        "(null )",
+        "(null i64)",
+        "(null f64)",
+        "(null dec)",
+        "(null ts)",
+        "(null ann)",
+        "(null 0)",
+    ] {
         lines.push(bad.to_string());
     }
-    for bits in ["0", "1", "2", "00", "01", "10", "11", "-0", "-1", "+1", "a", "true", "1 1", ""] {
+    for bits in [
+        "0", "1", "2", "00", "01", "10", "11", "-0", "-1", "+1", "a", "true", "1 1", "",
+    ] {
         lines.push(format!("(bool {bits})"));
         lines.push(format!("(ann (10) (bool {bits}))"));
     }
@@ -246,7 +260,11 @@ fn magnitudes(bytes: usize) -> Vec<String> {
 
 fn ints() -> Vec<String> {
     let mut lines = Vec::new();
-    let sizes = (1..=40).chain(62..=66).chain(124..=131).chain(254..=258).chain([500, 1000, 2000]);
+    let sizes = (1..=40)
+        .chain(62..=66)
+        .chain(124..=131)
+        .chain(254..=258)
+        .chain([500, 1000, 2000]);
     for bytes in sizes {
         for digits in magnitudes(bytes) {
             for zeros in ["", "0", "00", "000", "0000000000000000"] {
@@ -315,8 +333,11 @@ fn f64s() -> Vec<String> {
         bits.push(0x7ff << 52 | (1 << 51) | 1 << bit);
     }
     let sign = 1u64 << 63;
-    let mut lines: Vec<String> =
-        bits.iter().flat_map(|b| [*b, *b | sign]).map(|b| format!("(f64 {b:016x})")).collect();
+    let mut lines: Vec<String> = bits
+        .iter()
+        .flat_map(|b| [*b, *b | sign])
+        .map(|b| format!("(f64 {b:016x})"))
+        .collect();
     for count in 0..=20 {
         lines.push(format!("(f64 {})", "3".repeat(count)));
     }
@@ -343,8 +364,11 @@ fn f32s() -> Vec<String> {
         bits.push(0xff << 23 | 1 << bit);
     }
     let sign = 1u32 << 31;
-    let mut lines: Vec<String> =
-        bits.iter().flat_map(|b| [*b, *b | sign]).map(|b| format!("(f32 {b:08x})")).collect();
+    let mut lines: Vec<String> = bits
+        .iter()
+        .flat_map(|b| [*b, *b | sign])
+        .map(|b| format!("(f32 {b:08x})"))
+        .collect();
     for count in 0..=10 {
         lines.push(format!("(f32 {})", "3".repeat(count)));
     }
@@ -390,7 +414,9 @@ fn decimal_exponents() -> Vec<String> {
         lines.push(format!("(dec 96 {exponent})"));
         lines.push(format!("(dec 0 {exponent})"));
     }
-    for bad in ["", "1", "1 ", "- 1", "+1 1", "1 +1", "A 1", "1 a", "1 -", "1 --1", "1 1 1", "g 1", "\"a\" 1", "1 ?"] {
+    for bad in [
+        "", "1", "1 ", "- 1", "+1 1", "1 +1", "A 1", "1 a", "1 -", "1 --1", "1 1 1", "g 1", "\"a\" 1", "1 ?",
+    ] {
         lines.push(format!("(dec {bad})"));
     }
     lines
@@ -416,9 +442,32 @@ fn decimal_coefficients() -> Vec<String> {
 }
 
 const OFFSETS: [&str; 26] = [
-    "?", "0", "-0", "00", "1", "-1", "59", "60", "-60", "63", "-63", "64", "-64", "1439", "-1439",
-    "1440", "-1440", "32768", "65536", "-65536", "2147483647", "2147483648", "-2147483648",
-    "-2147483649", "+1", "??",
+    "?",
+    "0",
+    "-0",
+    "00",
+    "1",
+    "-1",
+    "59",
+    "60",
+    "-60",
+    "63",
+    "-63",
+    "64",
+    "-64",
+    "1439",
+    "-1439",
+    "1440",
+    "-1440",
+    "32768",
+    "65536",
+    "-65536",
+    "2147483647",
+    "2147483648",
+    "-2147483648",
+    "-2147483649",
+    "+1",
+    "??",
 ];
 
 fn timestamp_precisions() -> Vec<String> {
@@ -432,9 +481,42 @@ fn timestamp_precisions() -> Vec<String> {
     }
     // One number changed, at each precision.
     let changes = [
-        "0", "00", "1", "2", "011", "12", "13", "31", "32", "23", "24", "59", "60", "127", "128", "255", "256", "257",
-        "9999", "10000", "16383", "16384", "65535", "65536", "65537", "2147483647", "2147483648",
-        "4294967296", "18446744073709551615", "18446744073709551616", "-1", "-0", "+1", "?", "a", "",
+        "0",
+        "00",
+        "1",
+        "2",
+        "011",
+        "12",
+        "13",
+        "31",
+        "32",
+        "23",
+        "24",
+        "59",
+        "60",
+        "127",
+        "128",
+        "255",
+        "256",
+        "257",
+        "9999",
+        "10000",
+        "16383",
+        "16384",
+        "65535",
+        "65536",
+        "65537",
+        "2147483647",
+        "2147483648",
+        "4294967296",
+        "18446744073709551615",
+        "18446744073709551616",
+        "-1",
+        "-0",
+        "+1",
+        "?",
+        "a",
+        "",
     ];
     for offset in ["?", "0", "-1439", "1439"] {
         for count in [1, 2, 3, 5, 6, 8] {
@@ -487,7 +569,16 @@ fn timestamp_times() -> Vec<String> {
     }
     for year in [0, 1, 2, 127, 128, 1970, 9998, 9999, 10000] {
         for offset in ["?", "0", "1", "-1", "1439", "-1439"] {
-            for fields in ["1 1 0 0", "1 1 0 0 0", "1 1 23 58", "1 1 23 59", "12 31 0 0", "12 31 0 1", "12 31 23 59", "12 31 23 59 59"] {
+            for fields in [
+                "1 1 0 0",
+                "1 1 0 0 0",
+                "1 1 23 58",
+                "1 1 23 59",
+                "12 31 0 0",
+                "12 31 0 1",
+                "12 31 23 59",
+                "12 31 23 59 59",
+            ] {
                 lines.push(format!("(ts {offset} {year} {fields})"));
             }
         }
@@ -567,8 +658,30 @@ fn symbols_and_names() -> Vec<String> {
         lines.push(format!("(ann (0{sid}) (struct ({sid} (symbol {sid}))))"));
     }
     for symbol in [
-        "\"a\"", "\"z\"", "\"go\"", "\"abcdefghijklmnopqrstuvwxyz\"", "\"\"", "\"", "\"a", "a\"", "a", "\"A\"",
-        "\"a1\"", "\"a b\"", "\"a\"\"b\"", "\"{\"", "\"`\"", "'a'", "-1", "-0", "+1", "$1", "1.", "", " 1", "1 ",
+        "\"a\"",
+        "\"z\"",
+        "\"go\"",
+        "\"abcdefghijklmnopqrstuvwxyz\"",
+        "\"\"",
+        "\"",
+        "\"a",
+        "a\"",
+        "a",
+        "\"A\"",
+        "\"a1\"",
+        "\"a b\"",
+        "\"a\"\"b\"",
+        "\"{\"",
+        "\"`\"",
+        "'a'",
+        "-1",
+        "-0",
+        "+1",
+        "$1",
+        "1.",
+        "",
+        " 1",
+        "1 ",
     ] {
         lines.push(format!("(symbol {symbol})"));
         lines.push(format!("(struct ({symbol} (bool 1)))"));
@@ -611,7 +724,9 @@ fn strings_and_lobs() -> Vec<String> {
         for byte in 0..=255 {
             lines.push(format!("({kind} {byte:02x})"));
         }
-        for bad in ["0", "000", "0g", "g0", "AA", "aA", "6f ", " 6f", "6f 6f", "-6f", "\"a\"", "6f)"] {
+        for bad in [
+            "0", "000", "0g", "g0", "AA", "aA", "6f ", " 6f", "6f 6f", "-6f", "\"a\"", "6f)",
+        ] {
             lines.push(format!("({kind} {bad})"));
         }
         lines.push(format!("({kind} )"));
@@ -766,11 +881,28 @@ fn annotation_counts() -> Vec<String> {
         lines.push(format!("(ann ({sids}) (list))"));
     }
     for bad in [
-        "(ann (10)  (bool 1))", "(ann (10)(bool 1))", "(ann(10) (bool 1))", "(ann ( 10) (bool 1))", "(ann (10 ) (bool 1))",
-        "(ann (10  11) (bool 1))", "(ann 10 (bool 1))", "(ann (bool 1))", "(ann (10))", "(ann (10) )", "(ann)", "(ann )",
-        "(ann () )", "(ann ())", "(ann () (ann () (bool 1)))", "(ann (10) (ann () (bool 1)))",
-        "(ann () (ann (10) (bool 1)))", "(ann (10) (bool 1) (bool 1))", "(ann (10) 10)", "(ann ((10)) (bool 1))",
-        "(ann (10) (list (ann (11) (bool 1))))", "(ann (10) (list (ann (11) (ann (12) (bool 1)))))",
+        "(ann (10)  (bool 1))",
+        "(ann (10)(bool 1))",
+        "(ann(10) (bool 1))",
+        "(ann ( 10) (bool 1))",
+        "(ann (10 ) (bool 1))",
+        "(ann (10  11) (bool 1))",
+        "(ann 10 (bool 1))",
+        "(ann (bool 1))",
+        "(ann (10))",
+        "(ann (10) )",
+        "(ann)",
+        "(ann )",
+        "(ann () )",
+        "(ann ())",
+        "(ann () (ann () (bool 1)))",
+        "(ann (10) (ann () (bool 1)))",
+        "(ann () (ann (10) (bool 1)))",
+        "(ann (10) (bool 1) (bool 1))",
+        "(ann (10) 10)",
+        "(ann ((10)) (bool 1))",
+        "(ann (10) (list (ann (11) (bool 1))))",
+        "(ann (10) (list (ann (11) (ann (12) (bool 1)))))",
     ] {
         lines.push(bad.to_string());
     }
@@ -799,9 +931,22 @@ fn nesting() -> Vec<String> {
             }
             if depth <= 40 {
                 for inner in [
-                    "(list)", "(sexp)", "(struct)", "(null list)", "(symbol 4)", "(symbol \"go\")", "(ann (10) (list))",
-                    "(ann () (list))", "(ann (\"go\") (list))", "(ann (\"go\") (bool 1))", "(struct (\"go\" (bool 1)))",
-                    "(list) (list)", "(int -0)", "(list (int -0))", "(list )", "(i64 5) (sexp (i64 6)) (bool 0)",
+                    "(list)",
+                    "(sexp)",
+                    "(struct)",
+                    "(null list)",
+                    "(symbol 4)",
+                    "(symbol \"go\")",
+                    "(ann (10) (list))",
+                    "(ann () (list))",
+                    "(ann (\"go\") (list))",
+                    "(ann (\"go\") (bool 1))",
+                    "(struct (\"go\" (bool 1)))",
+                    "(list) (list)",
+                    "(int -0)",
+                    "(list (int -0))",
+                    "(list )",
+                    "(i64 5) (sexp (i64 6)) (bool 0)",
                 ] {
                     lines.push(nested(kind, depth, inner));
                 }
@@ -866,6 +1011,9 @@ fn line_lengths() -> Vec<String> {
         let left = length - start.len() - end.len();
         (left % fill.len() == 0).then(|| format!("{start}{}{end}", fill.repeat(left / fill.len())))
     };
+    // 4,096 and 4,103 bytes.
+    lines.push(nested("list", 584, "(bool 1)"));
+    lines.push(nested("list", 585, "(bool 1)"));
     for length in (4090..=4100).chain([8191, 8192]) {
         for (start, fill, end) in [
             ("(int ", "1", ")"),
@@ -950,15 +1098,81 @@ fn undamaged() -> Vec<&'static str> {
 fn forms() -> Vec<String> {
     let mut lines: Vec<String> = undamaged().into_iter().map(str::to_string).collect();
     for line in [
-        "(", ")", "()", "(())", " ", "  ", "\"go\"", "go", "5", "?", "-", "null", "(bool 1)(bool 1)", "(bool 1) (bool 1)",
-        " (bool 1)", "(bool 1) ", "( bool 1)", "(bool  1)", "(bool 1 )", "(Bool 1)", "(BOOL 1)", "(bool1)", "(bool\t1)",
-        "(bool 1)\r", "\r", "(i32 1)", "(i64)", "(int)", "(f16 0000)", "(f32)", "(f64)", "(dec)", "(dec 1)", "(ts)", "(ts ?)",
-        "(ts 2000)", "(symbol)", "(list())", "(list ())", "(list(bool 1))", "(list 5)", "(list  (bool 1))", "(list (bool 1) )",
-        "(list (bool 1)  (bool 1))", "(list (bool 1)(bool 1))", "(list \"go\")", "(struct ())", "(struct 4)", "(struct (4))",
-        "(struct (4 ))", "(struct (4 5))", "(struct (bool 1))", "(struct 4 (bool 1))", "(struct (4 (bool 1) (bool 1)))",
-        "(struct (4  (bool 1)))", "(struct (4(bool 1)))", "(struct (4 (bool 1)) )", "(struct(4 (bool 1)))", "(struct )",
-        "(sexp )", "(sexp (4 (bool 1)))", "(tuple)", "(float 1)", "(decimal 1 1)", "(timestamp ? 2000)", "[list]", "(list]",
-        "; comment", "(bool 1);", "(bool 1) ; comment", "{}", "null.list", "$10::true", "marker", "value (bool 1)",
+        "(",
+        ")",
+        "()",
+        "(())",
+        " ",
+        "  ",
+        "\"go\"",
+        "go",
+        "5",
+        "?",
+        "-",
+        "null",
+        "(bool 1)(bool 1)",
+        "(bool 1) (bool 1)",
+        " (bool 1)",
+        "(bool 1) ",
+        "( bool 1)",
+        "(bool  1)",
+        "(bool 1 )",
+        "(Bool 1)",
+        "(BOOL 1)",
+        "(bool1)",
+        "(bool\t1)",
+        "(bool 1)\r",
+        "\r",
+        "(i32 1)",
+        "(i64)",
+        "(int)",
+        "(f16 0000)",
+        "(f32)",
+        "(f64)",
+        "(dec)",
+        "(dec 1)",
+        "(ts)",
+        "(ts ?)",
+        "(ts 2000)",
+        "(symbol)",
+        "(list())",
+        "(list ())",
+        "(list(bool 1))",
+        "(list 5)",
+        "(list  (bool 1))",
+        "(list (bool 1) )",
+        "(list (bool 1)  (bool 1))",
+        "(list (bool 1)(bool 1))",
+        "(list \"go\")",
+        "(struct ())",
+        "(struct 4)",
+        "(struct (4))",
+        "(struct (4 ))",
+        "(struct (4 5))",
+        "(struct (bool 1))",
+        "(struct 4 (bool 1))",
+        "(struct (4 (bool 1) (bool 1)))",
+        "(struct (4  (bool 1)))",
+        "(struct (4(bool 1)))",
+        "(struct (4 (bool 1)) )",
+        "(struct(4 (bool 1)))",
+        "(struct )",
+        "(sexp )",
+        "(sexp (4 (bool 1)))",
+        "(tuple)",
+        "(float 1)",
+        "(decimal 1 1)",
+        "(timestamp ? 2000)",
+        "[list]",
+        "(list]",
+        "; comment",
+        "(bool 1);",
+        "(bool 1) ; comment",
+        "{}",
+        "null.list",
+        "$10::true",
+        "marker",
+        "value (bool 1)",
     ] {
         lines.push(line.to_string());
     }
@@ -966,5 +1180,8 @@ fn forms() -> Vec<String> {
 }
 
 fn damaged() -> Vec<Line> {
-    undamaged().into_iter().flat_map(|line| damage::each(line.as_bytes())).collect()
+    undamaged()
+        .into_iter()
+        .flat_map(|line| damage::each(line.as_bytes()))
+        .collect()
 }

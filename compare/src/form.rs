@@ -44,7 +44,10 @@ impl<'a> Cursor<'a> {
     fn annotated(&mut self) -> Option<Annotated> {
         if !self.pass("(ann ") {
             let value = self.value()?;
-            return Some(Annotated { annotations: Vec::new(), value });
+            return Some(Annotated {
+                annotations: Vec::new(),
+                value,
+            });
         }
         self.expect("(")?;
         let mut annotations = Vec::new();
@@ -64,67 +67,59 @@ impl<'a> Cursor<'a> {
     fn value(&mut self) -> Option<Value> {
         self.expect("(")?;
         let value = match self.run(|b| b.is_ascii_lowercase() || b.is_ascii_digit())? {
+            b"list" => Value::List(self.members()?),
+            b"sexp" => Value::Sexp(self.members()?),
+            b"struct" => Value::Struct(self.fields()?),
+            word => self.scalar(word)?,
+        };
+        self.expect(")")?;
+        Some(value)
+    }
+
+    fn scalar(&mut self, word: &[u8]) -> Option<Value> {
+        match word {
+            b"string" => return Some(Value::String(self.pairs()?)),
+            b"clob" => return Some(Value::Clob(self.pairs()?)),
+            b"blob" => return Some(Value::Blob(self.pairs()?)),
+            // All others have a part, and so a space.
+            _ => self.expect(" ")?,
+        }
+        Some(match word {
             b"null" => {
-                self.expect(" ")?;
                 let name = self.run(|b| b.is_ascii_lowercase())?;
                 Value::Null(*Type::ALL.iter().find(|t| t.name().as_bytes() == name)?)
             }
-            b"bool" => {
-                self.expect(" ")?;
-                match self.pass("1") {
-                    true => Value::Bool(true),
-                    false => self.expect("0").map(|()| Value::Bool(false))?,
-                }
-            }
-            b"i64" => {
-                self.expect(" ")?;
-                Value::I64(self.i64()?)
-            }
-            b"int" => {
-                self.expect(" ")?;
-                Value::Int(self.hex_number()?)
-            }
-            b"f32" => {
-                self.expect(" ")?;
-                Value::F32(u32::try_from(self.bits(8)?).ok()?)
-            }
-            b"f64" => {
-                self.expect(" ")?;
-                Value::F64(self.bits(16)?)
-            }
+            b"bool" => match self.pass("1") {
+                true => Value::Bool(true),
+                false => self.expect("0").map(|()| Value::Bool(false))?,
+            },
+            b"i64" => Value::I64(self.i64()?),
+            b"int" => Value::Int(self.hex_number()?),
+            b"f32" => Value::F32(u32::try_from(self.bits(8)?).ok()?),
+            b"f64" => Value::F64(self.bits(16)?),
             b"dec" => {
-                self.expect(" ")?;
                 let coefficient = self.hex_number()?;
                 self.expect(" ")?;
                 let exponent = self.i64()?;
                 Value::Decimal { coefficient, exponent }
             }
             b"ts" => Value::Timestamp(self.timestamp()?),
-            b"symbol" => {
-                self.expect(" ")?;
-                Value::Symbol(self.symbol()?)
-            }
-            b"string" => Value::String(self.pairs()?),
-            b"clob" => Value::Clob(self.pairs()?),
-            b"blob" => Value::Blob(self.pairs()?),
-            b"list" => Value::List(self.members()?),
-            b"sexp" => Value::Sexp(self.members()?),
-            b"struct" => {
-                let mut fields = Vec::new();
-                while self.pass(" ") {
-                    self.expect("(")?;
-                    let name = self.symbol()?;
-                    self.expect(" ")?;
-                    let value = self.annotated()?;
-                    self.expect(")")?;
-                    fields.push((name, value));
-                }
-                Value::Struct(fields)
-            }
+            b"symbol" => Value::Symbol(self.symbol()?),
             _ => return None,
-        };
-        self.expect(")")?;
-        Some(value)
+        })
+    }
+
+    fn fields(&mut self) -> Option<Vec<(Symbol, Annotated)>> {
+        let mut fields = Vec::new();
+        while self.pass(" ") {
+            self.expect("(")?;
+            let name = self.symbol()?;
+            self.expect(" ")?;
+            let value = self.annotated()?;
+            self.expect(")")?;
+            fields.push((name, value));
+        }
+        Some(fields)
     }
 
     fn members(&mut self) -> Option<Vec<Annotated>> {
@@ -200,7 +195,6 @@ impl<'a> Cursor<'a> {
     }
 
     fn timestamp(&mut self) -> Option<Timestamp> {
-        self.expect(" ")?;
         let offset = match self.pass("?") {
             true => None,
             false => Some(i32::try_from(self.signed(i32::MAX as u64)?).ok()?),
@@ -216,7 +210,11 @@ impl<'a> Cursor<'a> {
             let coefficient = self.decimal(u64::MAX)?;
             fraction = Some(Fraction { digits, coefficient });
         }
-        matches!(fields.len(), 1 | 2 | 3 | 5 | 6).then_some(Timestamp { offset, fields, fraction })
+        matches!(fields.len(), 1 | 2 | 3 | 5 | 6).then_some(Timestamp {
+            offset,
+            fields,
+            fraction,
+        })
     }
 
     /// A number without sign, at most the greatest of signed 32 bits.

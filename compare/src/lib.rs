@@ -11,3 +11,4 @@ pub mod refusal;
 pub mod rng;
 pub mod sample;
 pub mod value;
+pub mod verdict;

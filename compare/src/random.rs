@@ -112,7 +112,11 @@ fn scalar(rng: &mut Rng) -> String {
             let kind = rng.pick(&["clob", "blob"]);
             let count = length(rng);
             let pairs: String = (0..count).map(|_| format!("{:02x}", rng.below(256))).collect();
-            if pairs.is_empty() { format!("({kind})") } else { format!("({kind} {pairs})") }
+            if pairs.is_empty() {
+                format!("({kind})")
+            } else {
+                format!("({kind} {pairs})")
+            }
         }
     }
 }
@@ -159,7 +163,11 @@ fn f64_bits(rng: &mut Rng) -> u64 {
             exponent << 52 | fraction
         }
     };
-    if rng.one_in(10) { bits ^ 1 } else { bits }
+    if rng.one_in(10) {
+        bits ^ 1
+    } else {
+        bits
+    }
 }
 
 fn timestamp(rng: &mut Rng) -> String {
@@ -234,5 +242,9 @@ fn string(rng: &mut Rng) -> String {
         bytes[at] = rng.below(256) as u8;
     }
     let pairs: String = bytes.iter().map(|b| format!("{b:02x}")).collect();
-    if pairs.is_empty() { "(string)".to_string() } else { format!("(string {pairs})") }
+    if pairs.is_empty() {
+        "(string)".to_string()
+    } else {
+        format!("(string {pairs})")
+    }
 }

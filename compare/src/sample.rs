@@ -12,8 +12,9 @@ const RANDOM_LINES: usize = 250;
 /// Lines taken of a family for each answer: bytes, or one of the numbers.
 const ACCEPTED: usize = 18;
 const REFUSED: usize = 7;
-/// Lines over this length are taken from "documents", "nesting" and "line lengths" alone.
-const SHORT: usize = 700;
+/// Longer lines are taken from "documents" and "line lengths" alone, and of these fewer.
+const SHORT: usize = 1000;
+const LONG_LINES: usize = 5;
 
 /// All lines of the documents, lines of every family for each answer that the family meets, and
 /// random lines. A line is never there twice, and none has a byte 0, so that the file counts as
@@ -31,7 +32,7 @@ pub fn lines() -> Vec<Line> {
             family.lines.into_iter().for_each(&mut take);
             continue;
         }
-        let long = matches!(family.name, "nesting" | "line lengths");
+        let long = family.name == "line lengths";
         let mut by_answer: BTreeMap<Option<u8>, Vec<Line>> = BTreeMap::new();
         for line in family.lines {
             if long || line.len() <= SHORT {
@@ -39,7 +40,11 @@ pub fn lines() -> Vec<Line> {
             }
         }
         for (answer, lines) in by_answer {
-            let count = if answer.is_none() { ACCEPTED } else { REFUSED };
+            let count = match answer {
+                _ if long => LONG_LINES,
+                None => ACCEPTED,
+                Some(_) => REFUSED,
+            };
             spread(lines, count).into_iter().for_each(&mut take);
         }
     }
