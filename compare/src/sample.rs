@@ -12,13 +12,14 @@ const RANDOM_LINES: usize = 250;
 /// Lines taken of a family for each answer: bytes, or one of the numbers.
 const ACCEPTED: usize = 18;
 const REFUSED: usize = 7;
+const DAMAGED: usize = 60;
 /// Longer lines are taken from "documents" and "line lengths" alone, and of these fewer.
 const SHORT: usize = 1000;
 const LONG_LINES: usize = 5;
 
-/// All lines of the documents, lines of every family for each answer that the family meets, and
-/// random lines. A line is never there twice, and none has a byte 0, so that the file counts as
-/// text.
+/// All lines of the documents and forms, lines of every other family for each answer that the family
+/// meets, and random lines. A line is never there twice, and none has a byte 0, so that the file
+/// counts as text.
 pub fn lines() -> Vec<Line> {
     let mut taken = HashSet::new();
     let mut lines = Vec::new();
@@ -28,7 +29,7 @@ pub fn lines() -> Vec<Line> {
         }
     };
     for family in families::all() {
-        if family.name == "documents" {
+        if matches!(family.name, "documents" | "forms") {
             family.lines.into_iter().for_each(&mut take);
             continue;
         }
@@ -42,6 +43,7 @@ pub fn lines() -> Vec<Line> {
         for (answer, lines) in by_answer {
             let count = match answer {
                 _ if long => LONG_LINES,
+                _ if family.name == "damaged" => DAMAGED,
                 None => ACCEPTED,
                 Some(_) => REFUSED,
             };
