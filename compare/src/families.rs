@@ -689,6 +689,35 @@ fn symbols_and_names() -> Vec<String> {
         lines.push(format!("(ann (10 {symbol}) (list))"));
         lines.push(format!("(ann ({symbol} 10) (struct (4 (null int))))"));
     }
+    // Text in the place of each other part.
+    for line in [
+        "(null \"go\")",
+        "(bool \"go\")",
+        "(i64 \"go\")",
+        "(int \"go\")",
+        "(f32 \"go\")",
+        "(f64 \"go\")",
+        "(dec \"go\" 1)",
+        "(dec 1 \"go\")",
+        "(ts \"go\" 2000)",
+        "(ts ? \"go\")",
+        "(ts ? 2000 \"go\")",
+        "(ts ? 2000 1 1 0 0 0 \"go\" 1)",
+        "(ts ? 2000 1 1 0 0 0 1 \"go\")",
+        "(string \"go\")",
+        "(clob \"go\")",
+        "(blob \"go\")",
+        "(list \"go\")",
+        "(sexp \"go\")",
+        "(struct \"go\")",
+        "(struct (4 \"go\"))",
+        "(ann \"go\" (bool 1))",
+        "(ann (4) \"go\")",
+        "(\"go\" (bool 1))",
+        "(\"go\")",
+    ] {
+        lines.push(line.to_string());
+    }
     lines
 }
 

@@ -191,7 +191,7 @@ impl<'a> Cursor<'a> {
             return Some(Vec::new());
         }
         let digits = self.hex_digits()?;
-        (digits.len() % 2 == 0).then(|| bytes_of_pairs(digits).collect())
+        digits.len().is_multiple_of(2).then(|| bytes_of_pairs(digits).collect())
     }
 
     fn timestamp(&mut self) -> Option<Timestamp> {

@@ -20,9 +20,9 @@ pub fn value(rng: &mut Rng) -> String {
             0 => 28 + rng.below(12),
             _ => rng.below(6),
         },
-        bytes_left: match rng.below(300) {
-            0 => 4100,
-            _ => 20 + rng.below(400) as isize,
+        bytes_left: match rng.below(60) {
+            0 => rng.between(1000, 4100) as isize,
+            _ => rng.between(20, 420) as isize,
         },
     };
     let mut text = String::new();
@@ -64,7 +64,11 @@ fn plain(rng: &mut Rng, shape: &mut Shape, depth: usize, text: &mut String) {
     let kind = rng.pick(&["list", "sexp", "struct"]);
     text.push('(');
     text.push_str(kind);
-    let count = if shape.depth >= 28 { 1 + rng.below(2) } else { rng.below(7) };
+    let count = match rng.below(12) {
+        _ if shape.depth >= 28 => 1 + rng.below(2),
+        0 => rng.below(120),
+        _ => rng.below(7),
+    };
     for _ in 0..count {
         if shape.bytes_left <= 0 && shape.depth < 28 {
             break;
@@ -145,21 +149,21 @@ fn exponent(rng: &mut Rng) -> u64 {
 fn f32_bits(rng: &mut Rng) -> u32 {
     match rng.below(8) {
         0 => rng.of_bits(32) as u32,
-        1 => 0xff << 23 | rng.next() as u32,
-        _ => rng.next() as u32,
+        1 => 0xff << 23 | rng.draw() as u32,
+        _ => rng.draw() as u32,
     }
 }
 
 /// Half of them close to what binary32 holds.
 fn f64_bits(rng: &mut Rng) -> u64 {
     let bits = match rng.below(4) {
-        0 => rng.next(),
+        0 => rng.draw(),
         1 => f64::from(f32::from_bits(f32_bits(rng))).to_bits(),
-        2 => rng.next() & !((1 << rng.below(53)) - 1),
+        2 => rng.draw() & !((1 << rng.below(53)) - 1),
         // An exponent of binary32, subnormals included, and a short fraction.
         _ => {
             let exponent = (868 + rng.below(290)) as u64;
-            let fraction = (rng.next() >> 12) & !((1 << (24 + rng.below(29))) - 1);
+            let fraction = (rng.draw() >> 12) & !((1 << (24 + rng.below(29))) - 1);
             exponent << 52 | fraction
         }
     };
@@ -200,6 +204,7 @@ fn timestamp(rng: &mut Rng) -> String {
             0 => fields[rng.below(count)] = rng.pick(&[0, 13, 24, 29, 31, 32, 60, 10000, 70000]),
             1 => offset = rng.pick(&[-1440, 1440, 70000, -70000]),
             2 => known = !known,
+            _ if rng.one_in(3) => fraction = fraction.map(|_| (0, 0)),
             _ => fraction = fraction.map(|_| (rng.between(0, 20), rng.of_bits(64))),
         }
     }

@@ -163,7 +163,7 @@ fn timestamp_fault(timestamp: &Timestamp) -> Option<Fault> {
         && (0..=23).contains(&hour)
         && (0..=59).contains(&minute)
         && (0..=59).contains(&second)
-        && offset.map_or(true, |o| fields.len() >= 5 && (-1439..=1439).contains(&o));
+        && offset.is_none_or(|o| fields.len() >= 5 && (-1439..=1439).contains(&o));
     if !in_order {
         return Some(Fault::Timestamp);
     }

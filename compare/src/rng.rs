@@ -7,7 +7,7 @@ impl Rng {
         Rng(seed)
     }
 
-    pub fn next(&mut self) -> u64 {
+    pub fn draw(&mut self) -> u64 {
         self.0 = self.0.wrapping_add(0x9e37_79b9_7f4a_7c15);
         let mut z = self.0;
         z = (z ^ (z >> 30)).wrapping_mul(0xbf58_476d_1ce4_e5b9);
@@ -17,7 +17,7 @@ impl Rng {
 
     /// A number below `bound`, which is not 0.
     pub fn below(&mut self, bound: usize) -> usize {
-        (self.next() % bound as u64) as usize
+        (self.draw() % bound as u64) as usize
     }
 
     /// A number from `low` to `high`.
@@ -38,7 +38,7 @@ impl Rng {
     pub fn of_bits(&mut self, bits: u32) -> u64 {
         match self.below(bits as usize + 1) as u32 {
             0 => 0,
-            length => self.next() >> (64 - length),
+            length => self.draw() >> (64 - length),
         }
     }
 }

@@ -98,7 +98,7 @@ pub fn expected(line: &[u8], rust: &[u8]) -> Option<Vec<u8>> {
 /// One byte or more, in pairs of lower-case hex digits.
 pub fn is_hex(answer: &[u8]) -> bool {
     let is_digit = |b: &u8| matches!(b, b'0'..=b'9' | b'a'..=b'f');
-    !answer.is_empty() && answer.len() % 2 == 0 && answer.iter().all(is_digit)
+    !answer.is_empty() && answer.len().is_multiple_of(2) && answer.iter().all(is_digit)
 }
 
 #[cfg(test)]

@@ -68,7 +68,7 @@ impl Tally {
         }
     }
 
-    fn short(&mut self, name: &str) {
+    fn wrong_length(&mut self, name: &str) {
         println!("{name} is short or too long");
         self.short = true;
     }
@@ -109,7 +109,7 @@ fn judge_lines(tally: &mut Tally, lines: &str, ours: &str, rust: &str) -> io::Re
     while lines.next()? {
         for answers in [&mut ours, &mut rust] {
             if !answers.next()? {
-                tally.short(&answers.name);
+                tally.wrong_length(&answers.name);
                 return Ok(());
             }
         }
@@ -128,7 +128,7 @@ fn judge_lines(tally: &mut Tally, lines: &str, ours: &str, rust: &str) -> io::Re
     }
     for answers in [&mut ours, &mut rust] {
         if answers.next()? {
-            tally.short(&answers.name);
+            tally.wrong_length(&answers.name);
         }
     }
     Ok(())
@@ -147,7 +147,7 @@ fn judge_stream(tally: &mut Tally, stream: &str, ours: &str, rust: &str) -> io::
     let mut ours = Lines::open(ours)?;
     let mut all = Lines::open(rust)?;
     if !all.next()? || !ours.next()? {
-        tally.short(rust);
+        tally.wrong_length(rust);
         return Ok(());
     }
     let mut rest = &all.line[..];
@@ -161,7 +161,7 @@ fn judge_stream(tally: &mut Tally, stream: &str, ours: &str, rust: &str) -> io::
     }
     while stream.next()? {
         if !ours.next()? {
-            tally.short(&ours.name);
+            tally.wrong_length(&ours.name);
             return Ok(());
         }
         tally.items += 1;
@@ -174,7 +174,7 @@ fn judge_stream(tally: &mut Tally, stream: &str, ours: &str, rust: &str) -> io::
         rest = &rest[ours.line.len()..];
     }
     if !rest.is_empty() || ours.next()? {
-        tally.short(if rest.is_empty() { &ours.name } else { rust });
+        tally.wrong_length(if rest.is_empty() { &ours.name } else { rust });
     }
     Ok(())
 }

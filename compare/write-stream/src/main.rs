@@ -1,8 +1,8 @@
 //! write-stream SEED: writes a stream from standard input (see `streams`) through the host crate, over one buffer.
 //!
 //! Prints the bytes of the start, then those of each item, one line of hex each. The seed draws what must leave no trace:
-//! containers that are abandoned, refused calls, and when the buffer is emptied. Stops with exit status 1 at the first call
-//! that answers otherwise than document 01.
+//! containers that are abandoned, refused calls, and when the buffer is emptied. Stops at the first call that answers otherwise
+//! than document 01.
 
 use std::io::{self, BufRead, BufWriter, Write};
 use std::process::ExitCode;
