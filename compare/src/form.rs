@@ -44,10 +44,7 @@ impl<'a> Cursor<'a> {
     fn annotated(&mut self) -> Option<Annotated> {
         if !self.pass("(ann ") {
             let value = self.value()?;
-            return Some(Annotated {
-                annotations: Vec::new(),
-                value,
-            });
+            return Some(Annotated { annotations: Vec::new(), value });
         }
         self.expect("(")?;
         let mut annotations = Vec::new();
@@ -210,11 +207,7 @@ impl<'a> Cursor<'a> {
             let coefficient = self.decimal(u64::MAX)?;
             fraction = Some(Fraction { digits, coefficient });
         }
-        matches!(fields.len(), 1 | 2 | 3 | 5 | 6).then_some(Timestamp {
-            offset,
-            fields,
-            fraction,
-        })
+        matches!(fields.len(), 1 | 2 | 3 | 5 | 6).then_some(Timestamp { offset, fields, fraction })
     }
 
     /// A number without sign, at most the greatest of signed 32 bits.

@@ -52,10 +52,7 @@ pub fn faults(line: &[u8]) -> Vec<Fault> {
     let Some(value) = form::parse(line) else {
         return vec![Fault::Form];
     };
-    let mut calls = Calls {
-        open: 0,
-        faults: Vec::new(),
-    };
+    let mut calls = Calls { open: 0, faults: Vec::new() };
     if line.len() > LINE_LIMIT {
         calls.faults.push(Fault::Length);
     }
@@ -146,11 +143,7 @@ fn var_int_len(value: i64) -> usize {
 }
 
 fn timestamp_fault(timestamp: &Timestamp) -> Option<Fault> {
-    let Timestamp {
-        offset,
-        fields,
-        fraction,
-    } = timestamp;
+    let Timestamp { offset, fields, fraction } = timestamp;
     let year = fields[0];
     let month = fields.get(1).copied().unwrap_or(1);
     let day = fields.get(2).copied().unwrap_or(1);

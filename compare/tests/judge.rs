@@ -11,10 +11,7 @@ fn judge(name: &str, contents: &[&str]) -> (bool, String) {
     for (file, content) in files.iter().zip(contents) {
         std::fs::write(file, content).expect("a file");
     }
-    let output = Command::new(env!("CARGO_BIN_EXE_judge"))
-        .args(&files)
-        .output()
-        .expect("a run");
+    let output = Command::new(env!("CARGO_BIN_EXE_judge")).args(&files).output().expect("a run");
     (output.status.success(), String::from_utf8(output.stdout).expect("text"))
 }
 
@@ -28,21 +25,13 @@ fn equal_and_parted() {
     assert!(content, "{printed}");
     let end = "parted by intent: 0 over 4,096 bytes, 0 over 32 deep, 1 of no fraction digits\n6 lines, 0 differences\n";
     assert!(printed.ends_with(end), "{printed}");
-    assert!(
-        printed.contains("1 with the same bytes, 4 refused by both (1 of !5, 1 of !11, 2 of !12)"),
-        "{printed}"
-    );
+    assert!(printed.contains("1 with the same bytes, 4 refused by both (1 of !5, 1 of !11, 2 of !12)"), "{printed}");
 }
 
 #[test]
 fn differences() {
-    for (at, ours) in [
-        "10\n!12\n!12\n!5\n!7\n!11\n",
-        "11\n!11\n!12\n!5\n!7\n!11\n",
-        "11\n!12\n!12\n!7\n!7\n!11\n",
-    ]
-    .iter()
-    .enumerate()
+    for (at, ours) in
+        ["10\n!12\n!12\n!5\n!7\n!11\n", "11\n!11\n!12\n!5\n!7\n!11\n", "11\n!12\n!12\n!7\n!7\n!11\n"].iter().enumerate()
     {
         let (content, printed) = judge(&format!("different-{at}"), &[LINES, ours, RUST]);
         assert!(!content && printed.ends_with("6 lines, 1 differences\n"), "{printed}");

@@ -92,11 +92,8 @@ impl Tally {
             refusals.join(", "),
         );
         println!("{} stream items", self.items);
-        let parted: Vec<String> = Intent::ALL
-            .iter()
-            .zip(self.parted)
-            .map(|(intent, count)| format!("{count} {intent}"))
-            .collect();
+        let parted: Vec<String> =
+            Intent::ALL.iter().zip(self.parted).map(|(intent, count)| format!("{count} {intent}")).collect();
         println!("parted by intent: {}", parted.join(", "));
         println!("{} lines, {} differences", self.lines + self.items, self.differences);
     }
@@ -197,11 +194,7 @@ struct Lines {
 impl Lines {
     fn open(name: &str) -> io::Result<Lines> {
         let file = File::open(name).map_err(|error| io::Error::new(error.kind(), format!("{name}: {error}")))?;
-        Ok(Lines {
-            name: name.to_string(),
-            file: BufReader::new(file),
-            line: Vec::new(),
-        })
+        Ok(Lines { name: name.to_string(), file: BufReader::new(file), line: Vec::new() })
     }
 
     /// Reads the next line; false at the end.

@@ -21,9 +21,7 @@ fn main() -> ExitCode {
             let mut printed = 0;
             print(std::iter::from_fn(|| {
                 printed += 1;
-                families
-                    .next()
-                    .or_else(|| (printed <= *count).then(|| random::line(&mut rng)))
+                families.next().or_else(|| (printed <= *count).then(|| random::line(&mut rng)))
             }))
         }
         _ => {

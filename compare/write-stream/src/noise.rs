@@ -75,10 +75,7 @@ impl Noise {
             0 => (values.write_int(true, &[0, 0]), Refusal::NegativeZero),
             1 => (values.write_string_bytes(b"go\xff"), Refusal::NotUtf8),
             2 => (values.write_timestamp(Timestamp::day(1900, 2, 29)), Refusal::BadTimestamp),
-            _ => (
-                values.write_decimal(Decimal::from_bytes(false, &[0xff; 31], 0)),
-                Refusal::DecimalTooLong,
-            ),
+            _ => (values.write_decimal(Decimal::from_bytes(false, &[0xff; 31], 0)), Refusal::DecimalTooLong),
         };
         expect(answer, Err(want));
     }
