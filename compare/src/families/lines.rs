@@ -4,7 +4,7 @@ use super::containers::{nested, sequence};
 use super::Line;
 use crate::damage;
 
-/// The lines of document 01 and of the findings about the Rust, and the Ion document's limits.
+/// The lines of document 01 and of docs/DIFFERENCES.md, and those at which the Rust and document 01 invite doubt.
 pub fn documents() -> Vec<String> {
     let lines = "\
 (list (i64 0) (int 0))
@@ -134,6 +134,8 @@ pub fn documents() -> Vec<String> {
         lines.push(nested("list", depth, "(bool 1)"));
     }
     lines.push(sequence("list", &vec!["(i64 5)".to_string(); 600]));
+    // Its bytes would pass the trial buffer too.
+    lines.push(sequence("list", &vec![format!("(blob {})", "00".repeat(1000)); 17]));
     lines
 }
 
