@@ -1,0 +1,32 @@
+//! The families, and the sample in crates/trial.
+
+use std::collections::BTreeSet;
+
+use compare::refusal::number;
+use compare::{families, sample};
+
+#[test]
+fn families_meet_every_refusal_of_a_line() {
+    let families = families::all();
+    let lines = || families.iter().flat_map(|family| &family.lines);
+    assert!(lines().all(|line| !line.contains(&b'\n')));
+    let numbers: BTreeSet<u8> = lines().filter_map(|line| number(line)).collect();
+    assert_eq!(numbers, BTreeSet::from([4, 5, 6, 7, 8, 11, 12]));
+    for family in &families {
+        assert!(family.lines.iter().any(|line| number(line).is_none()), "{}: no line is accepted", family.name);
+    }
+}
+
+#[test]
+fn the_trial_program_has_the_sample() {
+    let folder = concat!(env!("CARGO_MANIFEST_DIR"), "/../crates/trial");
+    let stdin = std::fs::read(format!("{folder}/stdin")).expect("crates/trial/stdin");
+    let stdout = std::fs::read_to_string(format!("{folder}/stdout")).expect("crates/trial/stdout");
+    let lines = sample::lines();
+    assert!(stdin == [lines.join(&b'\n'), b"\n".to_vec()].concat(), "scripts/make-sample makes it again");
+    assert_eq!(stdout.lines().count(), lines.len());
+    for (line, answer) in lines.iter().zip(stdout.lines()) {
+        let refused = answer.strip_prefix('!').map(|digits| digits.parse().expect("a number"));
+        assert_eq!(refused, number(line), "{}", line.escape_ascii());
+    }
+}
