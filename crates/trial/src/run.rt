@@ -1,0 +1,224 @@
+// The calls of a line that has the form. Each answers 0, or the number of its refusal.
+ghost use Prim.Native.Nat.{_<_, _≤_};
+ghost use lib.ListN.{length};
+use crate::form;
+use crate::form::Scalar;
+use crate::walk;
+use crate::walk::Part;
+use crate::walk::Step;
+use crate::words;
+use crate::words::word;
+
+// Document 01: a text symbol, name or annotation; a line not of the form.
+pub(crate) const TEXT: u8 = 11;
+
+pub(crate) const NOT_OF_FORM: u8 = 12;
+
+// A line has at most 4,096 hex digits.
+const MOST_BYTES: usize = 2048;
+
+fn write_int(text: &[u8], annotations: &[u8], state: &mut [u8], buf: &mut [u8]) -> u8 {
+    let mut bytes = [0u8; MOST_BYTES];
+    let number = word(text, 1);
+    let n = words::hex_bytes(words::magnitude(number), &mut bytes);
+    goatminute::gm_write_int(
+        state,
+        buf,
+        annotations,
+        words::has_minus(number) as u8,
+        &bytes[0..n],
+    )
+}
+
+fn write_decimal(text: &[u8], annotations: &[u8], state: &mut [u8], buf: &mut [u8]) -> u8 {
+    let mut bytes = [0u8; MOST_BYTES];
+    let coefficient = word(text, 1);
+    let n = words::hex_bytes(words::magnitude(coefficient), &mut bytes);
+    goatminute::gm_write_decimal(
+        state,
+        buf,
+        annotations,
+        words::has_minus(coefficient) as u8,
+        &bytes[0..n],
+        words::signed(word(text, 2)),
+    )
+}
+
+// The number of a precision by a timestamp's words: name, offset and fields.
+fn precision(words: usize) -> u8 {
+    match words {
+        3 => 0,
+        4 => 1,
+        5 => 2,
+        7 => 3,
+        _ => 4,
+    }
+}
+
+fn write_timestamp(text: &[u8], annotations: &[u8], state: &mut [u8], buf: &mut [u8]) -> u8 {
+    let words = words::count(text);
+    let offset = word(text, 1);
+    goatminute::gm_write_timestamp(
+        state,
+        buf,
+        annotations,
+        precision(words),
+        words::natural_u32(word(text, 2)),
+        words::natural_u32(word(text, 3)),
+        words::natural_u32(word(text, 4)),
+        words::natural_u32(word(text, 5)),
+        words::natural_u32(word(text, 6)),
+        words::natural_u32(word(text, 7)),
+        !form::is_unknown_offset(offset) as u8,
+        words::signed_i32(offset),
+        (words == 10) as u8,
+        words::natural_u32(word(text, 8)),
+        words::natural_u64(word(text, 9)),
+    )
+}
+
+fn write_string(text: &[u8], annotations: &[u8], state: &mut [u8], buf: &mut [u8]) -> u8 {
+    let mut bytes = [0u8; MOST_BYTES];
+    let n = words::hex_bytes(word(text, 1), &mut bytes);
+    goatminute::gm_write_string(state, buf, annotations, &bytes[0..n])
+}
+
+fn write_clob(text: &[u8], annotations: &[u8], state: &mut [u8], buf: &mut [u8]) -> u8 {
+    let mut bytes = [0u8; MOST_BYTES];
+    let n = words::hex_bytes(word(text, 1), &mut bytes);
+    goatminute::gm_write_clob(state, buf, annotations, &bytes[0..n])
+}
+
+fn write_blob(text: &[u8], annotations: &[u8], state: &mut [u8], buf: &mut [u8]) -> u8 {
+    let mut bytes = [0u8; MOST_BYTES];
+    let n = words::hex_bytes(word(text, 1), &mut bytes);
+    goatminute::gm_write_blob(state, buf, annotations, &bytes[0..n])
+}
+
+fn write_null(text: &[u8], annotations: &[u8], state: &mut [u8], buf: &mut [u8]) -> u8 {
+    goatminute::gm_write_null(state, buf, annotations, form::type_code(word(text, 1)))
+}
+
+fn write_bool(text: &[u8], annotations: &[u8], state: &mut [u8], buf: &mut [u8]) -> u8 {
+    let value = check::same(word(text, 1), b"1");
+    goatminute::gm_write_bool(state, buf, annotations, value as u8)
+}
+
+fn write_i64(text: &[u8], annotations: &[u8], state: &mut [u8], buf: &mut [u8]) -> u8 {
+    goatminute::gm_write_i64(state, buf, annotations, words::signed(word(text, 1)))
+}
+
+fn write_f32(text: &[u8], annotations: &[u8], state: &mut [u8], buf: &mut [u8]) -> u8 {
+    let bits = (words::hex_bits(word(text, 1)) % 0x1_0000_0000) as u32;
+    goatminute::gm_write_f32(state, buf, annotations, bits)
+}
+
+fn write_f64(text: &[u8], annotations: &[u8], state: &mut [u8], buf: &mut [u8]) -> u8 {
+    goatminute::gm_write_f64(state, buf, annotations, words::hex_bits(word(text, 1)))
+}
+
+fn write_symbol(text: &[u8], annotations: &[u8], state: &mut [u8], buf: &mut [u8]) -> u8 {
+    goatminute::gm_write_symbol(state, buf, annotations, words::natural_u64(word(text, 1)))
+}
+
+fn write_scalar(text: &[u8], annotations: &[u8], state: &mut [u8], buf: &mut [u8]) -> u8 {
+    let scalar = form::scalar_named(word(text, 0));
+    match scalar {
+        Scalar::Null => write_null(text, annotations, state, buf),
+        Scalar::Bool => write_bool(text, annotations, state, buf),
+        Scalar::I64 => write_i64(text, annotations, state, buf),
+        Scalar::Int => write_int(text, annotations, state, buf),
+        Scalar::F32 => write_f32(text, annotations, state, buf),
+        Scalar::F64 => write_f64(text, annotations, state, buf),
+        Scalar::Decimal => write_decimal(text, annotations, state, buf),
+        Scalar::Timestamp => write_timestamp(text, annotations, state, buf),
+        Scalar::Symbol => write_symbol(text, annotations, state, buf),
+        Scalar::String => write_string(text, annotations, state, buf),
+        Scalar::Clob => write_clob(text, annotations, state, buf),
+        Scalar::Blob => write_blob(text, annotations, state, buf),
+        Scalar::Unknown => NOT_OF_FORM,
+    }
+}
+
+// The call of a part, if it has one. `text` is its words.
+fn call(part: Part, text: &[u8], annotations: &[u8], state: &mut [u8], buf: &mut [u8]) -> u8 {
+    match part {
+        Part::Scalar => write_scalar(text, annotations, state, buf),
+        Part::List => goatminute::gm_open_list(state, buf, annotations),
+        Part::Sexp => goatminute::gm_open_sexp(state, buf, annotations),
+        Part::Struct => goatminute::gm_open_struct(state, buf, annotations),
+        Part::Name => goatminute::gm_field_name(state, buf, words::natural_u64(text)),
+        Part::Close => goatminute::gm_close(state, buf),
+        Part::Annotations | Part::Mark => 0,
+        Part::Malformed => NOT_OF_FORM,
+    }
+}
+
+// The call of a part whose annotations are the words of `notes`.
+fn annotated_call(part: Part, text: &[u8], notes: &[u8], state: &mut [u8], buf: &mut [u8]) -> u8
+    requires { ⌜ length (now notes) ≤ 4096 ⌝ }
+{
+    if notes.len() == 0 {
+        return call(part, text, b"", state, buf);
+    }
+    let mut sids = [0u8; 32768];
+    let n = words::put_sids(notes, &mut sids);
+    call(part, text, &sids[0..n], state, buf)
+}
+
+// Quoted text among annotations is refused here already: the next call is that of their value.
+fn run_part(part: Part, text: &[u8], notes: &[u8], state: &mut [u8], buf: &mut [u8]) -> u8
+    requires { ⌜ length (now notes) ≤ 4096 ⌝ }
+{
+    if words::has_quoted(text) {
+        return TEXT;
+    }
+    annotated_call(part, text, notes, state, buf)
+}
+
+// How many bytes of a step's words are annotations of the value that comes next.
+fn noted(step: Step) -> usize
+    requires { ⌜ step .from ≤ step .to ⌝ }
+    ensures { λ r. ⌜ r ≤ step .to ⌝ }
+{
+    let part = step.part;
+    match part {
+        Part::Annotations => step.to,
+        _ => step.from,
+    }
+}
+
+// The number of the first refusal among a line's calls, or 0.
+pub(crate) fn run(line: &[u8], state: &mut [u8], buf: &mut [u8]) -> u8
+    requires { ⌜ length (now line) ≤ 4096 ⌝ }
+{
+    let mut stack = [0u8; walk::LONGEST_LINE];
+    let mut at: usize = 0;
+    let mut depth: usize = 0;
+    let mut due = walk::VALUE;
+    // The annotations of the next value.
+    let mut notes_from: usize = 0;
+    let mut notes_to: usize = 0;
+    while at < line.len() {
+        let step = walk::step(line, &mut stack, at, depth, due);
+        let part = step.part;
+        let from = step.from;
+        let to = step.to;
+        let refusal = run_part(
+            part,
+            &line[from..to],
+            &line[notes_from..notes_to],
+            state,
+            buf,
+        );
+        if refusal != 0 {
+            return refusal;
+        }
+        notes_from = from;
+        notes_to = noted(step);
+        at = step.at;
+        depth = step.depth;
+        due = step.due;
+    }
+    0
+}
