@@ -1,5 +1,5 @@
 // Whether a line has the form of document 01, which is refusal 12 where it has not: words, brackets, and the limits of numbers.
-ghost use Prim.Native.Nat.{_<_, _≤_};
+ghost use Prim.Native.Nat.{_≤_};
 ghost use lib.ListN.{length};
 use crate::walk;
 use crate::walk::Part;
@@ -246,7 +246,7 @@ pub(crate) fn is_value(line: &[u8]) -> bool
     let mut depth: usize = 0;
     let mut due = walk::VALUE;
     while at < line.len() {
-        let step = walk::step(line, &mut stack, at, depth, due);
+        let step = walk::next(line, &mut stack, at, depth, due);
         if !is_right(line, step) {
             return false;
         }

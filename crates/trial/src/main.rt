@@ -6,7 +6,7 @@ mod walk;
 mod words;
 
 ghost use mathlib.Core.Path.{_≡_};
-ghost use Prim.Native.Nat.{_≤_};
+ghost use Prim.Native.Nat.{_+_, _≤_};
 ghost use lib.ListN.{length};
 use libc::STDIN_FILENO;
 use libc::STDOUT_FILENO;
@@ -16,17 +16,17 @@ const ROOM: usize = 16384;
 const STATE_SIZE: usize = 296;
 
 // Puts a byte behind the `used` bytes that wait to be printed, and answers how many wait. A full array is printed first.
-fn put(out: &mut [u8; 65536], used: usize, byte: u8) -> usize
-    requires { ⌜ used ≤ 65536 ⌝ }
-    ensures { λ r. ⌜ r ≤ 65536 ⌝ }
+fn put(out: &mut [u8], used: usize, byte: u8) -> usize
+    requires { ⌜ (used ≤ length (now out)) × (1 ≤ length (now out)) ⌝ }
+    ensures { λ r. ⌜ r ≤ length (now (out .exit)) ⌝ }
 {
-    if used == 65536 {
-        io::write_all(STDOUT_FILENO, out);
-        out[0] = byte;
-        return 1;
+    if used < out.len() {
+        out[used] = byte;
+        return used + 1;
     }
-    out[used] = byte;
-    used + 1
+    io::write_all(STDOUT_FILENO, out);
+    out[0] = byte;
+    1
 }
 
 fn hex_digit(bits: u8) -> u8 {
@@ -37,9 +37,9 @@ fn hex_digit(bits: u8) -> u8 {
     b'a' + (digit - 10)
 }
 
-fn put_hex(out: &mut [u8; 65536], used: usize, bytes: &[u8]) -> usize
-    requires { ⌜ used ≤ 65536 ⌝ }
-    ensures { λ r. ⌜ r ≤ 65536 ⌝ }
+fn put_hex(out: &mut [u8], used: usize, bytes: &[u8]) -> usize
+    requires { ⌜ (used ≤ length (now out)) × (1 ≤ length (now out)) ⌝ }
+    ensures { λ r. ⌜ r ≤ length (now (out .exit)) ⌝ }
 {
     let mut end = used;
     let mut i: usize = 0;
@@ -52,17 +52,26 @@ fn put_hex(out: &mut [u8; 65536], used: usize, bytes: &[u8]) -> usize
     put(out, end, b'\n')
 }
 
-// Puts `!` and a number of one or two digits.
-fn put_refusal(out: &mut [u8; 65536], used: usize, number: u8) -> usize
-    requires { ⌜ used ≤ 65536 ⌝ }
-    ensures { λ r. ⌜ r ≤ 65536 ⌝ }
+// Puts the first digit of a number that has two.
+fn put_tens(out: &mut [u8], used: usize, number: u8) -> usize
+    requires { ⌜ (used ≤ length (now out)) × (1 ≤ length (now out)) ⌝ }
+    ensures { λ r. ⌜ r ≤ length (now (out .exit)) ⌝ }
 {
-    let mut end = put(out, used, b'!');
-    if 10 <= number {
-        end = put(out, end, b'0' + number / 10);
+    if number < 10 {
+        return used;
     }
-    end = put(out, end, b'0' + number % 10);
-    put(out, end, b'\n')
+    put(out, used, b'0' + number / 10)
+}
+
+// Puts `!` and the number of a refusal.
+fn put_refusal(out: &mut [u8], used: usize, number: u8) -> usize
+    requires { ⌜ (used ≤ length (now out)) × (1 ≤ length (now out)) ⌝ }
+    ensures { λ r. ⌜ r ≤ length (now (out .exit)) ⌝ }
+{
+    let sign = put(out, used, b'!');
+    let tens = put_tens(out, sign, number);
+    let units = put(out, tens, b'0' + number % 10);
+    put(out, units, b'\n')
 }
 
 // The `ensures` gives the length, which lending the array as a slice needs.
@@ -73,9 +82,9 @@ fn fresh_buffer() -> [u8; 16384]
 }
 
 // Runs a line of the form.
-fn write_value(line: &[u8], out: &mut [u8; 65536], used: usize) -> usize
-    requires { ⌜ (used ≤ 65536) × (length (now line) ≤ 4096) ⌝ }
-    ensures { λ r. ⌜ r ≤ 65536 ⌝ }
+fn write_value(line: &[u8], out: &mut [u8], used: usize) -> usize
+    requires { ⌜ (used ≤ length (now out)) × (1 ≤ length (now out)) × (length (now line) ≤ 4096) ⌝ }
+    ensures { λ r. ⌜ r ≤ length (now (out .exit)) ⌝ }
 {
     let mut state = [0u8; STATE_SIZE];
     let mut buf = fresh_buffer();
@@ -88,9 +97,9 @@ fn write_value(line: &[u8], out: &mut [u8; 65536], used: usize) -> usize
 }
 
 // Puts the answer to a line, and answers how many bytes wait.
-fn answer(line: &[u8], out: &mut [u8; 65536], used: usize) -> usize
-    requires { ⌜ used ≤ 65536 ⌝ }
-    ensures { λ r. ⌜ r ≤ 65536 ⌝ }
+fn answer(line: &[u8], out: &mut [u8], used: usize) -> usize
+    requires { ⌜ (used ≤ length (now out)) × (1 ≤ length (now out)) ⌝ }
+    ensures { λ r. ⌜ r ≤ length (now (out .exit)) ⌝ }
 {
     if walk::LONGEST_LINE < line.len() {
         return put_refusal(out, used, run::NOT_OF_FORM);
@@ -114,7 +123,7 @@ fn answer_lines(text: &[u8]) -> usize
         at = end + 1;
         end = words::find(text, at, b'\n');
     }
-    io::write_all(STDOUT_FILENO, &out[..used]);
+    io::write_all(STDOUT_FILENO, &out[0..used]);
     at
 }
 
@@ -122,12 +131,12 @@ fn answer_lines(text: &[u8]) -> usize
 fn answer_last(line: &[u8]) {
     let mut out = io::large_buffer();
     let used = answer(line, &mut out, 0);
-    io::write_all(STDOUT_FILENO, &out[..used]);
+    io::write_all(STDOUT_FILENO, &out[0..used]);
 }
 
-// Moves the first `count` bytes from `from` on to the front.
-fn keep(text: &mut [u8; 65536], from: usize, count: usize)
-    requires { ⌜ from + count ≤ 65536 ⌝ }
+// Moves `count` bytes from `from` on to the front.
+fn keep(text: &mut [u8], from: usize, count: usize)
+    requires { ⌜ from + count ≤ length (now text) ⌝ }
 {
     let mut i: usize = 0;
     while i < count {
@@ -136,42 +145,50 @@ fn keep(text: &mut [u8; 65536], from: usize, count: usize)
     }
 }
 
-// Answers the lines that end in the first `end` bytes, moves the rest to the front and answers its length. Of a line that is too long a byte more
-// than a line may have is kept.
-fn take_lines(text: &mut [u8; 65536], end: usize) -> usize
-    requires { ⌜ end ≤ 65536 ⌝ }
+// Answers the lines that end in the first `end` bytes, moves the rest to the front and answers its length. Of a line that is too long it keeps one
+// byte more than a line may have.
+fn take_lines(text: &mut [u8], end: usize) -> usize
+    requires { ⌜ end ≤ length (now text) ⌝ }
     ensures { λ r. ⌜ r ≤ 4097 ⌝ }
 {
-    let from = answer_lines(&text[..end]);
+    let from = answer_lines(&text[0..end]);
     let count = words::least(end - from, walk::LONGEST_LINE + 1);
     keep(text, from, count);
     count
 }
 
 // Reads on behind the first `kept` bytes, and answers how many bytes there are.
-fn read_on(text: &mut [u8; 65536], kept: usize) -> usize
-    requires { ⌜ kept ≤ 4097 ⌝ }
-    ensures { λ r. ⌜ (kept ≤ r) × (r ≤ 65536) ⌝ }
+fn read_on(text: &mut [u8], kept: usize) -> usize
+    requires { ⌜ kept ≤ length (now text) ⌝ }
+    ensures { λ r. ⌜ (kept ≤ r) × (r ≤ length (now (text .exit))) ⌝ }
 {
-    let room = &mut text[kept..];
-    let got = libc::read(STDIN_FILENO, room);
-    kept + io::count(got, room)
+    let got = libc::read(STDIN_FILENO, &mut text[kept..]);
+    kept + io::count(got, &text[kept..])
+}
+
+// Answers the lines that end in the input, and answers how many bytes stand behind the last of them.
+fn take_input(text: &mut [u8]) -> usize
+    requires { ⌜ 4097 ≤ length (now text) ⌝ }
+    ensures { λ r. ⌜ r ≤ length (now (text .exit)) ⌝ }
+{
+    let mut kept: usize = 0;
+    // A loop has to end, and no input takes so many turns.
+    let mut turns: u64 = 0x4000_0000_0000_0000;
+    while 0 < turns {
+        turns -= 1;
+        let end = read_on(text, kept);
+        if end == kept {
+            return kept;
+        }
+        kept = take_lines(text, end);
+    }
+    kept
 }
 
 fn main() {
     let mut text = io::large_buffer();
-    let mut kept: usize = 0;
-    // Every loop has to end: no input takes so many turns.
-    let mut turns: u64 = 0x4000_0000_0000_0000;
-    while 0 < turns {
-        turns -= 1;
-        let end = read_on(&mut text, kept);
-        if end == kept {
-            break;
-        }
-        kept = take_lines(&mut text, end);
-    }
+    let kept = take_input(&mut text);
     if 0 < kept {
-        answer_last(&text[..kept]);
+        answer_last(&text[0..kept]);
     }
 }

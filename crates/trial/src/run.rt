@@ -1,5 +1,5 @@
 // The calls of a line that has the form. Each answers 0, or the number of its refusal.
-ghost use Prim.Native.Nat.{_<_, _≤_};
+ghost use Prim.Native.Nat.{_≤_};
 ghost use lib.ListN.{length};
 use crate::form;
 use crate::form::Scalar;
@@ -161,7 +161,7 @@ fn annotated_call(part: Part, text: &[u8], notes: &[u8], state: &mut [u8], buf: 
     if notes.len() == 0 {
         return call(part, text, b"", state, buf);
     }
-    let mut sids = [0u8; 32768];
+    let mut sids = [0u8; 8 * walk::LONGEST_LINE];
     let n = words::put_sids(notes, &mut sids);
     call(part, text, &sids[0..n], state, buf)
 }
@@ -179,7 +179,7 @@ fn run_part(part: Part, text: &[u8], notes: &[u8], state: &mut [u8], buf: &mut [
 // How many bytes of a step's words are annotations of the value that comes next.
 fn noted(step: Step) -> usize
     requires { ⌜ step .from ≤ step .to ⌝ }
-    ensures { λ r. ⌜ r ≤ step .to ⌝ }
+    ensures { λ r. ⌜ (step .from ≤ r) × (r ≤ step .to) ⌝ }
 {
     let part = step.part;
     match part {
@@ -200,7 +200,7 @@ pub(crate) fn run(line: &[u8], state: &mut [u8], buf: &mut [u8]) -> u8
     let mut notes_from: usize = 0;
     let mut notes_to: usize = 0;
     while at < line.len() {
-        let step = walk::step(line, &mut stack, at, depth, due);
+        let step = walk::next(line, &mut stack, at, depth, due);
         let part = step.part;
         let from = step.from;
         let to = step.to;

@@ -1,5 +1,6 @@
 // The walk along a line: its brackets, and the parts between them. What is due behind each value that is not ended yet is kept on a stack, so a
 // line may be as deep as its bytes allow.
+ghost use mathlib.Core.Path.{_≡_};
 ghost use Prim.Native.Nat.{_<_, _≤_};
 ghost use lib.ListN.{length};
 use crate::words::find;
@@ -276,7 +277,7 @@ fn value(line: &[u8], stack: &mut [u8; 4096], at: usize, depth: usize, due: u8) 
 }
 
 // The step from a place on.
-pub(crate) fn step(line: &[u8], stack: &mut [u8; 4096], at: usize, depth: usize, due: u8) -> Step
+pub(crate) fn next(line: &[u8], stack: &mut [u8; 4096], at: usize, depth: usize, due: u8) -> Step
     requires { ⌜ (at < length (now line)) × (length (now line) ≤ 4096) × (depth ≤ at) ⌝ }
     ensures { λ r. ⌜ (at < r .at) × (r .at ≤ length (now (line .entry))) × (r .depth ≤ r .at) × (r .from ≤ r .to) × (r .to ≤ length (now (line .entry))) ⌝ }
 {

@@ -1,7 +1,7 @@
 // The words of a text, parted by single spaces, and the numbers, bytes and names that they stand for. Each function is total: a word that is
 // missing is empty.
 ghost use mathlib.Core.Path.{_≡_};
-ghost use Prim.Native.Nat.{_≤_};
+ghost use Prim.Native.Nat.{_+_, _*_, _≤_};
 ghost use lib.IntN.{pos, negℤ};
 ghost use lib.ListN.{length};
 
@@ -343,8 +343,8 @@ pub(crate) fn has_quoted(text: &[u8]) -> bool {
     find(text, 0, QUOTE) < text.len()
 }
 
-fn put_sid(out: &mut [u8; 32768], at: usize, sid: u64)
-    requires { ⌜ at ≤ 32760 ⌝ }
+fn put_sid(out: &mut [u8], at: usize, sid: u64)
+    requires { ⌜ at + 8 ≤ length (now out) ⌝ }
 {
     let mut rest = sid;
     let mut i: usize = 0;
@@ -356,9 +356,9 @@ fn put_sid(out: &mut [u8; 32768], at: usize, sid: u64)
 }
 
 // Puts the sids of a text, eight bytes each from the lowest on, and answers the number of bytes.
-pub(crate) fn put_sids(text: &[u8], out: &mut [u8; 32768]) -> usize
-    requires { ⌜ length (now text) ≤ 4096 ⌝ }
-    ensures { λ r. ⌜ r ≤ 32768 ⌝ }
+pub(crate) fn put_sids(text: &[u8], out: &mut [u8]) -> usize
+    requires { ⌜ (length (now text) ≤ 4096) × (8 * length (now text) ≤ length (now out)) ⌝ }
+    ensures { λ r. ⌜ r ≤ length (now (out .exit)) ⌝ }
 {
     let mut put: usize = 0;
     let mut at: usize = 0;
