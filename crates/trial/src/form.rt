@@ -10,120 +10,48 @@ use crate::words::is_hex;
 use crate::words::magnitude;
 use crate::words::word;
 
-pub(crate) enum Scalar {
-    Null,
-    Bool,
-    I64,
-    Int,
-    F32,
-    F64,
-    Decimal,
-    Timestamp,
-    Symbol,
-    String,
-    Clob,
-    Blob,
-    Unknown,
+// The scalars by the index of their names.
+pub(crate) const NULL: usize = 0;
+
+pub(crate) const BOOL: usize = 1;
+
+pub(crate) const I64: usize = 2;
+
+pub(crate) const INT: usize = 3;
+
+pub(crate) const F32: usize = 4;
+
+pub(crate) const F64: usize = 5;
+
+pub(crate) const DECIMAL: usize = 6;
+
+pub(crate) const TIMESTAMP: usize = 7;
+
+pub(crate) const SYMBOL: usize = 8;
+
+pub(crate) const STRING: usize = 9;
+
+pub(crate) const CLOB: usize = 10;
+
+pub(crate) const BLOB: usize = 11;
+
+// The scalar that the first of its words names.
+pub(crate) fn scalar_named(text: &[u8]) -> usize {
+    words::index(
+        b"null bool i64 int f32 f64 dec ts symbol string clob blob",
+        word(text, 0),
+    )
 }
 
-fn bytes_named(name: &[u8]) -> Scalar {
-    if check::same(name, b"string") {
-        return Scalar::String;
-    }
-    if check::same(name, b"clob") {
-        return Scalar::Clob;
-    }
-    if check::same(name, b"blob") {
-        return Scalar::Blob;
-    }
-    Scalar::Unknown
-}
+// Stands for no type.
+const NO_TYPE: usize = 14;
 
-// The scalar of the name that begins its words.
-pub(crate) fn scalar_named(name: &[u8]) -> Scalar {
-    if check::same(name, b"i64") {
-        return Scalar::I64;
-    }
-    if check::same(name, b"bool") {
-        return Scalar::Bool;
-    }
-    if check::same(name, b"null") {
-        return Scalar::Null;
-    }
-    if check::same(name, b"int") {
-        return Scalar::Int;
-    }
-    if check::same(name, b"f32") {
-        return Scalar::F32;
-    }
-    if check::same(name, b"f64") {
-        return Scalar::F64;
-    }
-    if check::same(name, b"dec") {
-        return Scalar::Decimal;
-    }
-    if check::same(name, b"ts") {
-        return Scalar::Timestamp;
-    }
-    if check::same(name, b"symbol") {
-        return Scalar::Symbol;
-    }
-    bytes_named(name)
-}
-
-// What stands for a name of no type.
-pub(crate) const NO_TYPE: u8 = 255;
-
-fn container_code(name: &[u8]) -> u8 {
-    if check::same(name, b"list") {
-        return 11;
-    }
-    if check::same(name, b"sexp") {
-        return 12;
-    }
-    if check::same(name, b"struct") {
-        return 13;
-    }
-    NO_TYPE
-}
-
-fn bytes_code(name: &[u8]) -> u8 {
-    if check::same(name, b"symbol") {
-        return 7;
-    }
-    if check::same(name, b"string") {
-        return 8;
-    }
-    if check::same(name, b"clob") {
-        return 9;
-    }
-    if check::same(name, b"blob") {
-        return 10;
-    }
-    container_code(name)
-}
-
-// The code in the Ion document of the type that a name stands for.
-pub(crate) fn type_code(name: &[u8]) -> u8 {
-    if check::same(name, b"null") {
-        return 0;
-    }
-    if check::same(name, b"bool") {
-        return 1;
-    }
-    if check::same(name, b"int") {
-        return 2;
-    }
-    if check::same(name, b"float") {
-        return 4;
-    }
-    if check::same(name, b"decimal") {
-        return 5;
-    }
-    if check::same(name, b"timestamp") {
-        return 6;
-    }
-    bytes_code(name)
+// The code in the Ion document of the type that a word names. 3, which is of negative ints, is no index: `int` is found at 2.
+pub(crate) fn type_code(name: &[u8]) -> usize {
+    words::index(
+        b"null bool int int float decimal timestamp symbol string clob blob list sexp struct",
+        name,
+    )
 }
 
 fn is_bool(word: &[u8]) -> bool {
@@ -198,25 +126,25 @@ fn are_pairs(text: &[u8]) -> bool {
 }
 
 // Whether a scalar whose name has one word behind it is of the form.
-fn is_right_word(scalar: Scalar, word: &[u8]) -> bool {
+fn is_right_word(scalar: usize, word: &[u8]) -> bool {
     match scalar {
-        Scalar::Null => type_code(word) != NO_TYPE,
-        Scalar::Bool => is_bool(word),
-        Scalar::I64 => words::is_signed(word, words::MOST_I64),
-        Scalar::Int => is_integer(word),
-        Scalar::F32 => is_hex_of(word, 8),
-        Scalar::F64 => is_hex_of(word, 16),
-        Scalar::Symbol => words::is_name(word),
+        NULL => type_code(word) != NO_TYPE,
+        BOOL => is_bool(word),
+        I64 => words::is_signed(word, words::MOST_I64),
+        INT => is_integer(word),
+        F32 => is_hex_of(word, 8),
+        F64 => is_hex_of(word, 16),
+        SYMBOL => words::is_name(word),
         _ => false,
     }
 }
 
 fn is_right_scalar(text: &[u8]) -> bool {
-    let scalar = scalar_named(word(text, 0));
+    let scalar = scalar_named(text);
     match scalar {
-        Scalar::Decimal => is_decimal(text),
-        Scalar::Timestamp => is_timestamp(text),
-        Scalar::String | Scalar::Clob | Scalar::Blob => are_pairs(text),
+        DECIMAL => is_decimal(text),
+        TIMESTAMP => is_timestamp(text),
+        STRING | CLOB | BLOB => are_pairs(text),
         _ => (count(text) == 2) & is_right_word(scalar, word(text, 1)),
     }
 }

@@ -2,7 +2,6 @@
 ghost use Prim.Native.Nat.{_≤_};
 ghost use lib.ListN.{length};
 use crate::form;
-use crate::form::Scalar;
 use crate::walk;
 use crate::walk::Part;
 use crate::walk::Step;
@@ -17,31 +16,78 @@ pub(crate) const NOT_OF_FORM: u8 = 12;
 // A line has at most 4,096 hex digits.
 const MOST_BYTES: usize = 2048;
 
+fn type_code(word: &[u8]) -> u8 {
+    (form::type_code(word) % 256) as u8
+}
+
+fn f32_bits(word: &[u8]) -> u32 {
+    (words::hex_bits(word) % 0x1_0000_0000) as u32
+}
+
+fn write_plain(
+    scalar: usize,
+    word: &[u8],
+    annotations: &[u8],
+    state: &mut [u8],
+    buf: &mut [u8],
+) -> u8 {
+    match scalar {
+        form::NULL => goatminute::gm_write_null(state, buf, annotations, type_code(word)),
+        form::BOOL => goatminute::gm_write_bool(
+            state,
+            buf,
+            annotations,
+            check::same(word, b"1") as u8,
+        ),
+        _ => goatminute::gm_write_symbol(state, buf, annotations, words::natural_u64(word)),
+    }
+}
+
+fn write_number(
+    scalar: usize,
+    word: &[u8],
+    annotations: &[u8],
+    state: &mut [u8],
+    buf: &mut [u8],
+) -> u8 {
+    match scalar {
+        form::I64 => goatminute::gm_write_i64(state, buf, annotations, words::signed(word)),
+        form::F32 => goatminute::gm_write_f32(state, buf, annotations, f32_bits(word)),
+        _ => goatminute::gm_write_f64(state, buf, annotations, words::hex_bits(word)),
+    }
+}
+
+fn write_bytes(
+    scalar: usize,
+    word: &[u8],
+    annotations: &[u8],
+    state: &mut [u8],
+    buf: &mut [u8],
+) -> u8 {
+    let mut bytes = [0u8; MOST_BYTES];
+    let n = words::hex_bytes(word, &mut bytes);
+    match scalar {
+        form::STRING => goatminute::gm_write_string(state, buf, annotations, &bytes[0..n]),
+        form::CLOB => goatminute::gm_write_clob(state, buf, annotations, &bytes[0..n]),
+        _ => goatminute::gm_write_blob(state, buf, annotations, &bytes[0..n]),
+    }
+}
+
 fn write_int(text: &[u8], annotations: &[u8], state: &mut [u8], buf: &mut [u8]) -> u8 {
     let mut bytes = [0u8; MOST_BYTES];
     let number = word(text, 1);
     let n = words::hex_bytes(words::magnitude(number), &mut bytes);
-    goatminute::gm_write_int(
-        state,
-        buf,
-        annotations,
-        words::has_minus(number) as u8,
-        &bytes[0..n],
-    )
+    let negative = words::has_minus(number) as u8;
+    goatminute::gm_write_int(state, buf, annotations, negative, &bytes[0..n])
 }
 
 fn write_decimal(text: &[u8], annotations: &[u8], state: &mut [u8], buf: &mut [u8]) -> u8 {
     let mut bytes = [0u8; MOST_BYTES];
     let coefficient = word(text, 1);
     let n = words::hex_bytes(words::magnitude(coefficient), &mut bytes);
-    goatminute::gm_write_decimal(
-        state,
-        buf,
-        annotations,
-        words::has_minus(coefficient) as u8,
-        &bytes[0..n],
-        words::signed(word(text, 2)),
-    )
+    let negative = words::has_minus(coefficient) as u8;
+    let exponent = words::signed(word(text, 2));
+    goatminute::gm_write_decimal(state, buf, annotations, negative, &bytes[0..n], exponent)
 }
 
 // The number of a precision by a timestamp's words: name, offset and fields.
@@ -55,6 +101,11 @@ fn precision(words: usize) -> u8 {
     }
 }
 
+// The field of a timestamp at a word, or 0 where there is none.
+fn field(text: &[u8], i: usize) -> u32 {
+    words::natural_u32(word(text, i))
+}
+
 fn write_timestamp(text: &[u8], annotations: &[u8], state: &mut [u8], buf: &mut [u8]) -> u8 {
     let words = words::count(text);
     let offset = word(text, 1);
@@ -63,80 +114,36 @@ fn write_timestamp(text: &[u8], annotations: &[u8], state: &mut [u8], buf: &mut 
         buf,
         annotations,
         precision(words),
-        words::natural_u32(word(text, 2)),
-        words::natural_u32(word(text, 3)),
-        words::natural_u32(word(text, 4)),
-        words::natural_u32(word(text, 5)),
-        words::natural_u32(word(text, 6)),
-        words::natural_u32(word(text, 7)),
+        field(text, 2),
+        field(text, 3),
+        field(text, 4),
+        field(text, 5),
+        field(text, 6),
+        field(text, 7),
         !form::is_unknown_offset(offset) as u8,
         words::signed_i32(offset),
         (words == 10) as u8,
-        words::natural_u32(word(text, 8)),
+        field(text, 8),
         words::natural_u64(word(text, 9)),
     )
 }
 
-fn write_string(text: &[u8], annotations: &[u8], state: &mut [u8], buf: &mut [u8]) -> u8 {
-    let mut bytes = [0u8; MOST_BYTES];
-    let n = words::hex_bytes(word(text, 1), &mut bytes);
-    goatminute::gm_write_string(state, buf, annotations, &bytes[0..n])
-}
-
-fn write_clob(text: &[u8], annotations: &[u8], state: &mut [u8], buf: &mut [u8]) -> u8 {
-    let mut bytes = [0u8; MOST_BYTES];
-    let n = words::hex_bytes(word(text, 1), &mut bytes);
-    goatminute::gm_write_clob(state, buf, annotations, &bytes[0..n])
-}
-
-fn write_blob(text: &[u8], annotations: &[u8], state: &mut [u8], buf: &mut [u8]) -> u8 {
-    let mut bytes = [0u8; MOST_BYTES];
-    let n = words::hex_bytes(word(text, 1), &mut bytes);
-    goatminute::gm_write_blob(state, buf, annotations, &bytes[0..n])
-}
-
-fn write_null(text: &[u8], annotations: &[u8], state: &mut [u8], buf: &mut [u8]) -> u8 {
-    goatminute::gm_write_null(state, buf, annotations, form::type_code(word(text, 1)))
-}
-
-fn write_bool(text: &[u8], annotations: &[u8], state: &mut [u8], buf: &mut [u8]) -> u8 {
-    let value = check::same(word(text, 1), b"1");
-    goatminute::gm_write_bool(state, buf, annotations, value as u8)
-}
-
-fn write_i64(text: &[u8], annotations: &[u8], state: &mut [u8], buf: &mut [u8]) -> u8 {
-    goatminute::gm_write_i64(state, buf, annotations, words::signed(word(text, 1)))
-}
-
-fn write_f32(text: &[u8], annotations: &[u8], state: &mut [u8], buf: &mut [u8]) -> u8 {
-    let bits = (words::hex_bits(word(text, 1)) % 0x1_0000_0000) as u32;
-    goatminute::gm_write_f32(state, buf, annotations, bits)
-}
-
-fn write_f64(text: &[u8], annotations: &[u8], state: &mut [u8], buf: &mut [u8]) -> u8 {
-    goatminute::gm_write_f64(state, buf, annotations, words::hex_bits(word(text, 1)))
-}
-
-fn write_symbol(text: &[u8], annotations: &[u8], state: &mut [u8], buf: &mut [u8]) -> u8 {
-    goatminute::gm_write_symbol(state, buf, annotations, words::natural_u64(word(text, 1)))
-}
-
 fn write_scalar(text: &[u8], annotations: &[u8], state: &mut [u8], buf: &mut [u8]) -> u8 {
-    let scalar = form::scalar_named(word(text, 0));
+    let scalar = form::scalar_named(text);
+    let first = word(text, 1);
     match scalar {
-        Scalar::Null => write_null(text, annotations, state, buf),
-        Scalar::Bool => write_bool(text, annotations, state, buf),
-        Scalar::I64 => write_i64(text, annotations, state, buf),
-        Scalar::Int => write_int(text, annotations, state, buf),
-        Scalar::F32 => write_f32(text, annotations, state, buf),
-        Scalar::F64 => write_f64(text, annotations, state, buf),
-        Scalar::Decimal => write_decimal(text, annotations, state, buf),
-        Scalar::Timestamp => write_timestamp(text, annotations, state, buf),
-        Scalar::Symbol => write_symbol(text, annotations, state, buf),
-        Scalar::String => write_string(text, annotations, state, buf),
-        Scalar::Clob => write_clob(text, annotations, state, buf),
-        Scalar::Blob => write_blob(text, annotations, state, buf),
-        Scalar::Unknown => NOT_OF_FORM,
+        form::NULL | form::BOOL | form::SYMBOL => write_plain(
+            scalar,
+            first,
+            annotations,
+            state,
+            buf,
+        ),
+        form::I64 | form::F32 | form::F64 => write_number(scalar, first, annotations, state, buf),
+        form::INT => write_int(text, annotations, state, buf),
+        form::DECIMAL => write_decimal(text, annotations, state, buf),
+        form::TIMESTAMP => write_timestamp(text, annotations, state, buf),
+        _ => write_bytes(scalar, first, annotations, state, buf),
     }
 }
 

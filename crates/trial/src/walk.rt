@@ -4,6 +4,7 @@ ghost use mathlib.Core.Path.{_≡_};
 ghost use Prim.Native.Nat.{_<_, _≤_};
 ghost use lib.ListN.{length};
 use crate::words::find;
+use crate::words::index;
 
 pub(crate) const LONGEST_LINE: usize = 4096;
 
@@ -250,20 +251,13 @@ fn named(line: &[u8], stack: &mut [u8; 4096], from: usize, depth: usize, due: u8
     ensures { λ r. ⌜ (from ≤ r .at) × (r .at ≤ length (now (line .entry))) × (r .depth ≤ r .at) × (r .from ≤ r .to) × (r .to ≤ length (now (line .entry))) ⌝ }
 {
     let end = word_end(line, from);
-    let word = &line[from..end];
-    if check::same(word, b"list") {
-        return opening(Part::List, end, depth, MEMBER);
+    match index(b"list sexp struct ann", &line[from..end]) {
+        0 => opening(Part::List, end, depth, MEMBER),
+        1 => opening(Part::Sexp, end, depth, MEMBER),
+        2 => opening(Part::Struct, end, depth, FIELD),
+        3 => annotated(line, stack, end, depth, due),
+        _ => scalar(line, stack, from, depth),
     }
-    if check::same(word, b"sexp") {
-        return opening(Part::Sexp, end, depth, MEMBER);
-    }
-    if check::same(word, b"struct") {
-        return opening(Part::Struct, end, depth, FIELD);
-    }
-    if check::same(word, b"ann") {
-        return annotated(line, stack, end, depth, due);
-    }
-    scalar(line, stack, from, depth)
 }
 
 fn value(line: &[u8], stack: &mut [u8; 4096], at: usize, depth: usize, due: u8) -> Step

@@ -75,6 +75,21 @@ pub(crate) fn word<'a>(text: &'a [u8], n: usize) -> &'a [u8] {
     &text[from..to]
 }
 
+// The index of a word among the words of a text, or how many those are where it is none of them.
+pub(crate) fn index(text: &[u8], word: &[u8]) -> usize {
+    let mut n: usize = 0;
+    let mut at: usize = 0;
+    while at < text.len() {
+        let end = find(text, at, SPACE);
+        if check::same(&text[at..end], word) {
+            return n;
+        }
+        n += 1;
+        at = end + 1;
+    }
+    n
+}
+
 // ---- numbers in base ten
 
 // A number as far as its digits are read. `fits` is no where there is none, where a byte is no digit, or where the number passes its limit.
