@@ -81,9 +81,9 @@ fn fresh_buffer() -> [u8; 16384]
     [0; ROOM]
 }
 
-// Runs a line of the form.
-fn write_value(line: &[u8], out: &mut [u8], used: usize) -> usize
-    requires { ⌜ (used ≤ length (now out)) × (1 ≤ length (now out)) × (length (now line) ≤ 4096) ⌝ }
+// Puts the answer to a line, and answers how many bytes wait.
+fn answer(line: &[u8], out: &mut [u8], used: usize) -> usize
+    requires { ⌜ (used ≤ length (now out)) × (1 ≤ length (now out)) ⌝ }
     ensures { λ r. ⌜ r ≤ length (now (out .exit)) ⌝ }
 {
     let mut state = [0u8; STATE_SIZE];
@@ -94,20 +94,6 @@ fn write_value(line: &[u8], out: &mut [u8], used: usize) -> usize
     }
     let n = words::least(goatminute::gm_finished(&state, &buf), ROOM);
     put_hex(out, used, &buf[0..n])
-}
-
-// Puts the answer to a line, and answers how many bytes wait.
-fn answer(line: &[u8], out: &mut [u8], used: usize) -> usize
-    requires { ⌜ (used ≤ length (now out)) × (1 ≤ length (now out)) ⌝ }
-    ensures { λ r. ⌜ r ≤ length (now (out .exit)) ⌝ }
-{
-    if walk::LONGEST_LINE < line.len() {
-        return put_refusal(out, used, run::NOT_OF_FORM);
-    }
-    if !form::is_value(line) {
-        return put_refusal(out, used, run::NOT_OF_FORM);
-    }
-    write_value(line, out, used)
 }
 
 // Answers the lines that end in a text, and answers where the rest starts.

@@ -9,9 +9,9 @@ use crate::words;
 use crate::words::word;
 
 // Document 01: a text symbol, name or annotation; a line not of the form.
-pub(crate) const TEXT: u8 = 11;
+const TEXT: u8 = 11;
 
-pub(crate) const NOT_OF_FORM: u8 = 12;
+const NOT_OF_FORM: u8 = 12;
 
 // A line has at most 4,096 hex digits.
 const MOST_BYTES: usize = 2048;
@@ -59,6 +59,20 @@ fn write_number(
 
 fn write_bytes(
     scalar: usize,
+    bytes: &[u8],
+    annotations: &[u8],
+    state: &mut [u8],
+    buf: &mut [u8],
+) -> u8 {
+    match scalar {
+        form::STRING => goatminute::gm_write_string(state, buf, annotations, bytes),
+        form::CLOB => goatminute::gm_write_clob(state, buf, annotations, bytes),
+        _ => goatminute::gm_write_blob(state, buf, annotations, bytes),
+    }
+}
+
+fn write_pairs(
+    scalar: usize,
     word: &[u8],
     annotations: &[u8],
     state: &mut [u8],
@@ -66,11 +80,7 @@ fn write_bytes(
 ) -> u8 {
     let mut bytes = [0u8; MOST_BYTES];
     let n = words::hex_bytes(word, &mut bytes);
-    match scalar {
-        form::STRING => goatminute::gm_write_string(state, buf, annotations, &bytes[0..n]),
-        form::CLOB => goatminute::gm_write_clob(state, buf, annotations, &bytes[0..n]),
-        _ => goatminute::gm_write_blob(state, buf, annotations, &bytes[0..n]),
-    }
+    write_bytes(scalar, &bytes[0..n], annotations, state, buf)
 }
 
 fn write_int(text: &[u8], annotations: &[u8], state: &mut [u8], buf: &mut [u8]) -> u8 {
@@ -143,7 +153,7 @@ fn write_scalar(text: &[u8], annotations: &[u8], state: &mut [u8], buf: &mut [u8
         form::INT => write_int(text, annotations, state, buf),
         form::DECIMAL => write_decimal(text, annotations, state, buf),
         form::TIMESTAMP => write_timestamp(text, annotations, state, buf),
-        _ => write_bytes(scalar, first, annotations, state, buf),
+        _ => write_pairs(scalar, first, annotations, state, buf),
     }
 }
 
@@ -161,26 +171,20 @@ fn call(part: Part, text: &[u8], annotations: &[u8], state: &mut [u8], buf: &mut
     }
 }
 
-// The call of a part whose annotations are the words of `notes`.
-fn annotated_call(part: Part, text: &[u8], notes: &[u8], state: &mut [u8], buf: &mut [u8]) -> u8
-    requires { ⌜ length (now notes) ≤ 4096 ⌝ }
-{
-    if notes.len() == 0 {
-        return call(part, text, b"", state, buf);
-    }
-    let mut sids = [0u8; 8 * walk::LONGEST_LINE];
-    let n = words::put_sids(notes, &mut sids);
-    call(part, text, &sids[0..n], state, buf)
-}
-
-// Quoted text among annotations is refused here already: the next call is that of their value.
+// The call of a part whose annotations are the words of `notes`. Quoted text among annotations is refused where they stand: the next call is that
+// of their value.
 fn run_part(part: Part, text: &[u8], notes: &[u8], state: &mut [u8], buf: &mut [u8]) -> u8
     requires { ⌜ length (now notes) ≤ 4096 ⌝ }
 {
     if words::has_quoted(text) {
         return TEXT;
     }
-    annotated_call(part, text, notes, state, buf)
+    if notes.len() == 0 {
+        return call(part, text, b"", state, buf);
+    }
+    let mut sids = [0u8; 8 * walk::LONGEST_LINE];
+    let n = words::put_sids(notes, &mut sids);
+    call(part, text, &sids[0..n], state, buf)
 }
 
 // How many bytes of a step's words are annotations of the value that comes next.
@@ -196,7 +200,7 @@ fn noted(step: Step) -> usize
 }
 
 // The number of the first refusal among a line's calls, or 0.
-pub(crate) fn run(line: &[u8], state: &mut [u8], buf: &mut [u8]) -> u8
+fn run_value(line: &[u8], state: &mut [u8], buf: &mut [u8]) -> u8
     requires { ⌜ length (now line) ≤ 4096 ⌝ }
 {
     let mut stack = [0u8; walk::LONGEST_LINE];
@@ -228,4 +232,15 @@ pub(crate) fn run(line: &[u8], state: &mut [u8], buf: &mut [u8]) -> u8
         due = step.due;
     }
     0
+}
+
+// The number of a line's refusal, or 0.
+pub(crate) fn run(line: &[u8], state: &mut [u8], buf: &mut [u8]) -> u8 {
+    if walk::LONGEST_LINE < line.len() {
+        return NOT_OF_FORM;
+    }
+    if !form::is_value(line) {
+        return NOT_OF_FORM;
+    }
+    run_value(line, state, buf)
 }

@@ -102,29 +102,14 @@ fn bracket(line: &[u8], stack: &[u8; 4096], at: usize, depth: usize, part: Part)
     }
 }
 
-fn member(line: &[u8], stack: &mut [u8; 4096], at: usize, depth: usize) -> Step
-    requires { ⌜ (at < length (now line)) × (length (now line) ≤ 4096) × (depth ≤ at) ⌝ }
-    ensures { λ r. ⌜ (at < r .at) × (r .at ≤ length (now (line .entry))) × (r .depth ≤ r .at) × (r .from ≤ r .to) × (r .to ≤ length (now (line .entry))) ⌝ }
+// A field of a struct behind its space: the bracket, the name and a space.
+fn field(line: &[u8], stack: &mut [u8; 4096], at: usize, depth: usize) -> Step
+    requires { ⌜ (at ≤ length (now line)) × (length (now line) ≤ 4096) × (depth < at) ⌝ }
+    ensures { λ r. ⌜ (at ≤ r .at) × (r .at ≤ length (now (line .entry))) × (r .depth ≤ r .at) × (r .from ≤ r .to) × (r .to ≤ length (now (line .entry))) ⌝ }
 {
-    if line[at] != b' ' {
-        return bracket(line, stack, at, depth, Part::Close);
+    if at == line.len() {
+        return malformed(line);
     }
-    stack[depth] = MEMBER;
-    Step {
-        part: Part::Mark,
-        from: at,
-        to: at,
-        at: at + 1,
-        depth: depth + 1,
-        due: VALUE,
-    }
-}
-
-// The name of a field, which ends at a space, from the bracket on.
-fn name(line: &[u8], stack: &mut [u8; 4096], at: usize, depth: usize) -> Step
-    requires { ⌜ (at < length (now line)) × (length (now line) ≤ 4096) × (depth < at) ⌝ }
-    ensures { λ r. ⌜ (at < r .at) × (r .at ≤ length (now (line .entry))) × (r .depth ≤ r .at) × (r .from ≤ r .to) × (r .to ≤ length (now (line .entry))) ⌝ }
-{
     if line[at] != b'(' {
         return malformed(line);
     }
@@ -144,17 +129,34 @@ fn name(line: &[u8], stack: &mut [u8; 4096], at: usize, depth: usize) -> Step
     }
 }
 
-fn field(line: &[u8], stack: &mut [u8; 4096], at: usize, depth: usize) -> Step
+// A member of a list or s-expression behind its space.
+fn member(stack: &mut [u8; 4096], at: usize, depth: usize) -> Step
+    requires { ⌜ (at ≤ 4096) × (depth < at) ⌝ }
+    ensures { λ r. ⌜ (r .from ≡ at) × (r .to ≡ at) × (r .at ≡ at) × (r .depth ≤ at) ⌝ }
+{
+    stack[depth] = MEMBER;
+    Step {
+        part: Part::Mark,
+        from: at,
+        to: at,
+        at,
+        depth: depth + 1,
+        due: VALUE,
+    }
+}
+
+// What stands in a list, s-expression or struct, or its bracket.
+fn item(line: &[u8], stack: &mut [u8; 4096], at: usize, depth: usize, due: u8) -> Step
     requires { ⌜ (at < length (now line)) × (length (now line) ≤ 4096) × (depth ≤ at) ⌝ }
     ensures { λ r. ⌜ (at < r .at) × (r .at ≤ length (now (line .entry))) × (r .depth ≤ r .at) × (r .from ≤ r .to) × (r .to ≤ length (now (line .entry))) ⌝ }
 {
     if line[at] != b' ' {
         return bracket(line, stack, at, depth, Part::Close);
     }
-    if at + 1 == line.len() {
-        return malformed(line);
+    if due == MEMBER {
+        return member(stack, at + 1, depth);
     }
-    name(line, stack, at + 1, depth)
+    field(line, stack, at + 1, depth)
 }
 
 // The annotations from `from` on, the bracket and the space behind them.
@@ -277,8 +279,7 @@ pub(crate) fn next(line: &[u8], stack: &mut [u8; 4096], at: usize, depth: usize,
 {
     match due {
         VALUE | BARE_VALUE => value(line, stack, at, depth, due),
-        MEMBER => member(line, stack, at, depth),
-        FIELD => field(line, stack, at, depth),
+        MEMBER | FIELD => item(line, stack, at, depth, due),
         BRACKET => bracket(line, stack, at, depth, Part::Mark),
         _ => malformed(line),
     }

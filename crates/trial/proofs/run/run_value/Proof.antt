@@ -1,10 +1,10 @@
--- `run::run` is safe and ends: each step goes on within the line, and the stack never holds more than the bytes passed. Assumes nothing.
+-- `run::run_value` is safe and ends: each step goes on within the line, and the stack never holds more than the bytes passed. Assumes nothing.
 use mathlib.Core.Path.{_≡_}
 use Prim.Native.Nat.{_-_, _≤_}
 use borrow.Author.Needs.{needs}
 use lib.ListN.{length}
-use Rattle.trial.proofs.run.run.Statement.{statement}
-use Rattle.trial.proofs.run.run.Tie as tie
+use Rattle.trial.proofs.run.run_value.Statement.{statement}
+use Rattle.trial.proofs.run.run_value.Tie as tie
 
 abbrev Inv-loop : tie.InvT-loop
 Inv-loop line state₀ buf₀ stack₀ at₀ depth₀ due₀ notes-from₀ notes-to₀ state buf stack at depth due notes-from notes-to = (length line ≤ 4096) × (at ≤ length line) × (depth ≤ at) × (notes-from ≤ notes-to) × (notes-to ≤ length line) × (length state ≡ length state₀) × (length buf ≡ length buf₀)
@@ -66,8 +66,8 @@ same-length-4 c = search needs
 returns-2 : tie.Need-returns-2 Inv-loop μ-loop
 returns-2 c = search needs
 
-pub run-spec : {M : Type 1} → statement M
-run-spec =
+pub run-value-spec : {M : Type 1} → statement M
+run-value-spec =
     tie.close
     (tie.spec
     Inv-loop
