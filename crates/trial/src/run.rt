@@ -1,5 +1,6 @@
 // The calls of a line that has the form. Each answers 0, or the number of its refusal.
-ghost use Prim.Native.Nat.{_≤_};
+ghost use mathlib.Core.Path.{_≡_};
+ghost use Prim.Native.Nat.{_*_, _≤_};
 ghost use lib.ListN.{length};
 use crate::form;
 use crate::walk;
@@ -171,62 +172,45 @@ fn call(part: Part, text: &[u8], annotations: &[u8], state: &mut [u8], buf: &mut
     }
 }
 
-// The call of a part whose annotations are the words of `notes`. Quoted text among annotations is refused where they stand: the next call is that
-// of their value.
-fn run_part(part: Part, text: &[u8], notes: &[u8], state: &mut [u8], buf: &mut [u8]) -> u8
-    requires { ⌜ length (now notes) ≤ 4096 ⌝ }
-{
+// Quoted text among annotations is refused where they stand: the next call is that of their value.
+fn run_part(part: Part, text: &[u8], annotations: &[u8], state: &mut [u8], buf: &mut [u8]) -> u8 {
     if words::has_quoted(text) {
         return TEXT;
     }
-    if notes.len() == 0 {
-        return call(part, text, b"", state, buf);
-    }
-    let mut sids = [0u8; 8 * walk::LONGEST_LINE];
-    let n = words::put_sids(notes, &mut sids);
-    call(part, text, &sids[0..n], state, buf)
+    call(part, text, annotations, state, buf)
 }
 
-// How many bytes of a step's words are annotations of the value that comes next.
-fn noted(step: Step) -> usize
-    requires { ⌜ step .from ≤ step .to ⌝ }
-    ensures { λ r. ⌜ (step .from ≤ r) × (r ≤ step .to) ⌝ }
+// Puts the annotations of the value that comes next, and answers how many bytes they are.
+fn put_annotations(part: Part, text: &[u8], sids: &mut [u8]) -> usize
+    requires { ⌜ (length (now text) ≤ 4096) × (8 * length (now text) ≤ length (now sids)) ⌝ }
+    ensures { λ r. ⌜ r ≤ length (now (sids .exit)) ⌝ }
 {
-    let part = step.part;
     match part {
-        Part::Annotations => step.to,
-        _ => step.from,
+        Part::Annotations => words::put_sids(text, sids),
+        _ => 0,
     }
 }
 
-// The number of the first refusal among a line's calls, or 0.
-fn run_value(line: &[u8], state: &mut [u8], buf: &mut [u8]) -> u8
-    requires { ⌜ length (now line) ≤ 4096 ⌝ }
+// The number of the first refusal among the calls of a value, or 0.
+fn run_value(line: &[u8], state: &mut [u8], buf: &mut [u8], sids: &mut [u8]) -> u8
+    requires { ⌜ (length (now line) ≤ 4096) × (length (now sids) ≡ 32768) ⌝ }
 {
     let mut stack = [0u8; walk::LONGEST_LINE];
+    let mut annotated: usize = 0;
     let mut at: usize = 0;
     let mut depth: usize = 0;
     let mut due = walk::VALUE;
-    // The annotations of the next value.
-    let mut notes_from: usize = 0;
-    let mut notes_to: usize = 0;
     while at < line.len() {
         let step = walk::next(line, &mut stack, at, depth, due);
         let part = step.part;
         let from = step.from;
         let to = step.to;
-        let refusal = run_part(
-            part,
-            &line[from..to],
-            &line[notes_from..notes_to],
-            state,
-            buf,
-        );
+        let text = &line[from..to];
+        let refusal = run_part(part, text, &sids[0..annotated], state, buf);
         if refusal != 0 {
             return refusal;
         }
-        notes_from = from;
-        notes_to = noted(step);
+        annotated = put_annotations(part, text, sids);
         at = step.at;
         depth = step.depth;
         due = step.due;
@@ -242,5 +226,6 @@ pub(crate) fn run(line: &[u8], state: &mut [u8], buf: &mut [u8]) -> u8 {
     if !form::is_value(line) {
         return NOT_OF_FORM;
     }
-    run_value(line, state, buf)
+    let mut sids = [0u8; 8 * walk::LONGEST_LINE];
+    run_value(line, state, buf, &mut sids)
 }
