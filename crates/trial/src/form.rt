@@ -55,7 +55,7 @@ pub(crate) fn type_code(name: &[u8]) -> usize {
 }
 
 fn is_bool(word: &[u8]) -> bool {
-    check::same(word, b"0") | check::same(word, b"1")
+    words::index(b"0 1", word) < 2
 }
 
 fn is_hex_of(word: &[u8], digits: usize) -> bool {
@@ -102,17 +102,11 @@ fn are_numbers(text: &[u8], words: usize) -> bool {
     true
 }
 
-// Whether a timestamp has so many words: name, offset, then 1, 2, 3, 5 or 6 fields, or these six with a fraction's two numbers.
-fn is_precision(words: usize) -> bool {
-    match words {
-        3 | 4 | 5 | 7 | 8 | 10 => true,
-        _ => false,
-    }
-}
-
+// Behind the name and the offset stand 1, 2, 3, 5 or 6 fields, or six and the two numbers of a fraction.
 fn is_timestamp(text: &[u8]) -> bool {
     let words = count(text);
-    if !is_precision(words) {
+    let is_precision = (3 <= words) & (words != 6) & (words != 9) & (words <= 10);
+    if !is_precision {
         return false;
     }
     is_offset(word(text, 1)) & are_numbers(text, words)

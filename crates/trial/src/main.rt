@@ -113,13 +113,6 @@ fn answer_lines(text: &[u8]) -> usize
     at
 }
 
-// Answers a last line without line feed.
-fn answer_last(line: &[u8]) {
-    let mut out = io::large_buffer();
-    let used = answer(line, &mut out, 0);
-    io::write_all(STDOUT_FILENO, &out[0..used]);
-}
-
 // Moves `count` bytes from `from` on to the front.
 fn keep(text: &mut [u8], from: usize, count: usize)
     requires { ⌜ from + count ≤ length (now text) ⌝ }
@@ -155,7 +148,7 @@ fn read_on(text: &mut [u8], kept: usize) -> usize
 // Answers the lines that end in the input, and answers how many bytes stand behind the last of them.
 fn take_input(text: &mut [u8]) -> usize
     requires { ⌜ 4097 ≤ length (now text) ⌝ }
-    ensures { λ r. ⌜ r ≤ length (now (text .exit)) ⌝ }
+    ensures { λ r. ⌜ r ≤ 4097 ⌝ }
 {
     let mut kept: usize = 0;
     // A loop has to end, and no input takes so many turns.
@@ -171,10 +164,12 @@ fn take_input(text: &mut [u8]) -> usize
     kept
 }
 
+// A last line without line feed is given one.
 fn main() {
     let mut text = io::large_buffer();
     let kept = take_input(&mut text);
     if 0 < kept {
-        answer_last(&text[0..kept]);
+        text[kept] = b'\n';
+        answer_lines(&text[0..kept + 1]);
     }
 }

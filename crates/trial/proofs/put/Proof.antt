@@ -2,7 +2,6 @@
 use native.Mathlib.Omega.{arith}
 use borrow.Author.Needs.{needs}
 use lib.ListN.{length-set}
-use borrow.Author.Needs.{needs}
 use Rattle.trial.proofs.put.Statement.{statement}
 use Rattle.trial.proofs.put.Tie as tie
 
