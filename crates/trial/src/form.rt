@@ -44,14 +44,13 @@ pub(crate) fn scalar_named(text: &[u8]) -> usize {
 }
 
 // Stands for no type.
-const NO_TYPE: usize = 14;
+const NO_TYPE: u8 = 14;
 
 // The code in the Ion document of the type that a word names. 3, which is of negative ints, is no index: `int` is found at 2.
-pub(crate) fn type_code(name: &[u8]) -> usize {
-    words::index(
-        b"null bool int int float decimal timestamp symbol string clob blob list sexp struct",
-        name,
-    )
+pub(crate) fn type_code(name: &[u8]) -> u8 {
+    let names =
+        b"null bool int int float decimal timestamp symbol string clob blob list sexp struct";
+    (words::index(names, name) % 256) as u8
 }
 
 fn is_bool(word: &[u8]) -> bool {
@@ -73,12 +72,8 @@ fn is_decimal(text: &[u8]) -> bool {
         & words::is_signed(word(text, 2), words::MOST_I64)
 }
 
-pub(crate) fn is_unknown_offset(word: &[u8]) -> bool {
-    check::same(word, b"?")
-}
-
 fn is_offset(word: &[u8]) -> bool {
-    is_unknown_offset(word) | words::is_signed(word, words::MOST_I32)
+    check::same(word, b"?") | words::is_signed(word, words::MOST_I32)
 }
 
 // The limit of a timestamp's number by its index among the words: the last of ten is the fraction's coefficient.

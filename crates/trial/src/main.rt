@@ -15,7 +15,7 @@ const ROOM: usize = 16384;
 
 const STATE_SIZE: usize = 296;
 
-// Puts a byte behind the `used` bytes that wait to be printed, and answers how many wait. A full array is printed first.
+// Puts a byte behind the `used` bytes that wait to be printed; a full array is printed first. The result is how many wait.
 fn put(out: &mut [u8], used: usize, byte: u8) -> usize
     requires { ⌜ (used ≤ length (now out)) × (1 ≤ length (now out)) ⌝ }
     ensures { λ r. ⌜ r ≤ length (now (out .exit)) ⌝ }
@@ -81,7 +81,7 @@ fn fresh_buffer() -> [u8; 16384]
     [0; ROOM]
 }
 
-// Puts the answer to a line, and answers how many bytes wait.
+// Puts the answer to a line behind the bytes that wait to be printed. The result is how many wait.
 fn answer(line: &[u8], out: &mut [u8], used: usize) -> usize
     requires { ⌜ (used ≤ length (now out)) × (1 ≤ length (now out)) ⌝ }
     ensures { λ r. ⌜ r ≤ length (now (out .exit)) ⌝ }
@@ -96,7 +96,7 @@ fn answer(line: &[u8], out: &mut [u8], used: usize) -> usize
     put_hex(out, used, &buf[0..n])
 }
 
-// Answers the lines that end in a text, and answers where the rest starts.
+// Prints the answers to the lines that end in a text. The result is where the rest starts.
 fn answer_lines(text: &[u8]) -> usize
     ensures { λ r. ⌜ r ≤ length (now (text .entry)) ⌝ }
 {
@@ -124,8 +124,8 @@ fn keep(text: &mut [u8], from: usize, count: usize)
     }
 }
 
-// Answers the lines that end in the first `end` bytes, moves the rest to the front and answers its length. Of a line that is too long it keeps one
-// byte more than a line may have.
+// Prints the answers to the lines that end in the first `end` bytes, and moves the rest to the front. The result is the length of the rest, of which
+// one byte more than a line may have is kept.
 fn take_lines(text: &mut [u8], end: usize) -> usize
     requires { ⌜ end ≤ length (now text) ⌝ }
     ensures { λ r. ⌜ r ≤ 4097 ⌝ }
@@ -136,7 +136,7 @@ fn take_lines(text: &mut [u8], end: usize) -> usize
     count
 }
 
-// Reads on behind the first `kept` bytes, and answers how many bytes there are.
+// Reads on behind the first `kept` bytes. The result is how many bytes there are.
 fn read_on(text: &mut [u8], kept: usize) -> usize
     requires { ⌜ kept ≤ length (now text) ⌝ }
     ensures { λ r. ⌜ (kept ≤ r) × (r ≤ length (now (text .exit))) ⌝ }
@@ -145,7 +145,7 @@ fn read_on(text: &mut [u8], kept: usize) -> usize
     kept + io::count(got, &text[kept..])
 }
 
-// Answers the lines that end in the input, and answers how many bytes stand behind the last of them.
+// Prints the answers to the lines that end in the input. The result is how many bytes stand behind the last line feed, up to 4,097.
 fn take_input(text: &mut [u8]) -> usize
     requires { ⌜ 4097 ≤ length (now text) ⌝ }
     ensures { λ r. ⌜ r ≤ 4097 ⌝ }

@@ -5,7 +5,6 @@ ghost use lib.ListN.{length};
 use crate::form;
 use crate::walk;
 use crate::walk::Part;
-use crate::walk::Step;
 use crate::words;
 use crate::words::word;
 
@@ -16,10 +15,6 @@ const NOT_OF_FORM: u8 = 12;
 
 // A line has at most 4,096 hex digits.
 const MOST_BYTES: usize = 2048;
-
-fn type_code(word: &[u8]) -> u8 {
-    (form::type_code(word) % 256) as u8
-}
 
 fn f32_bits(word: &[u8]) -> u32 {
     (words::hex_bits(word) % 0x1_0000_0000) as u32
@@ -33,7 +28,7 @@ fn write_plain(
     buf: &mut [u8],
 ) -> u8 {
     match scalar {
-        form::NULL => goatminute::gm_write_null(state, buf, annotations, type_code(word)),
+        form::NULL => goatminute::gm_write_null(state, buf, annotations, form::type_code(word)),
         form::BOOL => goatminute::gm_write_bool(
             state,
             buf,
@@ -88,7 +83,7 @@ fn write_int(text: &[u8], annotations: &[u8], state: &mut [u8], buf: &mut [u8]) 
     let mut bytes = [0u8; MOST_BYTES];
     let number = word(text, 1);
     let n = words::hex_bytes(words::magnitude(number), &mut bytes);
-    let negative = words::has_minus(number) as u8;
+    let negative = words::sign_length(number) as u8;
     goatminute::gm_write_int(state, buf, annotations, negative, &bytes[0..n])
 }
 
@@ -96,7 +91,7 @@ fn write_decimal(text: &[u8], annotations: &[u8], state: &mut [u8], buf: &mut [u
     let mut bytes = [0u8; MOST_BYTES];
     let coefficient = word(text, 1);
     let n = words::hex_bytes(words::magnitude(coefficient), &mut bytes);
-    let negative = words::has_minus(coefficient) as u8;
+    let negative = words::sign_length(coefficient) as u8;
     let exponent = words::signed(word(text, 2));
     goatminute::gm_write_decimal(state, buf, annotations, negative, &bytes[0..n], exponent)
 }
@@ -131,7 +126,7 @@ fn write_timestamp(text: &[u8], annotations: &[u8], state: &mut [u8], buf: &mut 
         field(text, 5),
         field(text, 6),
         field(text, 7),
-        !form::is_unknown_offset(offset) as u8,
+        !check::same(offset, b"?") as u8,
         words::signed_i32(offset),
         (words == 10) as u8,
         field(text, 8),

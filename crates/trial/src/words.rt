@@ -143,7 +143,7 @@ pub(crate) fn natural(word: &[u8], limit: u64) -> Number
 }
 
 // How many bytes the minus takes: one or none.
-fn sign_length(word: &[u8]) -> usize
+pub(crate) fn sign_length(word: &[u8]) -> usize
     ensures { λ r. ⌜ (r ≤ 1) × (r ≤ length (now (word .entry))) ⌝ }
 {
     if word.len() == 0 {
@@ -153,10 +153,6 @@ fn sign_length(word: &[u8]) -> usize
         return 1;
     }
     0
-}
-
-pub(crate) fn has_minus(word: &[u8]) -> bool {
-    sign_length(word) == 1
 }
 
 // The word behind its minus.
@@ -196,7 +192,7 @@ fn negated_i32(magnitude: u64) -> i32
 }
 
 pub(crate) fn signed(word: &[u8]) -> i64 {
-    if has_minus(word) {
+    if sign_length(word) == 1 {
         let below = natural(magnitude(word), MOST_I64 + 1);
         return negated(below.value);
     }
@@ -205,7 +201,7 @@ pub(crate) fn signed(word: &[u8]) -> i64 {
 }
 
 pub(crate) fn signed_i32(word: &[u8]) -> i32 {
-    if has_minus(word) {
+    if sign_length(word) == 1 {
         let below = natural(magnitude(word), MOST_I32 + 1);
         return negated_i32(below.value);
     }
