@@ -43,10 +43,10 @@ pub(crate) fn scalar_named(text: &[u8]) -> usize {
     )
 }
 
-// Stands for no type.
+// What `type_code` answers for a word that names no type.
 const NO_TYPE: u8 = 14;
 
-// The code in the Ion document of the type that a word names. 3, which is of negative ints, is no index: `int` is found at 2.
+// The code in the Ion document of the type that a word names, which is its index here. `int` is found at 2: 3 is the code of negative ints.
 pub(crate) fn type_code(name: &[u8]) -> u8 {
     let names =
         b"null bool int int float decimal timestamp symbol string clob blob list sexp struct";
