@@ -1,6 +1,7 @@
 // Whether a line has the form of document 01, which is refusal 12 where it has not: words, brackets, and the limits of numbers.
 ghost use Prim.Native.Nat.{_≤_};
 ghost use lib.ListN.{length};
+ghost use Rattle.trial.specs.Steps.{Within};
 use crate::walk;
 use crate::walk::Part;
 use crate::walk::Step;
@@ -76,19 +77,11 @@ fn is_offset(word: &[u8]) -> bool {
     check::same(word, b"?") | words::is_signed(word, words::MOST_I32)
 }
 
-// The limit of a timestamp's number by its index among the words: the last of ten is the fraction's coefficient.
-fn limit(i: usize) -> u64 {
-    if i == 9 {
-        return words::MOST_U64;
-    }
-    words::MOST_I32
-}
-
-// Whether the words of a timestamp behind its offset are numbers.
-fn are_numbers(text: &[u8], words: usize) -> bool {
-    let mut i: usize = 2;
-    while i < words {
-        let number = words::natural(word(text, i), limit(i));
+// Whether the words from index `from` to before `to` are numbers of at most `limit`.
+fn are_numbers(text: &[u8], from: usize, to: usize, limit: u64) -> bool {
+    let mut i = from;
+    while i < to {
+        let number = words::natural(word(text, i), limit);
         if !number.fits {
             return false;
         }
@@ -97,14 +90,16 @@ fn are_numbers(text: &[u8], words: usize) -> bool {
     true
 }
 
-// Behind the name and the offset stand 1, 2, 3, 5 or 6 fields, or six and the two numbers of a fraction.
+// Behind the name and the offset stand 1, 2, 3, 5 or 6 fields, or six and a fraction's digit count and coefficient.
 fn is_timestamp(text: &[u8]) -> bool {
     let words = count(text);
     let is_precision = (3 <= words) & (words != 6) & (words != 9) & (words <= 10);
     if !is_precision {
         return false;
     }
-    is_offset(word(text, 1)) & are_numbers(text, words)
+    is_offset(word(text, 1))
+        & are_numbers(text, 2, words::least(words, 9), words::MOST_I32)
+        & are_numbers(text, 9, words, words::MOST_U64)
 }
 
 // Whether behind a name stand hex pairs, or nothing.
@@ -139,7 +134,7 @@ fn is_right_scalar(text: &[u8]) -> bool {
 }
 
 fn is_right(line: &[u8], step: Step) -> bool
-    requires { ⌜ (length (now line) ≤ 4096) × (step .from ≤ step .to) × (step .to ≤ length (now line)) ⌝ }
+    requires { ⌜ (length (now line) ≤ 4096) × Within (length (now line)) step ⌝ }
 {
     let part = step.part;
     let from = step.from;

@@ -3,6 +3,7 @@
 ghost use mathlib.Core.Path.{_≡_};
 ghost use Prim.Native.Nat.{_<_, _≤_};
 ghost use lib.ListN.{length};
+ghost use Rattle.trial.specs.Steps.{Within};
 use crate::words::find;
 use crate::words::index;
 
@@ -87,7 +88,7 @@ fn lowered(depth: usize) -> usize
 // A bracket that ends a value, a field or an `ann`.
 fn bracket(line: &[u8], stack: &[u8; 4096], at: usize, depth: usize, part: Part) -> Step
     requires { ⌜ (at < length (now line)) × (length (now line) ≤ 4096) × (depth ≤ at) ⌝ }
-    ensures { λ r. ⌜ (at < r .at) × (r .at ≤ length (now (line .entry))) × (r .depth ≤ r .at) × (r .from ≤ r .to) × (r .to ≤ length (now (line .entry))) ⌝ }
+    ensures { λ r. ⌜ (at < r .at) × Within (length (now (line .entry))) r ⌝ }
 {
     if line[at] != b')' {
         return malformed(line);
@@ -105,7 +106,7 @@ fn bracket(line: &[u8], stack: &[u8; 4096], at: usize, depth: usize, part: Part)
 // A field of a struct behind its space: the bracket, the name and a space.
 fn field(line: &[u8], stack: &mut [u8; 4096], at: usize, depth: usize) -> Step
     requires { ⌜ (at ≤ length (now line)) × (length (now line) ≤ 4096) × (depth < at) ⌝ }
-    ensures { λ r. ⌜ (at ≤ r .at) × (r .at ≤ length (now (line .entry))) × (r .depth ≤ r .at) × (r .from ≤ r .to) × (r .to ≤ length (now (line .entry))) ⌝ }
+    ensures { λ r. ⌜ (at ≤ r .at) × Within (length (now (line .entry))) r ⌝ }
 {
     if at == line.len() {
         return malformed(line);
@@ -148,7 +149,7 @@ fn member(stack: &mut [u8; 4096], at: usize, depth: usize) -> Step
 // What stands in a list, s-expression or struct, or its bracket.
 fn item(line: &[u8], stack: &mut [u8; 4096], at: usize, depth: usize, due: u8) -> Step
     requires { ⌜ (at < length (now line)) × (length (now line) ≤ 4096) × (depth ≤ at) ⌝ }
-    ensures { λ r. ⌜ (at < r .at) × (r .at ≤ length (now (line .entry))) × (r .depth ≤ r .at) × (r .from ≤ r .to) × (r .to ≤ length (now (line .entry))) ⌝ }
+    ensures { λ r. ⌜ (at < r .at) × Within (length (now (line .entry))) r ⌝ }
 {
     if line[at] != b' ' {
         return bracket(line, stack, at, depth, Part::Close);
@@ -162,7 +163,7 @@ fn item(line: &[u8], stack: &mut [u8; 4096], at: usize, depth: usize, due: u8) -
 // The annotations from `from` on, the bracket and the space behind them.
 fn annotations(line: &[u8], stack: &mut [u8; 4096], from: usize, depth: usize) -> Step
     requires { ⌜ (from ≤ length (now line)) × (length (now line) ≤ 4096) × (depth < from) ⌝ }
-    ensures { λ r. ⌜ (from ≤ r .at) × (r .at ≤ length (now (line .entry))) × (r .depth ≤ r .at) × (r .from ≤ r .to) × (r .to ≤ length (now (line .entry))) ⌝ }
+    ensures { λ r. ⌜ (from ≤ r .at) × Within (length (now (line .entry))) r ⌝ }
 {
     let to = find(line, from, b')');
     if line.len() - to < 2 {
@@ -185,7 +186,7 @@ fn annotations(line: &[u8], stack: &mut [u8; 4096], from: usize, depth: usize) -
 // An `ann` from the place behind that word on.
 fn annotated(line: &[u8], stack: &mut [u8; 4096], at: usize, depth: usize, due: u8) -> Step
     requires { ⌜ (at ≤ length (now line)) × (length (now line) ≤ 4096) × (depth ≤ at) ⌝ }
-    ensures { λ r. ⌜ (at ≤ r .at) × (r .at ≤ length (now (line .entry))) × (r .depth ≤ r .at) × (r .from ≤ r .to) × (r .to ≤ length (now (line .entry))) ⌝ }
+    ensures { λ r. ⌜ (at ≤ r .at) × Within (length (now (line .entry))) r ⌝ }
 {
     if due == BARE_VALUE {
         return malformed(line);
@@ -202,7 +203,7 @@ fn annotated(line: &[u8], stack: &mut [u8; 4096], at: usize, depth: usize, due: 
 // A scalar from the place behind its bracket on.
 fn scalar(line: &[u8], stack: &[u8; 4096], from: usize, depth: usize) -> Step
     requires { ⌜ (from ≤ length (now line)) × (length (now line) ≤ 4096) × (depth ≤ from) ⌝ }
-    ensures { λ r. ⌜ (from ≤ r .at) × (r .at ≤ length (now (line .entry))) × (r .depth ≤ r .at) × (r .from ≤ r .to) × (r .to ≤ length (now (line .entry))) ⌝ }
+    ensures { λ r. ⌜ (from ≤ r .at) × Within (length (now (line .entry))) r ⌝ }
 {
     let to = find(line, from, b')');
     if to == line.len() {
@@ -247,11 +248,14 @@ fn word_end(line: &[u8], at: usize) -> usize
     i
 }
 
-// A value from the place behind its bracket on.
-fn named(line: &[u8], stack: &mut [u8; 4096], from: usize, depth: usize, due: u8) -> Step
-    requires { ⌜ (from ≤ length (now line)) × (length (now line) ≤ 4096) × (depth ≤ from) ⌝ }
-    ensures { λ r. ⌜ (from ≤ r .at) × (r .at ≤ length (now (line .entry))) × (r .depth ≤ r .at) × (r .from ≤ r .to) × (r .to ≤ length (now (line .entry))) ⌝ }
+fn value(line: &[u8], stack: &mut [u8; 4096], at: usize, depth: usize, due: u8) -> Step
+    requires { ⌜ (at < length (now line)) × (length (now line) ≤ 4096) × (depth ≤ at) ⌝ }
+    ensures { λ r. ⌜ (at < r .at) × Within (length (now (line .entry))) r ⌝ }
 {
+    if line[at] != b'(' {
+        return malformed(line);
+    }
+    let from = at + 1;
     let end = word_end(line, from);
     match index(b"list sexp struct ann", &line[from..end]) {
         0 => opening(Part::List, end, depth, MEMBER),
@@ -262,20 +266,10 @@ fn named(line: &[u8], stack: &mut [u8; 4096], from: usize, depth: usize, due: u8
     }
 }
 
-fn value(line: &[u8], stack: &mut [u8; 4096], at: usize, depth: usize, due: u8) -> Step
-    requires { ⌜ (at < length (now line)) × (length (now line) ≤ 4096) × (depth ≤ at) ⌝ }
-    ensures { λ r. ⌜ (at < r .at) × (r .at ≤ length (now (line .entry))) × (r .depth ≤ r .at) × (r .from ≤ r .to) × (r .to ≤ length (now (line .entry))) ⌝ }
-{
-    if line[at] != b'(' {
-        return malformed(line);
-    }
-    named(line, stack, at + 1, depth, due)
-}
-
 // The step from a place on.
 pub(crate) fn next(line: &[u8], stack: &mut [u8; 4096], at: usize, depth: usize, due: u8) -> Step
     requires { ⌜ (at < length (now line)) × (length (now line) ≤ 4096) × (depth ≤ at) ⌝ }
-    ensures { λ r. ⌜ (at < r .at) × (r .at ≤ length (now (line .entry))) × (r .depth ≤ r .at) × (r .from ≤ r .to) × (r .to ≤ length (now (line .entry))) ⌝ }
+    ensures { λ r. ⌜ (at < r .at) × Within (length (now (line .entry))) r ⌝ }
 {
     match due {
         VALUE | BARE_VALUE => value(line, stack, at, depth, due),

@@ -1,23 +1,20 @@
--- `form::are_numbers` is safe and ends: the index stays before `words`. Assumes nothing.
+-- `form::are_numbers` is safe and ends: the index stays before `to`. Assumes nothing.
 use Prim.Native.Nat.{_-_, _≤_}
 use borrow.Author.Needs.{needs}
 use Rattle.trial.proofs.form.are_numbers.Statement.{statement}
 use Rattle.trial.proofs.form.are_numbers.Tie as tie
 
 abbrev Inv-loop : tie.InvT-loop
-Inv-loop text words i₀ i = 2 ≤ i
+Inv-loop text from to limit i₀ i = from ≤ i
 
 abbrev μ-loop : tie.MeasureT-loop
-μ-loop text words i₀ i = words - i
+μ-loop text from to limit i₀ i = to - i
 
 loop-holds : tie.Need-loop-holds Inv-loop μ-loop
 loop-holds c = search needs
 
 word-requires : tie.Need-word-requires Inv-loop μ-loop
 word-requires c κs = search needs
-
-limit-requires : tie.Need-limit-requires Inv-loop μ-loop
-limit-requires c κs = search needs
 
 natural-requires : tie.Need-natural-requires Inv-loop μ-loop
 natural-requires c κs = search needs
@@ -45,7 +42,6 @@ are-numbers-spec =
     μ-loop
     loop-holds
     word-requires
-    limit-requires
     natural-requires
     returns
     add-i
