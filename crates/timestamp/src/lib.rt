@@ -15,7 +15,7 @@ ghost use Rattle.encoding.specs.Argument.{checkedBytes};
 ghost use Rattle.encoding.specs.Timestamp.{offsetBytes, fractionBytes, dayBefore, dayAfter, nearDay, utcMinutes, utcFields, utc, offsetFits, fractionFits, isTimestamp};
 ghost use Rattle.timestamp.specs.Arguments.{offsetMinutes, fractionDigits, fieldCount, fieldsOf, argumentOf};
 ghost use Rattle.timestamp.specs.Utc.{dateOf, withFields, utcOf};
-ghost use Rattle.timestamp.specs.Small.{SmallOffset, SmallFraction, Small, endBytes, bodyOf, valueOf};
+ghost use Rattle.timestamp.specs.Small.{SmallOffset, SmallFraction, SmallParts, Small, endBytes, bodySize, valueSize, bodyOf, valueOf};
 
 // The last field that counts; those below it mean nothing. With a minute there is an hour.
 pub enum Precision {
@@ -277,6 +277,26 @@ fn utc_of_valid(t: Timestamp) -> Timestamp
     }
 }
 
+// The year of `utc_of_valid`.
+fn utc_year(t: Timestamp) -> u32
+    requires { ⌜ isTimestamp (offsetMinutes (t .offset)) (fieldsOf t) (fractionDigits (t .fraction)) ≡ true ⌝ }
+    ensures { λ r. ⌜ r ≡ withFields t (utc (offsetMinutes (t .offset)) (fieldsOf t)) .year ⌝ }
+{
+    let offset = t.offset;
+    match offset {
+        Offset::Unknown => t.year,
+        Offset::Minutes(minutes) => {
+            let day = near_day(
+                utc_minutes(minutes, t.hour, t.minute) / 1440,
+                t.year,
+                t.month,
+                t.day,
+            );
+            day.0
+        }
+    }
+}
+
 // The UTC fields in the place of the local ones, and the offset kept. A timestamp that does not pass check 7 stays as it is.
 pub fn to_utc(t: Timestamp) -> Timestamp
     ensures { λ r. ⌜ r ≡ utcOf t ⌝ }
@@ -433,15 +453,16 @@ fn fraction_size(fraction: Fraction) -> usize
     }
 }
 
-fn body_size(t: Timestamp) -> usize
-    requires { ⌜ Small t ⌝ }
-    ensures { λ r. ⌜ r ≡ length (bodyOf t) ⌝ }
+// The size of the body by the UTC year; the other fields count by their number alone.
+fn body_size(t: Timestamp, year: u32) -> usize
+    requires { ⌜ SmallParts t year ⌝ }
+    ensures { λ r. ⌜ r ≡ bodySize t year ⌝ }
 {
     let precision = t.precision;
     let offset = t.offset;
     let fraction = t.fraction;
     offset_size(offset)
-        + (year_size(t.year) + (field_count(precision) as usize - 1) + fraction_size(fraction))
+        + (year_size(year) + (field_count(precision) as usize - 1) + fraction_size(fraction))
 }
 
 // Offset, UTC fields, fraction.
@@ -469,11 +490,12 @@ fn put_body(buf: &mut [u8], at: usize, t: Timestamp) -> usize
     three + put_fraction(buf, at + three, fraction)
 }
 
-fn value_size(t: Timestamp) -> usize
-    requires { ⌜ Small t ⌝ }
-    ensures { λ r. ⌜ r ≡ length (valueOf t) ⌝ }
+// Header and body.
+fn value_size(t: Timestamp, year: u32) -> usize
+    requires { ⌜ SmallParts t year ⌝ }
+    ensures { λ r. ⌜ r ≡ valueSize t year ⌝ }
 {
-    let body = body_size(t);
+    let body = body_size(t, year);
     fields::header::encoded_size_of(body) + body
 }
 
@@ -481,7 +503,7 @@ fn put_value(buf: &mut [u8], at: usize, t: Timestamp) -> usize
     requires { ⌜ Small t ⌝ }
     ensures { λ r. ⌜ _≡_ {A = ℕ × List ℕ} (r, now (buf .exit)) (placed (now (buf .entry)) at (valueOf t)) ⌝ }
 {
-    let body = body_size(t);
+    let body = body_size(t, t.year);
     let size = fields::header::encoded_size_of(body) + body;
     if !buffer::has_room(buf.len(), at, size) {
         return 0;
@@ -497,7 +519,7 @@ pub fn size(t: Timestamp, room: usize) -> usize
     if !is_valid(t) {
         return 0;
     }
-    let size = value_size(utc_of_valid(t));
+    let size = value_size(t, utc_year(t));
     if room < size {
         return 0;
     }
