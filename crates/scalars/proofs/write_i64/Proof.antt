@@ -3,7 +3,9 @@
 use mathlib.Core.Path.{sym, _∙_, ap}
 use mir.Syntax.{w64}
 use mir.ValLaws.{toZ-ofZ}
+use Rattle.encoding.specs.Argument.{codeOfSign}
 use Rattle.buffer.specs.Laid.{placed}
+use Rattle.fields.proofs.Headers.{typeByte-high}
 use Rattle.scalars.proofs.Bytes.{i64-bytes}
 use borrow.Author.Needs.{needs}
 use Rattle.scalars.proofs.write_i64.Statement.{statement}
@@ -18,8 +20,8 @@ int-code-requires c κs = search needs
 magnitude-requires : tie.Need-magnitude-requires
 magnitude-requires c κs = search needs
 
-write-uint-requires : tie.Need-write-uint-requires
-write-uint-requires c κs = c .before .int-code .ensures .1
+write-framed-requires : tie.Need-write-framed-requires
+write-framed-requires c κs = search needs
 
 same-length : tie.Need-same-length
 same-length c = search needs
@@ -29,8 +31,8 @@ returns c =
     let m = c .before .before .before in
     let s = m .before .before .before .before .before in
     let a = s .args in
-    c .before .before .write-uint .ensures
-    ∙ ap (placed (a .buf .now) (a .at)) (rw (m .magnitude .ensures, m .before .int-code .ensures .0, m .before .before .is-negative .ensures, toZ-ofZ w64 (a .value) (s .fits .value)) (sym (i64-bytes (a .value))))
+    c .before .before .write-framed .ensures
+    ∙ ap (placed (a .buf .now) (a .at)) (rw (m .magnitude .ensures, m .before .int-code .ensures, typeByte-high (codeOfSign (m .before .before .is-negative .result)), m .before .before .is-negative .ensures, toZ-ofZ w64 (a .value) (s .fits .value)) (sym (i64-bytes (a .value))))
 
 pub write-i64-spec : {M : Type 1} → statement M
 write-i64-spec =
@@ -39,6 +41,6 @@ write-i64-spec =
     is-negative-requires
     int-code-requires
     magnitude-requires
-    write-uint-requires
+    write-framed-requires
     same-length
     returns)
