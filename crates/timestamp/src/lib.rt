@@ -1,7 +1,7 @@
 // Timestamps: document 01's modules types/timestamp and binary/timestamp.
 // A field is 32 bits wide and never cut: a year of 70000 is a bad year.
 ghost use mathlib.Core.Path.{_≡_};
-ghost use mathlib.Core.Bool.{true, _&&_};
+ghost use mathlib.Core.Bool.{true, cond, _&&_};
 ghost use mathlib.Core.List.{List, [], _∷_};
 ghost use Prim.Native.Nat.{ℕ, _+_, _^_, _≤_, _<_};
 ghost use lib.Dec.{ltb, leb};
@@ -126,37 +126,39 @@ fn offset_fits(offset: Offset, fields: u32) -> bool
     }
 }
 
-// Ten to each count of digits that a fraction may have.
-const POWERS_OF_TEN: [u64; 19] = [
-    1,
-    10,
-    100,
-    1_000,
-    10_000,
-    100_000,
-    1_000_000,
-    10_000_000,
-    100_000_000,
-    1_000_000_000,
-    10_000_000_000,
-    100_000_000_000,
-    1_000_000_000_000,
-    10_000_000_000_000,
-    100_000_000_000_000,
-    1_000_000_000_000_000,
-    10_000_000_000_000_000,
-    100_000_000_000_000_000,
-    1_000_000_000_000_000_000,
-];
+// Ten to a count of digits that a fraction may have; 0 for a larger count, so that no coefficient is below it.
+fn power_of_ten(digits: u32) -> u64
+    ensures { λ r. ⌜ r ≡ cond (leb digits 18) (10 ^ digits) 0 ⌝ }
+{
+    match digits {
+        0 => 1,
+        1 => 10,
+        2 => 100,
+        3 => 1_000,
+        4 => 10_000,
+        5 => 100_000,
+        6 => 1_000_000,
+        7 => 10_000_000,
+        8 => 100_000_000,
+        9 => 1_000_000_000,
+        10 => 10_000_000_000,
+        11 => 100_000_000_000,
+        12 => 1_000_000_000_000,
+        13 => 10_000_000_000_000,
+        14 => 100_000_000_000_000,
+        15 => 1_000_000_000_000_000,
+        16 => 10_000_000_000_000_000,
+        17 => 100_000_000_000_000_000,
+        18 => 1_000_000_000_000_000_000,
+        _ => 0,
+    }
+}
 
 // At most 18 digits, and a coefficient below ten to their count.
 fn digits_hold(digits: u32, coefficient: u64) -> bool
     ensures { λ r. ⌜ r ≡ (leb digits 18 && ltb coefficient (10 ^ digits)) ⌝ }
 {
-    if 18 < digits {
-        return false;
-    }
-    coefficient < POWERS_OF_TEN[digits as usize]
+    coefficient < power_of_ten(digits)
 }
 
 // None, or 1 to 18 digits at second precision.
