@@ -1,9 +1,9 @@
 -- The bytes of each scalar in the terms of the code, and that there are some.
 -- By cases on the argument. Assumes nothing.
-use mathlib.Core.Path.{_≡_, refl}
+use mathlib.Core.Path.{_≡_, refl, sym}
 use mathlib.Core.List.{List, [], _∷_}
 use mathlib.Core.Bool.{Bool, true, false, not}
-use Prim.Native.Nat.{ℕ, _+_, _*_, _<_}
+use Prim.Native.Nat.{ℕ, _+_, _*_, _/_, _<_}
 use native.Mathlib.Omega.{arith}
 use lib.Dec.{eqb}
 use lib.IntN.{ℤ, pos, negsuc, natAbs}
@@ -14,7 +14,7 @@ use Rattle.ion.proofs.Tests.{by-cases}
 use Rattle.encoding.specs.Fields.{uintBytes}
 use Rattle.encoding.specs.Headers.{typeByte, framedBytes}
 use Rattle.encoding.specs.Argument.{Argument, writeNull, writeBool, writeI64, writeInt, writeF32, writeF64, writeDecimal, writeTimestamp, writeSymbol, writeString, writeClob, writeBlob, codeOfSign, float32Bytes, narrows, float64Bytes, argumentBytes, checkedBytes}
-use Rattle.fields.proofs.Headers.{header-least}
+use Rattle.fields.proofs.Headers.{header-least, typeByte-high}
 use Rattle.decimal.proofs.Values.{length-framed}
 use Rattle.scalars.specs.declared.IonType.{IonType}
 use Rattle.scalars.specs.declared.IonType.the-variants as type
@@ -45,6 +45,10 @@ pub i64-bytes : (z : ℤ) → checkedBytes (writeI64 z) ≡ framedBytes (typeByt
 unfolding checkedBytes argumentBytes
 i64-bytes (pos n) = refl
 i64-bytes (negsuc n) = refl
+
+-- by its sign and magnitude; the low four bits of the code do not count
+pub i64-framed : (z : ℤ) (s : Bool) → s ≡ not (nonNeg z) → (code : ℕ) → code ≡ typeByte (codeOfSign s) → (n : ℕ) → n ≡ natAbs z → framedBytes (code / 16 * 16) (uintBytes n) ≡ checkedBytes (writeI64 z)
+i64-framed z s e code f n g = rw (f, typeByte-high (codeOfSign s), e, g) (sym (i64-bytes z))
 
 pub symbol-bytes : (n : ℕ) → checkedBytes (writeSymbol n) ≡ framedBytes 0x70 (uintBytes n)
 unfolding checkedBytes argumentBytes

@@ -1,6 +1,6 @@
 -- `values::timestamp_wrapper` meets its contract: nothing without annotations, else what stands before a value of the timestamp's size.
 -- Assumes nothing.
-use mathlib.Core.Path.{sym, _∙_}
+use mathlib.Core.Path.{sym}
 use native.Mathlib.Omega.{arith}
 use Rattle.values.proofs.Wrapped.{wrapper-none, wrapper-some}
 use borrow.Author.Needs.{needs}
@@ -24,7 +24,7 @@ returns-2 c =
     let w = c .before .before in
     let z = w .before in
     let a = c .before .before .before .before .before .before .before .before .args in
-    w .write-wrapper .ensures ∙ rw (← (z .size .ensures)) (wrapper-some (a .buf .now) (a .at) (a .annotations .now) (omega arith) (z .size .result))
+    rw (← (z .size .ensures), ← (wrapper-some (a .buf .now) (a .at) (a .annotations .now) (omega arith) (z .size .result))) (w .write-wrapper .ensures)
 
 pub timestamp-wrapper-spec : {M : Type 1} → statement M
 timestamp-wrapper-spec =
