@@ -10,7 +10,7 @@ use lib.ListN.{length, getD, length-append}
 use Rattle.encoding.specs.Fields.{varUIntBytes, varUIntsBytes, AllU64}
 use Rattle.encoding.specs.Headers.{annotationBytes}
 use Rattle.fields.proofs.Sizes.{varUInt-least, varUInt-most}
-use Rattle.annotations.specs.Sids.{leastFirst, sidAt, sidCount, sidsUpTo, sidsOf}
+use Rattle.annotations.specs.Sids.{leastFirst, eightBytes, sidAt, sidCount, sidsUpTo, sidsOf}
 
 -- the byte before k - 1 others, of eight
 pub leastFirst-more : (b : List ℕ) (at k : ℕ) → 0 < k → k ≤ 8 → getD b (at + (k - 1)) 0 + 256 * leastFirst b (at + k) (8 - k) ≡ leastFirst b (at + (k - 1)) (8 - (k - 1))
@@ -19,6 +19,15 @@ leastFirst-more b at k p h =
     let n : 8 - (k - 1) ≡ suc (8 - k) = omega arith in
     let e : at + (k - 1) + 1 ≡ at + k = omega arith in
     rw (n, leastFirst, e) refl
+
+leastFirst-next : (b : List ℕ) (at n k : ℕ) → leastFirst b (at + n) (suc k) ≡ getD b (at + n) 0 + 256 * leastFirst b (at + suc n) k
+unfolding leastFirst
+leastFirst-next b at n k = let e : at + n + 1 ≡ at + suc n = omega arith in rw (leastFirst, e) refl
+
+pub leastFirst-eight : (b : List ℕ) (at : ℕ) → eightBytes b at ≡ leastFirst b at 8
+unfolding leastFirst
+leastFirst-eight b at =
+    omega (arith, leastFirst-next b at 1 6, leastFirst-next b at 2 5, leastFirst-next b at 3 4, leastFirst-next b at 4 3, leastFirst-next b at 5 2, leastFirst-next b at 6 1, leastFirst-next b at 7 0)
 
 -- ---- sids are numbers of 64 bits
 

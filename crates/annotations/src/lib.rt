@@ -6,7 +6,7 @@ ghost use lib.ListN.{length, getD};
 ghost use Rattle.encoding.specs.Fields.{varUIntsBytes};
 ghost use Rattle.encoding.specs.Headers.{annotationBytes};
 ghost use Rattle.buffer.specs.Laid.{placed, fitted};
-ghost use Rattle.annotations.specs.Sids.{sidAt, sidCount, sidsOf};
+ghost use Rattle.annotations.specs.Sids.{leastFirst, eightBytes, sidAt, sidCount, sidsOf};
 ghost use Rattle.annotations.specs.Prefix.{prefixBytes, placedBefore};
 
 const SID_BYTES: usize = 8;
@@ -30,12 +30,32 @@ fn sid_count(annotations: &[u8]) -> usize
     (annotations.len() + 7) / SID_BYTES
 }
 
-// The sid at index `i`.
-fn sid_at(annotations: &[u8], i: usize) -> u64
-    requires { ⌜ i < sidCount (now annotations) ⌝ }
-    ensures { λ r. ⌜ r ≡ sidAt (now (annotations .entry)) i ⌝ }
+fn wide(x: u8) -> u64
+    ensures { λ r. ⌜ (r ≡ x) × (r < 256) ⌝ }
 {
-    let at = SID_BYTES * i;
+    x as u64
+}
+
+// The eight bytes from `at` on. The compiler makes one load of a sum in this form.
+fn whole_sid(annotations: &[u8], at: usize) -> u64
+    requires { ⌜ at + 8 ≤ length (now annotations) ⌝ }
+    ensures { λ r. ⌜ r ≡ eightBytes (now (annotations .entry)) at ⌝ }
+{
+    wide(annotations[at])
+        + 256 * wide(annotations[at + 1])
+        + 65536 * wide(annotations[at + 2])
+        + 16777216 * wide(annotations[at + 3])
+        + 4294967296 * wide(annotations[at + 4])
+        + 1099511627776 * wide(annotations[at + 5])
+        + 281474976710656 * wide(annotations[at + 6])
+        + 72057594037927936 * wide(annotations[at + 7])
+}
+
+// The bytes from `at` on where there are fewer than eight.
+fn last_sid(annotations: &[u8], at: usize) -> u64
+    requires { ⌜ at < length (now annotations) ⌝ }
+    ensures { λ r. ⌜ r ≡ leastFirst (now (annotations .entry)) at 8 ⌝ }
+{
     let mut k = SID_BYTES;
     let mut sid: u64 = 0;
     while 0 < k {
@@ -43,6 +63,18 @@ fn sid_at(annotations: &[u8], i: usize) -> u64
         sid = byte_at(annotations, at + k) + 256 * sid;
     }
     sid
+}
+
+// The sid at index `i`.
+fn sid_at(annotations: &[u8], i: usize) -> u64
+    requires { ⌜ i < sidCount (now annotations) ⌝ }
+    ensures { λ r. ⌜ r ≡ sidAt (now (annotations .entry)) i ⌝ }
+{
+    let at = SID_BYTES * i;
+    if at + SID_BYTES <= annotations.len() {
+        return whole_sid(annotations, at);
+    }
+    last_sid(annotations, at)
 }
 
 // The sum of the sids' lengths. A sid takes ten bytes at most for the eight that are lent, so the sum does not wrap.

@@ -1,7 +1,7 @@
 -- Headers by the length of the body, and how many bytes they take.
 -- By the two sides of the length 14. Assumes nothing.
 use mathlib.Core.Path.{_≡_, refl, sym, _∙_, ap}
-use mathlib.Core.List.{[], _∷_}
+use mathlib.Core.List.{List, [], _∷_, _++_}
 use mathlib.Core.Bool.{Bool, true, false}
 use Prim.Native.Nat.{ℕ, _+_, _*_, _/_, _^_, _≤_, _<_}
 use native.Mathlib.Omega.{arith}
@@ -10,7 +10,7 @@ use borrow.Author.Tests.{lt-ltb, le-ltb, ltb-true, ltb-false}
 use lib.ListN.{length}
 use Rattle.ion.specs.Value.{TypeCode, code}
 use Rattle.encoding.specs.Fields.{varUIntBytes}
-use Rattle.encoding.specs.Headers.{typeByte, headerBytes}
+use Rattle.encoding.specs.Headers.{typeByte, headerBytes, framedBytes}
 use Rattle.fields.proofs.Sizes.{varUInt-most}
 
 pub header-short : (t n : ℕ) → n < 14 → headerBytes t n ≡ (t + n) ∷ []
@@ -20,6 +20,11 @@ header-short t n h = rw (headerBytes, lt-ltb n 14 h) refl
 pub header-long : (t n : ℕ) → 14 ≤ n → headerBytes t n ≡ (t + 14) ∷ varUIntBytes n
 unfolding headerBytes
 header-long t n h = rw (headerBytes, le-ltb n 14 h) refl
+
+-- a body of less than 14 bytes
+pub framed-short : (t : ℕ) (body : List ℕ) → length body < 14 → framedBytes t body ≡ (t + length body) ∷ body
+unfolding framedBytes
+framed-short t body h = ap (λ (l : List ℕ). l ++ body) (header-short t (length body) h)
 
 -- the type does not matter
 pub length-header : (t n : ℕ) → length (headerBytes t n) ≡ length (headerBytes 0 n)

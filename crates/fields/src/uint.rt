@@ -1,9 +1,10 @@
 // UInt: big-endian bytes without leading zero bytes.
 ghost use mathlib.Core.Path.{_≡_};
 ghost use mathlib.Core.List.{List};
-ghost use Prim.Native.Nat.{ℕ, _+_};
+ghost use Prim.Native.Nat.{ℕ, _+_, _*_, _/_};
 ghost use lib.ListN.{length};
 ghost use Rattle.encoding.specs.Fields.{uintBytes, fixedBytes, trimmed, orZero};
+ghost use Rattle.encoding.specs.Headers.{framedBytes};
 ghost use Rattle.buffer.specs.Laid.{placed};
 
 // The bytes that `value` takes as a UInt: none for zero.
@@ -29,6 +30,19 @@ pub fn write(buf: &mut [u8], at: usize, value: u64) -> usize
     ensures { λ r. ⌜ _≡_ {A = ℕ × List ℕ} (r, now (buf .exit)) (placed (now (buf .entry)) at (uintBytes value)) ⌝ }
 {
     write_fixed(buf, at, encoded_size_of(value), value)
+}
+
+// A type byte with the size in its low four bits, and `value` as a UInt, which has eight bytes at most. The low four bits of `code` do not count.
+pub fn write_framed(buf: &mut [u8], at: usize, code: u8, value: u64) -> usize
+    ensures { λ r. ⌜ _≡_ {A = ℕ × List ℕ} (r, now (buf .exit)) (placed (now (buf .entry)) at (framedBytes (code / 16 * 16) (uintBytes value))) ⌝ }
+{
+    let size = encoded_size_of(value);
+    if !buffer::has_room(buf.len(), at, size + 1) {
+        return 0;
+    }
+    buf[at] = code / 16 * 16 + size as u8;
+    crate::put_digits(buf, at + 1, size, 8, value);
+    1 + size
 }
 
 // How many leading bytes of a big-endian magnitude are zero.

@@ -1,9 +1,9 @@
 -- The bytes of each scalar in the terms of the code, and that there are some.
 -- By cases on the argument. Assumes nothing.
-use mathlib.Core.Path.{_≡_, refl, ap}
-use mathlib.Core.List.{List, [], _∷_, _++_}
+use mathlib.Core.Path.{_≡_, refl, sym}
+use mathlib.Core.List.{List, [], _∷_}
 use mathlib.Core.Bool.{Bool, true, false, not}
-use Prim.Native.Nat.{ℕ, _+_, _*_, _<_}
+use Prim.Native.Nat.{ℕ, _+_, _*_, _/_, _<_}
 use native.Mathlib.Omega.{arith}
 use lib.Dec.{eqb}
 use lib.IntN.{ℤ, pos, negsuc, natAbs}
@@ -14,7 +14,7 @@ use Rattle.ion.proofs.Tests.{by-cases}
 use Rattle.encoding.specs.Fields.{uintBytes}
 use Rattle.encoding.specs.Headers.{typeByte, framedBytes}
 use Rattle.encoding.specs.Argument.{Argument, writeNull, writeBool, writeI64, writeInt, writeF32, writeF64, writeDecimal, writeTimestamp, writeSymbol, writeString, writeClob, writeBlob, codeOfSign, float32Bytes, narrows, float64Bytes, argumentBytes, checkedBytes}
-use Rattle.fields.proofs.Headers.{header-short, header-least}
+use Rattle.fields.proofs.Headers.{header-least, typeByte-high}
 use Rattle.decimal.proofs.Values.{length-framed}
 use Rattle.scalars.specs.declared.IonType.{IonType}
 use Rattle.scalars.specs.declared.IonType.the-variants as type
@@ -46,6 +46,10 @@ unfolding checkedBytes argumentBytes
 i64-bytes (pos n) = refl
 i64-bytes (negsuc n) = refl
 
+-- by its sign and magnitude; the low four bits of the code do not count
+pub i64-framed : (z : ℤ) (s : Bool) → s ≡ not (nonNeg z) → (code : ℕ) → code ≡ typeByte (codeOfSign s) → (n : ℕ) → n ≡ natAbs z → framedBytes (code / 16 * 16) (uintBytes n) ≡ checkedBytes (writeI64 z)
+i64-framed z s e code f n g = rw (f, typeByte-high (codeOfSign s), e, g) (sym (i64-bytes z))
+
 pub symbol-bytes : (n : ℕ) → checkedBytes (writeSymbol n) ≡ framedBytes 0x70 (uintBytes n)
 unfolding checkedBytes argumentBytes
 symbol-bytes n = refl
@@ -57,11 +61,6 @@ f32-bytes b = refl
 pub f64-bytes : (b : ℕ) → checkedBytes (writeF64 b) ≡ float64Bytes b
 unfolding checkedBytes argumentBytes
 f64-bytes b = refl
-
--- a body of less than 14 bytes
-pub framed-short : (t : ℕ) (body : List ℕ) → length body < 14 → framedBytes t body ≡ (t + length body) ∷ body
-unfolding framedBytes
-framed-short t body h = ap (λ (l : List ℕ). l ++ body) (header-short t (length body) h)
 
 -- the sign chooses the type byte of an int
 pub sign-byte : (s : Bool) → 0x20 + 0x10 * boolByte s ≡ typeByte (codeOfSign s)

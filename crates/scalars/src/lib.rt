@@ -3,11 +3,10 @@
 ghost use mathlib.Core.Path.{_≡_};
 ghost use mathlib.Core.Bool.{_&&_};
 ghost use mathlib.Core.List.{List};
-ghost use Prim.Native.Nat.{ℕ, _*_, _/_, _<_};
+ghost use Prim.Native.Nat.{ℕ, _*_, _/_};
 ghost use lib.Dec.{eqb};
 ghost use lib.ListN.{length};
 ghost use Rattle.ion.specs.Fields.{uint};
-ghost use Rattle.encoding.specs.Fields.{uintBytes};
 ghost use Rattle.encoding.specs.Headers.{typeByte, framedBytes};
 ghost use Rattle.encoding.specs.Argument.{codeOfSign, checkedBytes, writeNull, writeBool, writeI64, writeInt, writeSymbol};
 ghost use Rattle.buffer.specs.Laid.{placed, fitted};
@@ -83,22 +82,9 @@ pub fn write_bool(buf: &mut [u8], at: usize, value: bool) -> usize
     buffer::put(buf, at, BOOL + value as u8)
 }
 
-// A type byte with the size in its low four bits, and `value` as a UInt, which has eight bytes at most.
-fn write_uint(buf: &mut [u8], at: usize, code: u8, value: u64) -> usize
-    requires { ⌜ code < 0xF0 ⌝ }
-    ensures { λ r. ⌜ _≡_ {A = ℕ × List ℕ} (r, now (buf .exit)) (placed (now (buf .entry)) at (framedBytes code (uintBytes value))) ⌝ }
-{
-    let size = fields::uint::encoded_size_of(value);
-    if !buffer::has_room(buf.len(), at, size + 1) {
-        return 0;
-    }
-    buf[at] = code + size as u8;
-    1 + fields::uint::write_fixed(buf, at + 1, size, value)
-}
-
 // 2 for zero and above, 3 below.
 fn int_code(negative: bool) -> u8
-    ensures { λ r. ⌜ (r ≡ typeByte (codeOfSign negative)) × (r < 0xF0) ⌝ }
+    ensures { λ r. ⌜ r ≡ typeByte (codeOfSign negative) ⌝ }
 {
     INT + NEGATIVE * (negative as u8)
 }
@@ -107,7 +93,7 @@ fn int_code(negative: bool) -> u8
 pub fn write_i64(buf: &mut [u8], at: usize, value: i64) -> usize
     ensures { λ r. ⌜ _≡_ {A = ℕ × List ℕ} (r, now (buf .exit)) (placed (now (buf .entry)) at (checkedBytes (writeI64 value))) ⌝ }
 {
-    write_uint(
+    fields::uint::write_framed(
         buf,
         at,
         int_code(fields::sign::is_negative(value)),
@@ -119,7 +105,7 @@ pub fn write_i64(buf: &mut [u8], at: usize, value: i64) -> usize
 pub fn write_symbol(buf: &mut [u8], at: usize, sid: u64) -> usize
     ensures { λ r. ⌜ _≡_ {A = ℕ × List ℕ} (r, now (buf .exit)) (placed (now (buf .entry)) at (checkedBytes (writeSymbol sid))) ⌝ }
 {
-    write_uint(buf, at, SYMBOL, sid)
+    fields::uint::write_framed(buf, at, SYMBOL, sid)
 }
 
 // A body of any length behind its header: strings, clobs and blobs. The low four bits of `code` do not count.

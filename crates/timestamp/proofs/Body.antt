@@ -17,7 +17,7 @@ use Rattle.timestamp.specs.declared.Precision.{Precision}
 use Rattle.timestamp.specs.declared.Precision.the-variants.{Year, Month, Day, Minute, Second}
 use Rattle.timestamp.specs.declared.Timestamp.{Timestamp}
 use Rattle.timestamp.specs.Arguments.{offsetMinutes, fractionDigits, fieldCount, fieldsBy, fieldsOf}
-use Rattle.timestamp.specs.Small.{SmallOffset, SmallFields, SmallFraction, Small, endBytes, bodyOf}
+use Rattle.timestamp.specs.Small.{SmallOffset, SmallFields, SmallFraction, Small, SmallParts, endBytes, bodySize, bodyOf}
 use Rattle.timestamp.proofs.Bytes.{varUInt-length, varInt-length, small-bytes}
 use Rattle.timestamp.proofs.Fractions.{fractionBytes-is, coefficient-most}
 
@@ -38,6 +38,21 @@ offset-most (some (negsuc n)) h = rw (← varInt-length true (suc n) h) (omega (
 fraction-most : (x : Fraction) → SmallFraction x → length (fractionBytes x) ≤ 9
 fraction-most noFraction h = omega arith
 fraction-most (fraction k c) h = rw (fractionBytes-is k c (h .0) (h .1)) (omega (arith, coefficient-most c (h .2)))
+
+-- by their UTC year
+module _ (t : Timestamp) (y : ℕ) (h : SmallParts t y) where
+  pub offset-length : length (offsetBytes (offsetMinutes (t .offset))) ≤ 2
+  offset-length = offset-most (offsetMinutes (t .offset)) (h .offset)
+
+  pub year-length : length (varUIntBytes y) ≤ 2
+  year-length = rw (← varUInt-length y (h .year)) (omega (arith, boolByte-most (leb 128 y)))
+
+  pub fraction-length : length (fractionBytes (fractionDigits (t .fraction))) ≤ 9
+  fraction-length = fraction-most (fractionDigits (t .fraction)) (h .fraction)
+
+  pub bodySize-most : bodySize t y ≤ 18
+  unfolding bodySize
+  bodySize-most = omega (arith, offset-length, year-length, fieldCount-between (t .precision), fraction-length)
 
 module _ (t : Timestamp) where
   -- the fields from the month down, and as many of them as there are
@@ -78,14 +93,12 @@ module _ (t : Timestamp) where
     pub body-length : length (bodyOf t) ≡ length (offsetBytes (offsetMinutes (t .offset))) + (length (varUIntBytes (t .year)) + belowCount + length (fractionBytes (fractionDigits (t .fraction))))
     body-length = rw body-bytes (simp length-append (rw length-below))
 
-    pub offset-length : length (offsetBytes (offsetMinutes (t .offset))) ≤ 2
-    offset-length = offset-most (offsetMinutes (t .offset)) (h .offset)
+    pub small-parts : SmallParts t (t .year)
+    small-parts = record { offset = h .offset; year = year-small; fraction = h .fraction }
 
-    pub year-length : length (varUIntBytes (t .year)) ≤ 2
-    year-length = rw (← varUInt-length (t .year) year-small) (omega (arith, boolByte-most (leb 128 (t .year))))
-
-    pub fraction-length : length (fractionBytes (fractionDigits (t .fraction))) ≤ 9
-    fraction-length = fraction-most (fractionDigits (t .fraction)) (h .fraction)
+    pub body-size : length (bodyOf t) ≡ bodySize t (t .year)
+    unfolding bodySize
+    body-size = body-length
 
     pub body-most : length (bodyOf t) ≤ 18
-    body-most = rw body-length (omega (arith, offset-length, year-length, belowCount-most, fraction-length))
+    body-most = rw body-size (bodySize-most t (t .year) small-parts)

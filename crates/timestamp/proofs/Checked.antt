@@ -2,7 +2,7 @@
 -- By the limit of 18 bytes. Assumes nothing.
 use Prim.Native.Nat.{ℕ, _+_, _≤_}
 use native.Mathlib.Omega.{arith}
-use mathlib.Core.Path.{_≡_, sym, _∙_, ap}
+use mathlib.Core.Path.{_≡_, refl, sym, _∙_, ap}
 use mathlib.Core.Bool.{Bool, true, false}
 use mathlib.Core.List.{List, []}
 use borrow.Author.Tests.{le-ltb}
@@ -18,9 +18,9 @@ use Rattle.decimal.proofs.Values.{checkedBytes-refused, checkedBytes-accepted, 
 use Rattle.timestamp.specs.declared.Timestamp.{Timestamp}
 use Rattle.timestamp.specs.Arguments.{offsetMinutes, fractionDigits, fieldsOf, argumentOf}
 use Rattle.timestamp.specs.Utc.{withFields}
-use Rattle.timestamp.specs.Small.{Small, bodyOf, valueOf}
+use Rattle.timestamp.specs.Small.{Small, SmallParts, bodySize, valueSize, bodyOf, valueOf}
 use Rattle.timestamp.proofs.Small.{utc-small, utc-body}
-use Rattle.timestamp.proofs.Body.{body-most}
+use Rattle.timestamp.proofs.Body.{bodySize-most, small-parts, body-size, body-most}
 
 module _ (t : Timestamp) where
   abbrev isValid : Bool
@@ -43,11 +43,28 @@ module _ (t : Timestamp) where
   pub refused : isValid ≡ false → checkedBytes (argumentOf t) ≡ []
   refused v = checkedBytes-refused (argumentOf t) (rw v)
 
-  -- the value by the lengths of header and body
-  module _ (h : Small t) (body : ℕ) (q : body ≡ length (bodyOf t)) (header : ℕ) (k : header ≡ length (headerBytes 0 body)) where
-    pub value-length : header + body ≡ length (valueOf t)
-    unfolding valueOf
-    value-length = rw (length-framed (typeByte timestampCode) (bodyOf t), ← q, k)
+  -- the size by that of the body
+  module _ (y : ℕ) (h : SmallParts t y) (body : ℕ) (q : body ≡ bodySize t y) (header : ℕ) (k : header ≡ length (headerBytes 0 body)) where
+    pub value-size : header + body ≡ valueSize t y
+    unfolding valueSize
+    value-size = rw (k, q)
 
     pub value-fits : Fits w64 (header + body)
-    value-fits = record { fits = omega (arith, body-most t h, header-most 0 body (omega (arith, body-most t h))) }
+    value-fits = record { fits = omega (arith, bodySize-most t y h, header-most 0 body (omega (arith, bodySize-most t y h))) }
+
+  pub value-length : Small t → valueSize t (t .year) ≡ length (valueOf t)
+  unfolding valueSize valueOf
+  value-length h = rw (← (body-size t h)) (sym (length-framed (typeByte timestampCode) (bodyOf t)))
+
+module _ (t : Timestamp) (v : isTimestamp (offsetMinutes (t .offset)) (fieldsOf t) (fractionDigits (t .fraction)) ≡ true) where
+  -- with its UTC fields
+  abbrev inUtc : Timestamp
+  inUtc = withFields t (utc (offsetMinutes (t .offset)) (fieldsOf t))
+
+  pub utc-parts : SmallParts t (inUtc .year)
+  unfolding withFields
+  utc-parts = let p = small-parts inUtc (utc-small t v) in record { offset = p .offset; year = p .year; fraction = p .fraction }
+
+  pub accepted-size : valueSize t (inUtc .year) ≡ length (checkedBytes (argumentOf t))
+  unfolding withFields valueSize bodySize
+  accepted-size = value-length inUtc (utc-small t v) ∙ ap length (accepted t v inUtc refl)

@@ -108,6 +108,14 @@ module _ (t : Timestamp) where
   pub utc-unknown : t .offset ≡ Unknown → t ≡ withFields t (utc (offsetMinutes (t .offset)) (fieldsOf t))
   utc-unknown e = withFields-same t (t .precision) ∙ ap (λ (o : Offset). withFields t (utc (offsetMinutes o) (fieldsOf t))) (sym e)
 
+  -- by the day that the minute is of
+  pub utc-year-known : (z : ℤ) → t .offset ≡ Minutes z → 5 ≤ fieldCount (t .precision) →
+      (y m d : ℕ) → date y m d ≡ nearDay (utcMinutes z (t .hour) (t .minute) / 1440) (t .year) (t .month) (t .day) → y ≡ withFields t (utc (offsetMinutes (t .offset)) (fieldsOf t)) .year
+  unfolding withFields
+  utc-year-known z e h y m d q =
+      let s : y ≡ withFields t (utcFields (utcMinutes z (t .hour) (t .minute)) (t .year) (t .month) (t .day) []) .year = rw (← q) in
+      s ∙ ap (λ (u : Timestamp). u .year) (utc-known z e h)
+
   pub utcOf-valid : isTimestamp (offsetMinutes (t .offset)) (fieldsOf t) (fractionDigits (t .fraction)) ≡ true → withFields t (utc (offsetMinutes (t .offset)) (fieldsOf t)) ≡ utcOf t
   unfolding utcOf
   utcOf-valid e = rw (e, utcOf)

@@ -1,15 +1,14 @@
 -- Check 7 from its tests in field order, and what each tells once it is passed.
 -- By cases on the precision. Assumes nothing.
-use Prim.Native.Nat.{ℕ, zero, suc, _+_, _^_, _≤_, _<_}
+use Prim.Native.Nat.{ℕ, zero, suc, _^_, _≤_, _<_}
 use native.Mathlib.Omega.{arith}
-use native.Mathlib.Nat.{add-zero, zero-add}
 use mathlib.Core.Path.{_≡_, refl, sym, _∙_}
-use mathlib.Core.Bool.{Bool, true, false, _&&_, _||_, and-assoc, and-true, and-false}
+use mathlib.Core.Bool.{Bool, true, false, cond, _&&_, _||_, and-assoc, and-true, and-false}
 use mathlib.Core.List.{List, [], _∷_}
 use mathlib.Core.Option.{Option, some}
-use borrow.Author.Tests.{leb-true, ltb-true, le-leb, le-ltb, eqb-true}
-use lib.Dec.{leb, ltb, eqb}
-use lib.ListN.{length, getD}
+use borrow.Author.Tests.{leb-true, ltb-true, le-leb, lt-leb, le-ltb}
+use lib.Dec.{leb, ltb}
+use lib.ListN.{length}
 use lib.IntN.{ℤ, pos, negsuc, natAbs}
 use Rattle.ion.specs.Value.{Fraction}
 use Rattle.ion.specs.Calendar.{daysInMonth, isMonth}
@@ -89,23 +88,21 @@ offset-known p y m d h i s z e =
     let k = both {a = leb 5 (fieldCount p)} (offsetFits-magnitude z (fieldsBy p y m d h i s) (fieldCount p) (length-fieldsBy p y m d h i s) ∙ e) in
     (leb-true 5 (fieldCount p) (k .0), leb-true (natAbs z) 1439 (k .1))
 
--- the powers of ten that 64 bits hold, up to eighteen zeros
-abbrev powers : List ℕ
-powers =
-    1 ∷ 10 ∷ 100 ∷ 1000 ∷ 10000 ∷ 100000 ∷ 1000000 ∷ 10000000 ∷ 100000000 ∷ 1000000000 ∷ 10000000000 ∷ 100000000000 ∷ 1000000000000
-    ∷ 10000000000000 ∷ 100000000000000 ∷ 1000000000000000 ∷ 10000000000000000 ∷ 100000000000000000 ∷ 1000000000000000000 ∷ []
+-- ---- the powers of ten up to eighteen zeros
 
--- each number is ten to its place, counted from k
-abbrev areTens : ℕ → List ℕ → Bool
-areTens k [] = true
-areTens k (x ∷ xs) = eqb x (10 ^ k) && areTens (suc k) xs
+-- k is none of the numbers below n, as a match on k leaves it
+abbrev NoneBelow : ℕ → ℕ → Type 0
+NoneBelow k zero = Unit {0}
+NoneBelow k (suc n) = NoneBelow k n × (k ≡ n → ⊥)
 
-areTens-at : (xs : List ℕ) (k i : ℕ) → areTens k xs ≡ true → i < length xs → getD xs i 0 ≡ 10 ^ (k + i)
-areTens-at [] k i e h = absurd (omega arith)
-areTens-at (x ∷ xs) k zero e h = eqb-true x (10 ^ k) (both {a = eqb x (10 ^ k)} e .0) ∙ rw add-zero
-areTens-at (x ∷ xs) k (suc i) e h =
-    let n : suc k + i ≡ k + suc i = omega arith in
-    areTens-at xs (suc k) i (both {a = eqb x (10 ^ k)} e .1) (omega arith) ∙ rw n
+none-below : (k n : ℕ) → NoneBelow k n → n ≤ k
+none-below k zero h = omega arith
+none-below k (suc n) h = omega (arith, h .1, none-below k n (h .0))
 
-pub power-of-ten : (k : ℕ) → k ≤ 18 → getD powers k 0 ≡ 10 ^ k
-power-of-ten k h = areTens-at powers 0 k refl (omega arith) ∙ rw zero-add
+pub power-past : (k : ℕ) → NoneBelow k 19 → 0 ≡ cond (leb k 18) (10 ^ k) 0
+power-past k h = rw (lt-leb k 18 (none-below k 19 h))
+
+-- no number is below 0
+pub below-if : (b : Bool) (c n : ℕ) → ltb c (cond b n 0) ≡ (b && ltb c n)
+below-if true c n = refl
+below-if false c n = le-ltb c 0 (omega arith)

@@ -1,7 +1,7 @@
 // Timestamps: document 01's modules types/timestamp and binary/timestamp.
 // A field is 32 bits wide and never cut: a year of 70000 is a bad year.
 ghost use mathlib.Core.Path.{_≡_};
-ghost use mathlib.Core.Bool.{true, _&&_};
+ghost use mathlib.Core.Bool.{true, cond, _&&_};
 ghost use mathlib.Core.List.{List, [], _∷_};
 ghost use Prim.Native.Nat.{ℕ, _+_, _^_, _≤_, _<_};
 ghost use lib.Dec.{ltb, leb};
@@ -15,7 +15,7 @@ ghost use Rattle.encoding.specs.Argument.{checkedBytes};
 ghost use Rattle.encoding.specs.Timestamp.{offsetBytes, fractionBytes, dayBefore, dayAfter, nearDay, utcMinutes, utcFields, utc, offsetFits, fractionFits, isTimestamp};
 ghost use Rattle.timestamp.specs.Arguments.{offsetMinutes, fractionDigits, fieldCount, fieldsOf, argumentOf};
 ghost use Rattle.timestamp.specs.Utc.{dateOf, withFields, utcOf};
-ghost use Rattle.timestamp.specs.Small.{SmallOffset, SmallFraction, Small, endBytes, bodyOf, valueOf};
+ghost use Rattle.timestamp.specs.Small.{SmallOffset, SmallFraction, SmallParts, Small, endBytes, bodySize, valueSize, bodyOf, valueOf};
 
 // The last field that counts; those below it mean nothing. With a minute there is an hour.
 pub enum Precision {
@@ -126,37 +126,39 @@ fn offset_fits(offset: Offset, fields: u32) -> bool
     }
 }
 
-// Ten to each count of digits that a fraction may have.
-const POWERS_OF_TEN: [u64; 19] = [
-    1,
-    10,
-    100,
-    1_000,
-    10_000,
-    100_000,
-    1_000_000,
-    10_000_000,
-    100_000_000,
-    1_000_000_000,
-    10_000_000_000,
-    100_000_000_000,
-    1_000_000_000_000,
-    10_000_000_000_000,
-    100_000_000_000_000,
-    1_000_000_000_000_000,
-    10_000_000_000_000_000,
-    100_000_000_000_000_000,
-    1_000_000_000_000_000_000,
-];
+// Ten to a count of digits that a fraction may have; 0 for a larger count, so that no coefficient is below it.
+fn power_of_ten(digits: u32) -> u64
+    ensures { λ r. ⌜ r ≡ cond (leb digits 18) (10 ^ digits) 0 ⌝ }
+{
+    match digits {
+        0 => 1,
+        1 => 10,
+        2 => 100,
+        3 => 1_000,
+        4 => 10_000,
+        5 => 100_000,
+        6 => 1_000_000,
+        7 => 10_000_000,
+        8 => 100_000_000,
+        9 => 1_000_000_000,
+        10 => 10_000_000_000,
+        11 => 100_000_000_000,
+        12 => 1_000_000_000_000,
+        13 => 10_000_000_000_000,
+        14 => 100_000_000_000_000,
+        15 => 1_000_000_000_000_000,
+        16 => 10_000_000_000_000_000,
+        17 => 100_000_000_000_000_000,
+        18 => 1_000_000_000_000_000_000,
+        _ => 0,
+    }
+}
 
 // At most 18 digits, and a coefficient below ten to their count.
 fn digits_hold(digits: u32, coefficient: u64) -> bool
     ensures { λ r. ⌜ r ≡ (leb digits 18 && ltb coefficient (10 ^ digits)) ⌝ }
 {
-    if 18 < digits {
-        return false;
-    }
-    coefficient < POWERS_OF_TEN[digits as usize]
+    coefficient < power_of_ten(digits)
 }
 
 // None, or 1 to 18 digits at second precision.
@@ -274,6 +276,26 @@ fn utc_of_valid(t: Timestamp) -> Timestamp
     match offset {
         Offset::Unknown => t,
         Offset::Minutes(minutes) => at_minute(t, utc_minutes(minutes, t.hour, t.minute)),
+    }
+}
+
+// The year of `utc_of_valid`.
+fn utc_year(t: Timestamp) -> u32
+    requires { ⌜ isTimestamp (offsetMinutes (t .offset)) (fieldsOf t) (fractionDigits (t .fraction)) ≡ true ⌝ }
+    ensures { λ r. ⌜ r ≡ withFields t (utc (offsetMinutes (t .offset)) (fieldsOf t)) .year ⌝ }
+{
+    let offset = t.offset;
+    match offset {
+        Offset::Unknown => t.year,
+        Offset::Minutes(minutes) => {
+            let day = near_day(
+                utc_minutes(minutes, t.hour, t.minute) / 1440,
+                t.year,
+                t.month,
+                t.day,
+            );
+            day.0
+        }
     }
 }
 
@@ -433,15 +455,16 @@ fn fraction_size(fraction: Fraction) -> usize
     }
 }
 
-fn body_size(t: Timestamp) -> usize
-    requires { ⌜ Small t ⌝ }
-    ensures { λ r. ⌜ r ≡ length (bodyOf t) ⌝ }
+// The size of the body by the UTC year; the other fields count by their number alone.
+fn body_size(t: Timestamp, year: u32) -> usize
+    requires { ⌜ SmallParts t year ⌝ }
+    ensures { λ r. ⌜ r ≡ bodySize t year ⌝ }
 {
     let precision = t.precision;
     let offset = t.offset;
     let fraction = t.fraction;
     offset_size(offset)
-        + (year_size(t.year) + (field_count(precision) as usize - 1) + fraction_size(fraction))
+        + (year_size(year) + (field_count(precision) as usize - 1) + fraction_size(fraction))
 }
 
 // Offset, UTC fields, fraction.
@@ -469,11 +492,12 @@ fn put_body(buf: &mut [u8], at: usize, t: Timestamp) -> usize
     three + put_fraction(buf, at + three, fraction)
 }
 
-fn value_size(t: Timestamp) -> usize
-    requires { ⌜ Small t ⌝ }
-    ensures { λ r. ⌜ r ≡ length (valueOf t) ⌝ }
+// Header and body.
+fn value_size(t: Timestamp, year: u32) -> usize
+    requires { ⌜ SmallParts t year ⌝ }
+    ensures { λ r. ⌜ r ≡ valueSize t year ⌝ }
 {
-    let body = body_size(t);
+    let body = body_size(t, year);
     fields::header::encoded_size_of(body) + body
 }
 
@@ -481,7 +505,7 @@ fn put_value(buf: &mut [u8], at: usize, t: Timestamp) -> usize
     requires { ⌜ Small t ⌝ }
     ensures { λ r. ⌜ _≡_ {A = ℕ × List ℕ} (r, now (buf .exit)) (placed (now (buf .entry)) at (valueOf t)) ⌝ }
 {
-    let body = body_size(t);
+    let body = body_size(t, t.year);
     let size = fields::header::encoded_size_of(body) + body;
     if !buffer::has_room(buf.len(), at, size) {
         return 0;
@@ -497,7 +521,7 @@ pub fn size(t: Timestamp, room: usize) -> usize
     if !is_valid(t) {
         return 0;
     }
-    let size = value_size(utc_of_valid(t));
+    let size = value_size(t, utc_year(t));
     if room < size {
         return 0;
     }

@@ -5,8 +5,11 @@ use mathlib.Core.List.{List, [], _∷_}
 use mathlib.Core.Logic.{_⊎_, inl, inr, ⊎-elim}
 use Prim.Native.Nat.{ℕ, zero, suc, _+_, _≤_, _<_}
 use native.Mathlib.Omega.{arith}
+use mathlib.Core.Bool.{Bool, true, false, false≢true, not, _&&_}
+use borrow.Author.Tests.{eqb-true, eqb-false, not-true}
+use lib.Dec.{eqb}
 use lib.ListN.{length, length-append}
-use Rattle.ion.proofs.Tests.{by-cases}
+use Rattle.ion.proofs.Tests.{by-cases, both}
 use Rattle.encoding.specs.Headers.{annotatedBytes}
 use Rattle.encoding.specs.Argument.{Argument, argumentBytes, argumentChecks, anyHolds, checkedBytes}
 use Rattle.encoding.proofs.Headers.{annotated-longer}
@@ -15,12 +18,12 @@ use Rattle.buffer.proofs.Laid.{placed-or, placed-nil, placed-full, placed-most,
 use Rattle.annotations.specs.Sids.{sidsOf}
 use Rattle.annotations.specs.Prefix.{prefixBytes, placedBefore}
 use Rattle.annotations.proofs.Fitted.{fitted-or}
-use Rattle.annotations.proofs.Sids.{annotations-least, sids-some}
+use Rattle.annotations.proofs.Sids.{annotations-least, sids-none, sids-some}
 use Rattle.annotations.proofs.Prefix.{annotated-prefix, length-prefix, placedBefore-fits, placedBefore-full, prefix-then}
 use Rattle.decimal.proofs.Values.{checkedBytes-refused, checkedBytes-accepted}
 use Rattle.scalars.proofs.Bytes.{argument-some}
-use Rattle.values.specs.Values.{annotatedChecked, prefixFor}
-use Rattle.values.proofs.Checked.{annotated-refused, annotated-accepted}
+use Rattle.values.specs.Values.{annotatedChecked, prefixFor, placedWrapper}
+use Rattle.values.proofs.Checked.{annotated-refused, annotated-accepted, unannotated}
 
 -- the annotated value of these bytes; no bytes are no value
 abbrev pub annotatedAny : List ℕ → List ℕ → List ℕ
@@ -131,3 +134,62 @@ module _ (b : List ℕ) (at : ℕ) (notes : List ℕ) (some : 0 < length notes) 
 
   pub wrapped-bytes : (v : List ℕ) → 0 < length v → size ≡ fitted (length b) v → Wrapped b at v (annotatedBytes (sidsOf notes) v) p l
   wrapped-bytes v q e = rw (← (annotatedAny-some (sidsOf notes) v q)) (wrapped v e)
+
+-- ---- a wrapper where there are annotations
+
+-- what is put is in the list
+placed-within : (b : List ℕ) (at : ℕ) (xs : List ℕ) (n : ℕ) (l : List ℕ) → _≡_ {A = ℕ × List ℕ} (n, l) (placed b at xs) → n ≤ length b
+placed-within b at xs n l e = ⊎-elim
+    (λ o. let k = ap (λ (r : ℕ × List ℕ). r .0) (e ∙ o .1) in omega (arith, o .0))
+    (λ o. let k = ap (λ (r : ℕ × List ℕ). r .0) (e ∙ o .1) in omega arith)
+    (placed-or b at xs)
+
+pub wrapper-none : (b : List ℕ) (at : ℕ) (notes : List ℕ) → length notes ≡ 0 → (size : ℕ) → placedWrapper b at (sidsOf notes) size ≡ (0, b)
+wrapper-none b at notes z size = rw (sids-none notes z) refl
+
+pub wrapper-some : (b : List ℕ) (at : ℕ) (notes : List ℕ) → 0 < length notes → (size : ℕ) → placedBefore b at (prefixFor (sidsOf notes) size) size ≡ placedWrapper b at (sidsOf notes) size
+wrapper-some b at notes h size = let s = sids-some notes h in rw (s .2) refl
+
+-- the value is refused, or does not fit behind its wrapper
+abbrev pub noWrapper : ℕ → List ℕ → Bool
+noWrapper p notes = eqb p 0 && not (eqb (length notes) 0)
+
+-- what the call that puts the wrapper, if any, answered (p) and left (l)
+module _ (b : List ℕ) (at : ℕ) (notes : List ℕ) (a : Argument) (p : ℕ) (l : List ℕ)
+    (w : _≡_ {A = ℕ × List ℕ} (p, l) (placedWrapper b at (sidsOf notes) (fitted (length b) (checkedBytes a)))) where
+  -- without annotations nothing is put
+  plain : eqb (length notes) 0 ≡ true → _≡_ {A = ℕ × List ℕ} (p, l) (0, b)
+  plain e = w ∙ wrapper-none b at notes (eqb-true (length notes) 0 e) (fitted (length b) (checkedBytes a))
+
+  annotated : 0 < length notes → Wrapped b at (checkedBytes a) (annotatedChecked (sidsOf notes) a) p l
+  annotated h = wrapped-scalar b at notes h (fitted (length b) (checkedBytes a)) p l (w ∙ sym (wrapper-some b at notes h (fitted (length b) (checkedBytes a)))) a refl
+
+  some-notes : eqb (length notes) 0 ≡ false → 0 < length notes
+  some-notes e = let n = eqb-false (length notes) 0 e in omega arith
+
+  pub wrapper-refused : noWrapper p notes ≡ true → _≡_ {A = ℕ × List ℕ} (0, l) (placed b at (annotatedChecked (sidsOf notes) a))
+  wrapper-refused e = let t = both {a = eqb p 0} e in annotated (some-notes (not-true (eqb (length notes) 0) (t .1))) .none (eqb-true p 0 (t .0))
+
+  some-bytes : noWrapper p notes ≡ false → eqb (length notes) 0 ≡ false → 0 < p
+  some-bytes e f = by-cases (eqb p 0)
+      (λ t. absurd (false≢true (sym (rw (t, f) at e))))
+      (λ t. let n = eqb-false p 0 t in omega arith)
+
+  module _ (e : noWrapper p notes ≡ false) where
+    pub wrapper-room : (m : ℕ) → at < m → length b < m → at + p < m
+    wrapper-room m h k = by-cases (eqb (length notes) 0)
+        (λ f. let z = ap (λ (x : ℕ × List ℕ). x .0) (plain f) in omega arith)
+        (λ f. omega (arith, annotated (some-notes f) .room (some-bytes e f)))
+
+    pub wrapper-behind : (m : ℕ) (l′ : List ℕ) → _≡_ {A = ℕ × List ℕ} (m, l′) (placed l (at + p) (checkedBytes a)) → _≡_ {A = ℕ × List ℕ} (p + m, l′) (placed b at (annotatedChecked (sidsOf notes) a))
+    wrapper-behind m l′ g = by-cases (eqb (length notes) 0)
+        (λ f.
+        let x = ap (λ (r : ℕ × List ℕ). r .0) (plain f) in
+        let y = ap (λ (r : ℕ × List ℕ). r .1) (plain f) in
+        let u : at + p ≡ at = omega arith in
+        let v : p + m ≡ m = omega arith in
+        unannotated b at notes a (eqb-true (length notes) 0 f) (p + m) l′ (rw v (rw (y, u) at g)))
+        (λ f. annotated (some-notes f) .behind (some-bytes e f) m l′ g)
+
+    pub wrapper-count : (m : ℕ) (l′ : List ℕ) → _≡_ {A = ℕ × List ℕ} (m, l′) (placed l (at + p) (checkedBytes a)) → p + m ≤ length b
+    wrapper-count m l′ g = placed-within b at (annotatedChecked (sidsOf notes) a) (p + m) l′ (wrapper-behind m l′ g)

@@ -6,13 +6,13 @@ ghost use mathlib.Core.List.{List};
 ghost use Prim.Native.Nat.{ℕ, _*_, _/_, _<_};
 ghost use lib.ListN.{length};
 ghost use Rattle.encoding.specs.Headers.{framedBytes, annotatedBytes};
-ghost use Rattle.encoding.specs.Argument.{writeNull, writeBool, writeI64, writeInt, writeF32, writeF64, writeDecimal, writeSymbol, writeString, writeClob, writeBlob};
-ghost use Rattle.buffer.specs.Laid.{placed};
+ghost use Rattle.encoding.specs.Argument.{checkedBytes, writeNull, writeBool, writeI64, writeInt, writeF32, writeF64, writeDecimal, writeSymbol, writeString, writeClob, writeBlob};
+ghost use Rattle.buffer.specs.Laid.{placed, fitted};
 ghost use Rattle.annotations.specs.Sids.{sidsOf};
 ghost use Rattle.annotations.specs.Prefix.{placedBefore};
 ghost use Rattle.timestamp.specs.Arguments.{argumentOf};
 ghost use Rattle.scalars.specs.Types.{typeOf, scalarArgument};
-ghost use Rattle.values.specs.Values.{annotatedChecked, prefixFor};
+ghost use Rattle.values.specs.Values.{annotatedChecked, prefixFor, placedWrapper};
 pub use scalars::IonType;
 use scalars::Scalar;
 pub use scalars::is_negative_zero;
@@ -163,15 +163,22 @@ pub fn write_decimal(
     wrapper + decimal::write(buf, at + wrapper, negative, coefficient, exponent)
 }
 
+// What stands before a timestamp: nothing without annotations, where the value does not fit behind them, or where check 7 refuses it.
+fn timestamp_wrapper(buf: &mut [u8], at: usize, annotations: &[u8], value: Timestamp) -> usize
+    ensures { λ r. ⌜ _≡_ {A = ℕ × List ℕ} (r, now (buf .exit)) (placedWrapper (now (buf .entry)) at (sidsOf (now (annotations .entry))) (fitted (length (now (buf .entry))) (checkedBytes (argumentOf value)))) ⌝ }
+{
+    if annotations.len() == 0 {
+        return 0;
+    }
+    write_wrapper(buf, at, annotations, timestamp::size(value, buf.len()))
+}
+
 // Local fields. One that breaks the rules of check 7 is refused.
 pub fn write_timestamp(buf: &mut [u8], at: usize, annotations: &[u8], value: Timestamp) -> usize
     ensures { λ r. ⌜ _≡_ {A = ℕ × List ℕ} (r, now (buf .exit)) (placed (now (buf .entry)) at (annotatedChecked (sidsOf (now (annotations .entry))) (argumentOf value))) ⌝ }
 {
-    if annotations.len() == 0 {
-        return timestamp::write(buf, at, value);
-    }
-    let wrapper = write_wrapper(buf, at, annotations, timestamp::size(value, buf.len()));
-    if wrapper == 0 {
+    let wrapper = timestamp_wrapper(buf, at, annotations, value);
+    if (wrapper == 0) & (annotations.len() != 0) {
         return 0;
     }
     wrapper + timestamp::write(buf, at + wrapper, value)

@@ -17,7 +17,7 @@ add-result : tie.Need-add-result
 add-result c = omega (arith, boolByte-most (c .args .negative))
 
 returns : tie.Need-returns
-returns c = (sign-byte (c .args .negative), omega (arith, boolByte-most (c .args .negative)))
+returns c = sign-byte (c .args .negative)
 
 pub int-code-spec : {M : Type 1} → statement M
 int-code-spec = tie.close (tie.spec cast-result mul-result add-result returns)

@@ -1,10 +1,8 @@
 -- `scalars::write_i64` meets its contract: the sign is in the type byte, and the magnitude is a UInt.
 -- Assumes nothing.
-use mathlib.Core.Path.{sym, _∙_, ap}
 use mir.Syntax.{w64}
 use mir.ValLaws.{toZ-ofZ}
-use Rattle.buffer.specs.Laid.{placed}
-use Rattle.scalars.proofs.Bytes.{i64-bytes}
+use Rattle.scalars.proofs.Bytes.{i64-framed}
 use borrow.Author.Needs.{needs}
 use Rattle.scalars.proofs.write_i64.Statement.{statement}
 use Rattle.scalars.proofs.write_i64.Tie as tie
@@ -18,8 +16,8 @@ int-code-requires c κs = search needs
 magnitude-requires : tie.Need-magnitude-requires
 magnitude-requires c κs = search needs
 
-write-uint-requires : tie.Need-write-uint-requires
-write-uint-requires c κs = c .before .int-code .ensures .1
+write-framed-requires : tie.Need-write-framed-requires
+write-framed-requires c κs = search needs
 
 same-length : tie.Need-same-length
 same-length c = search needs
@@ -29,8 +27,10 @@ returns c =
     let m = c .before .before .before in
     let s = m .before .before .before .before .before in
     let a = s .args in
-    c .before .before .write-uint .ensures
-    ∙ ap (placed (a .buf .now) (a .at)) (rw (m .magnitude .ensures, m .before .int-code .ensures .0, m .before .before .is-negative .ensures, toZ-ofZ w64 (a .value) (s .fits .value)) (sym (i64-bytes (a .value))))
+    let k = toZ-ofZ w64 (a .value) (s .fits .value) in
+    rw (← (i64-framed (a .value) (m .before .before .is-negative .result) (rw k at (m .before .before .is-negative .ensures)) (m .before .int-code .result) (m .before .int-code .ensures) (m .magnitude .result)
+    (rw k at (m .magnitude .ensures))))
+    (c .before .before .write-framed .ensures)
 
 pub write-i64-spec : {M : Type 1} → statement M
 write-i64-spec =
@@ -39,6 +39,6 @@ write-i64-spec =
     is-negative-requires
     int-code-requires
     magnitude-requires
-    write-uint-requires
+    write-framed-requires
     same-length
     returns)

@@ -22,7 +22,7 @@ body : (c : tie.After-int-code) (l : List ℕ) → let a = c .before .before .be
 body c l e =
     let d = c .before in
     let a = d .before .before .before .before .args in
-    rw (c .int-code .ensures .0, typeByte-high (codeOfSign (a .negative)))
+    rw (c .int-code .ensures, typeByte-high (codeOfSign (a .negative)))
     (ap (framedBytes (typeByte (codeOfSign (a .negative)))) e ∙ sym (int-accepted (a .negative) (a .magnitude .now) (sym (d .before .is-negative-zero .ensures) ∙ d .if1 .left)))
 
 is-negative-zero-requires : tie.Need-is-negative-zero-requires

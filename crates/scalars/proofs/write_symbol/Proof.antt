@@ -7,8 +7,8 @@ use borrow.Author.Needs.{needs}
 use Rattle.scalars.proofs.write_symbol.Statement.{statement}
 use Rattle.scalars.proofs.write_symbol.Tie as tie
 
-write-uint-requires : tie.Need-write-uint-requires
-write-uint-requires c κs = search needs
+write-framed-requires : tie.Need-write-framed-requires
+write-framed-requires c κs = search needs
 
 same-length : tie.Need-same-length
 same-length c = search needs
@@ -16,7 +16,7 @@ same-length c = search needs
 returns : tie.Need-returns
 returns c =
     let a = c .before .before .before .before .before .args in
-    c .before .before .write-uint .ensures ∙ ap (placed (a .buf .now) (a .at)) (sym (symbol-bytes (a .sid)))
+    c .before .before .write-framed .ensures ∙ ap (placed (a .buf .now) (a .at)) (sym (symbol-bytes (a .sid)))
 
 pub write-symbol-spec : {M : Type 1} → statement M
-write-symbol-spec = tie.close (tie.spec write-uint-requires same-length returns)
+write-symbol-spec = tie.close (tie.spec write-framed-requires same-length returns)

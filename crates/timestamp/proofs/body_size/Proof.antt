@@ -1,7 +1,8 @@
 -- `timestamp::body_size` meets its contract: the sum of the parts.
 -- Assumes nothing.
 use native.Mathlib.Omega.{arith}
-use Rattle.timestamp.proofs.Body.{fieldCount-between, year-small, offset-length, year-length, fraction-length, body-length}
+use Rattle.timestamp.specs.Small.{bodySize}
+use Rattle.timestamp.proofs.Body.{fieldCount-between, offset-length, year-length, fraction-length}
 use borrow.Author.Needs.{needs}
 use Rattle.timestamp.proofs.body_size.Statement.{statement}
 use Rattle.timestamp.proofs.body_size.Tie as tie
@@ -10,7 +11,7 @@ offset-size-requires : tie.Need-offset-size-requires
 offset-size-requires c κs = search needs
 
 year-size-requires : tie.Need-year-size-requires
-year-size-requires c κs = year-small (c .before .args .t) (c .before .pre)
+year-size-requires c κs = search needs
 
 field-count-requires : tie.Need-field-count-requires
 field-count-requires c κs = search needs
@@ -24,7 +25,7 @@ sub-result c = omega (arith, fieldCount-between (c .before .before .before .args
 add-result : tie.Need-add-result
 add-result c =
     let s = c .before .before .before in
-    omega (arith, fieldCount-between (s .args .t .precision), year-length (s .args .t) (s .pre))
+    omega (arith, fieldCount-between (s .args .t .precision), year-length (s .args .t) (s .args .year) (s .pre))
 
 fraction-size-requires : tie.Need-fraction-size-requires
 fraction-size-requires c κs = search needs
@@ -32,17 +33,17 @@ fraction-size-requires c κs = search needs
 add-result-2 : tie.Need-add-result-2
 add-result-2 c =
     let s = c .before .before .before .before in
-    omega (arith, fieldCount-between (s .args .t .precision), year-length (s .args .t) (s .pre), fraction-length (s .args .t) (s .pre))
+    omega (arith, fieldCount-between (s .args .t .precision), year-length (s .args .t) (s .args .year) (s .pre), fraction-length (s .args .t) (s .args .year) (s .pre))
 
 add-result-3 : tie.Need-add-result-3
 add-result-3 c =
     let s = c .before .before .before .before in
-    omega (arith, fieldCount-between (s .args .t .precision), offset-length (s .args .t) (s .pre), year-length (s .args .t) (s .pre), fraction-length (s .args .t) (s .pre))
+    omega (arith, fieldCount-between (s .args .t .precision), offset-length (s .args .t) (s .args .year) (s .pre), year-length (s .args .t) (s .args .year) (s .pre), fraction-length (s .args .t) (s .args .year) (s .pre))
 
 returns : tie.Need-returns
+unfolding bodySize
 returns c =
-    let s = c .before .before .before .before in
-    rw (body-length (s .args .t) (s .pre), c .fraction-size .ensures, c .before .field-count .ensures, c .before .before .year-size .ensures, c .before .before .before .offset-size .ensures)
+    rw (c .fraction-size .ensures, c .before .field-count .ensures, c .before .before .year-size .ensures, c .before .before .before .offset-size .ensures)
 
 pub body-size-spec : {M : Type 1} → statement M
 body-size-spec =

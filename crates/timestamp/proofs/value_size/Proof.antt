@@ -1,6 +1,6 @@
 -- `timestamp::value_size` meets its contract: header and body.
 -- Assumes nothing.
-use Rattle.timestamp.proofs.Checked.{value-length, value-fits}
+use Rattle.timestamp.proofs.Checked.{value-size, value-fits}
 use borrow.Author.Needs.{needs}
 use Rattle.timestamp.proofs.value_size.Statement.{statement}
 use Rattle.timestamp.proofs.value_size.Tie as tie
@@ -14,12 +14,12 @@ encoded-size-of-requires c κs = search needs
 add-result : tie.Need-add-result
 add-result c =
     let s = c .before .before in
-    value-fits (s .args .t) (s .pre) (c .before .body-size .result) (c .before .body-size .ensures) (c .encoded-size-of .result) (c .encoded-size-of .ensures)
+    value-fits (s .args .t) (s .args .year) (s .pre) (c .before .body-size .result) (c .before .body-size .ensures) (c .encoded-size-of .result) (c .encoded-size-of .ensures)
 
 returns : tie.Need-returns
 returns c =
     let s = c .before .before in
-    value-length (s .args .t) (s .pre) (c .before .body-size .result) (c .before .body-size .ensures) (c .encoded-size-of .result) (c .encoded-size-of .ensures)
+    value-size (s .args .t) (s .args .year) (s .pre) (c .before .body-size .result) (c .before .body-size .ensures) (c .encoded-size-of .result) (c .encoded-size-of .ensures)
 
 pub value-size-spec : {M : Type 1} → statement M
 value-size-spec =

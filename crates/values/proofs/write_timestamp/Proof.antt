@@ -1,75 +1,63 @@
 -- `values::write_timestamp` meets its contract: the timestamp, or an annotated value of it.
--- By the law of the annotated path. Assumes nothing.
+-- By the laws of a wrapper where there are annotations. Assumes nothing.
+use Prim.Native.Nat.{_^_}
 use native.Mathlib.Omega.{arith}
-use Rattle.encoding.specs.Argument.{checkedBytes}
 use Rattle.timestamp.specs.Arguments.{argumentOf}
-use Rattle.annotations.specs.Sids.{sidsOf}
-use Rattle.values.specs.Values.{annotatedChecked}
-use Rattle.values.proofs.Checked.{unannotated}
-use Rattle.values.proofs.Wrapped.{Wrapped, wrapped-scalar}
+use Rattle.values.proofs.Wrapped.{wrapper-refused, wrapper-room, wrapper-behind, wrapper-count}
 use borrow.Author.Needs.{needs}
 use Rattle.values.proofs.write_timestamp.Statement.{statement}
 use Rattle.values.proofs.write_timestamp.Tie as tie
 
-path : (d : tie.After-write-wrapper) →
-    let a = d .before .before .before .before .before .before .args in
-    let v = argumentOf (a .value) in
-    Wrapped (a .buf .now) (a .at) (checkedBytes v) (annotatedChecked (sidsOf (a .annotations .now)) v) (d .write-wrapper .result) (d .write-wrapper .last .0)
-path d =
-    let a = d .before .before .before .before .before .before .args in
-    wrapped-scalar (a .buf .now) (a .at) (a .annotations .now) (omega arith) _ _ _ (d .write-wrapper .ensures) (argumentOf (a .value)) (d .before .size .ensures)
-
-write-requires : tie.Need-write-requires
-write-requires c κs = search needs
+timestamp-wrapper-requires : tie.Need-timestamp-wrapper-requires
+timestamp-wrapper-requires c κs = search needs
 
 same-length : tie.Need-same-length
 same-length c = search needs
 
 returns : tie.Need-returns
 returns c =
-    let a = c .before .before .before .before .before .before .before .args in
-    unannotated (a .buf .now) (a .at) (a .annotations .now) (argumentOf (a .value)) (c .before .before .before .before .if1 .taken) _ _ (c .before .before .write .ensures)
+    let w = c .before .before .before in
+    let a = w .before .before .before .before .args in
+    wrapper-refused (a .buf .now) (a .at) (a .annotations .now) (argumentOf (a .value)) _ _ (w .timestamp-wrapper .ensures) (c .if1 .taken)
 
-size-requires : tie.Need-size-requires
-size-requires c κs = search needs
+add-write : tie.Need-add-write
+add-write c =
+    let e = c .before in
+    let w = e .before .before .before in
+    let a = w .before .before .before .before .args in
+    omega (arith, wrapper-room (a .buf .now) (a .at) (a .annotations .now) (argumentOf (a .value)) _ _ (w .timestamp-wrapper .ensures) (e .if1 .left) (2 ^ 64) (omega arith) (omega arith))
 
-write-wrapper-requires : tie.Need-write-wrapper-requires
-write-wrapper-requires c κs = search needs
+write-requires : tie.Need-write-requires
+write-requires c κs = search needs
+
+add-result : tie.Need-add-result
+add-result c =
+    let v = c .before .before in
+    let e = v .before .before in
+    let w = e .before .before .before in
+    let a = w .before .before .before .before .args in
+    omega (arith, wrapper-count (a .buf .now) (a .at) (a .annotations .now) (argumentOf (a .value)) _ _ (w .timestamp-wrapper .ensures) (e .if1 .left) _ _ (v .write .ensures))
 
 same-length-2 : tie.Need-same-length-2
 same-length-2 c = search needs
 
 returns-2 : tie.Need-returns-2
-returns-2 c = path (c .before .before .before) .none (c .if2 .taken)
-
-add-write : tie.Need-add-write
-add-write c = omega (arith, path (c .before .before .before .before) .room (omega arith))
-
-write-requires-2 : tie.Need-write-requires-2
-write-requires-2 c κs = search needs
-
-add-result : tie.Need-add-result
-add-result c = omega (arith, path (c .before .before .before .before .before .before .before) .count (omega arith) _ _ (c .before .before .write2 .ensures))
-
-same-length-3 : tie.Need-same-length-3
-same-length-3 c = search needs
-
-returns-3 : tie.Need-returns-3
-returns-3 c = path (c .before .before .before .before .before .before .before) .behind (omega arith) _ _ (c .before .before .write2 .ensures)
+returns-2 c =
+    let v = c .before .before in
+    let e = v .before .before in
+    let w = e .before .before .before in
+    let a = w .before .before .before .before .args in
+    wrapper-behind (a .buf .now) (a .at) (a .annotations .now) (argumentOf (a .value)) _ _ (w .timestamp-wrapper .ensures) (e .if1 .left) _ _ (v .write .ensures)
 
 pub write-timestamp-spec : {M : Type 1} → statement M
 write-timestamp-spec =
     tie.close
     (tie.spec
-    write-requires
+    timestamp-wrapper-requires
     same-length
     returns
-    size-requires
-    write-wrapper-requires
-    same-length-2
-    returns-2
     add-write
-    write-requires-2
+    write-requires
     add-result
-    same-length-3
-    returns-3)
+    same-length-2
+    returns-2)
