@@ -8,18 +8,21 @@ ghost use Rattle.buffer.specs.Laid.{placed};
 
 const END_FLAG: u8 = 0x80;
 
+// The least number that takes more than one byte.
+const TWO_BYTES: u64 = 128;
+
 // The bytes that `value` takes as a VarUInt: one for each seven bits, and one for zero.
 pub fn encoded_size_of(value: u64) -> usize
     ensures { λ r. ⌜ r ≡ length (varUIntBytes value) ⌝ }
 {
-    if value < 128 {
+    if value < TWO_BYTES {
         return 1;
     }
     (crate::bits_used(value) + 6) / 7
 }
 
-// `value` as a VarUInt: the digits of base 128 but for the last, and the last with the end flag.
-pub fn write(buf: &mut [u8], at: usize, value: u64) -> usize
+// The digits of base 128 but for the last, and the last with the end flag.
+fn write_digits(buf: &mut [u8], at: usize, value: u64) -> usize
     ensures { λ r. ⌜ _≡_ {A = ℕ × List ℕ} (r, now (buf .exit)) (placed (now (buf .entry)) at (varUIntBytes value)) ⌝ }
 {
     let size = encoded_size_of(value);
@@ -30,4 +33,14 @@ pub fn write(buf: &mut [u8], at: usize, value: u64) -> usize
     crate::put_digits(buf, at, last, 7, value >> 7);
     buf[at + last] = END_FLAG + (value % 128) as u8;
     size
+}
+
+// `value` as a VarUInt. Most lengths and sids take one byte, so that is asked first.
+pub fn write(buf: &mut [u8], at: usize, value: u64) -> usize
+    ensures { λ r. ⌜ _≡_ {A = ℕ × List ℕ} (r, now (buf .exit)) (placed (now (buf .entry)) at (varUIntBytes value)) ⌝ }
+{
+    if value < TWO_BYTES {
+        return buffer::put(buf, at, END_FLAG + value as u8);
+    }
+    write_digits(buf, at, value)
 }
