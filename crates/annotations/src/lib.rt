@@ -5,7 +5,7 @@ ghost use Prim.Native.Nat.{ℕ, _+_, _*_, _^_, _<_, _≤_};
 ghost use lib.ListN.{length, getD};
 ghost use Rattle.encoding.specs.Fields.{varUIntsBytes};
 ghost use Rattle.encoding.specs.Headers.{annotationBytes};
-ghost use Rattle.buffer.specs.Laid.{placed, fitted};
+ghost use Rattle.buffer.specs.Laid.{placed};
 ghost use Rattle.annotations.specs.Sids.{leastFirst, eightBytes, sidAt, sidCount, sidsOf};
 ghost use Rattle.annotations.specs.Prefix.{prefixBytes, placedBefore};
 
@@ -135,23 +135,27 @@ fn put(buf: &mut [u8], at: usize, sum: usize, annotations: &[u8]) -> usize
     first + rest
 }
 
-// The bytes that the annotations take: the sum of the sids' lengths as a VarUInt, then the sids. 0 where that passes `room`.
-pub fn size(annotations: &[u8], room: usize) -> usize
-    ensures { λ r. ⌜ r ≡ fitted room (annotationBytes (sidsOf (now (annotations .entry)))) ⌝ }
-{
-    let whole = measure(annotations).whole;
-    if room < whole {
-        return 0;
-    }
-    whole
-}
-
 // The annotations: the sum of the sids' lengths as a VarUInt, then the sids.
 pub fn write(buf: &mut [u8], at: usize, annotations: &[u8]) -> usize
     ensures { λ r. ⌜ _≡_ {A = ℕ × List ℕ} (r, now (buf .exit)) (placed (now (buf .entry)) at (annotationBytes (sidsOf (now (annotations .entry))))) ⌝ }
 {
     let sizes = measure(annotations);
     if !buffer::has_room(buf.len(), at, sizes.whole) {
+        return 0;
+    }
+    put(buf, at, sizes.sum, annotations)
+}
+
+// The same, where `inner` bytes fit behind them.
+pub fn write_before(buf: &mut [u8], at: usize, annotations: &[u8], inner: usize) -> usize
+    ensures { λ r. ⌜ _≡_ {A = ℕ × List ℕ} (r, now (buf .exit)) (placedBefore (now (buf .entry)) at (annotationBytes (sidsOf (now (annotations .entry)))) inner) ⌝ }
+{
+    let sizes = measure(annotations);
+    let whole = sizes.whole;
+    if !buffer::has_room(buf.len(), whole, inner) {
+        return 0;
+    }
+    if !buffer::has_room(buf.len(), at, whole + inner) {
         return 0;
     }
     put(buf, at, sizes.sum, annotations)

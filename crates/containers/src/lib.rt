@@ -178,16 +178,17 @@ fn put_reserve(buf: &mut [u8], at: usize) -> usize
 fn open_annotated(buf: &mut [u8], at: usize, annotations: &[u8]) -> usize
     ensures { λ r. ⌜ _≡_ {A = ℕ × List ℕ} (r, now (buf .exit)) (placed (now (buf .entry)) at (0 ∷ 0 ∷ (annotationBytes (sidsOf (now (annotations .entry))) ++ (0 ∷ 0 ∷ [])))) ⌝ }
 {
-    let noted = annotations::size(annotations, buf.len());
+    if !buffer::has_room(buf.len(), at, 2 * RESERVE) {
+        return 0;
+    }
+    let noted = annotations::write_before(buf, at + RESERVE, annotations, RESERVE);
     if noted == 0 {
         return 0;
     }
-    if !buffer::has_room(buf.len(), at, noted + 2 * RESERVE) {
-        return 0;
-    }
-    let first = put_reserve(buf, at);
-    let to_header = first + annotations::write(buf, at + first, annotations);
-    to_header + put_reserve(buf, at + to_header)
+    let header = at + RESERVE + noted;
+    clear(buf, at, at + RESERVE);
+    clear(buf, header, header + RESERVE);
+    noted + 2 * RESERVE
 }
 
 // What an opening reserves: two zero bytes; with annotations two zero bytes, the annotations and two more.
