@@ -13,27 +13,26 @@ use borrow.Author.Tests.{eq-eqb, lt-ltb, eqb-true, eqb-false, ltb-true, ltb-fals
 use Rattle.ion.proofs.Tests.{by-cases}
 use Rattle.buffer.specs.Laid.{laid}
 use Rattle.buffer.proofs.Laid.{length-laid, drop-laid}
-use Rattle.machine.specs.declared.State.{State}
 use Rattle.machine.specs.declared.Container.{Container}
 use Rattle.machine.specs.Machine.{noContainer}
-use Rattle.state_bytes.specs.StateBytes.{four, placeOf, containerAt, containersFrom, stateOf, fourBytes, flag, headBytes, containerBytes, storedHead, storedContainer}
+use Rattle.state_bytes.specs.StateBytes.{placeOf, containerAt, containersFrom, stateOf, flag, headBytes, containerBytes, storedHead, storedContainer}
 use Rattle.state_bytes.proofs.Laws.{state-is, container-is, length-containers}
 
 -- ---- a byte among laid ones
 
 module _ (b : List ℕ) (at : ℕ) (xs : List ℕ) (h : at + length xs ≤ length b) where
-  pub byte-before : (p : ℕ) → p < at → getD (laid b at xs) p 0 ≡ getD b p 0
+  byte-before : (p : ℕ) → p < at → getD (laid b at xs) p 0 ≡ getD b p 0
   unfolding laid
   byte-before p k = List·getD-append (take at b) _ 0 p (rw (length-take-le at b (omega arith)) k) ∙ getD-take at b p 0 k
 
-  pub byte-within : (p j : ℕ) → p ≡ at + j → j < length xs → getD (laid b at xs) p 0 ≡ getD xs j 0
+  byte-within : (p j : ℕ) → p ≡ at + j → j < length xs → getD (laid b at xs) p 0 ≡ getD xs j 0
   unfolding laid
   byte-within p j e k =
       let q : p ≡ length (take at b) + j = e ∙ ap (λ (n : ℕ). n + j) (sym (length-take-le at b (omega arith))) in
       ap (λ (n : ℕ). getD (take at b ++ (xs ++ drop (at + length xs) b)) n 0) q
       ∙ (getD-append-add (take at b) (xs ++ drop (at + length xs) b) j 0 ∙ List·getD-append xs (drop (at + length xs) b) 0 j k)
 
-  pub byte-behind : (p : ℕ) → at + length xs ≤ p → getD (laid b at xs) p 0 ≡ getD b p 0
+  byte-behind : (p : ℕ) → at + length xs ≤ p → getD (laid b at xs) p 0 ≡ getD b p 0
   byte-behind p k =
       let n : ℕ = p - (at + length xs) in
       let e : p ≡ at + length xs + n + 0 = omega arith in
@@ -42,7 +41,7 @@ module _ (b : List ℕ) (at : ℕ) (xs : List ℕ) (h : at + length xs ≤ lengt
       ∙ (ap (λ (l : List ℕ). getD l 0 0) (drop-laid b at xs h n) ∙ (getD-drop (at + length xs + n) b 0 0 ∙ ap (λ (x : ℕ). getD b x 0) (sym e))))
 
 -- four bytes give their number back
-pub four-back : (n : ℕ) → n < 2 ^ 32 → n % 256 + 256 * (n / 256 % 256) + 65536 * (n / 65536 % 256) + 16777216 * (n / 16777216 % 256) ≡ n
+four-back : (n : ℕ) → n < 2 ^ 32 → n % 256 + 256 * (n / 256 % 256) + 65536 * (n / 65536 % 256) + 16777216 * (n / 16777216 % 256) ≡ n
 four-back n h =
     let p : n / 65536 ≡ n / 256 / 256 = omega arith in
     let q : n / 16777216 ≡ n / 65536 / 256 = omega arith in
@@ -73,6 +72,10 @@ same-container b c at f =
 
 -- ---- the head
 
+flag-back : (t : Bool) → not (eqb (flag t) 0) ≡ t
+flag-back true = refl
+flag-back false = refl
+
 module _ (st : List ℕ) (u d : ℕ) (wt : Bool) (h : length st ≡ 296) where
   head-laid : storedHead u d wt st ≡ laid st 0 (headBytes u d wt)
   unfolding storedHead
@@ -89,10 +92,6 @@ module _ (st : List ℕ) (u d : ℕ) (wt : Bool) (h : length st ≡ 296) where
       container-is (storedHead u d wt st) i j
       ∙ (same-container (storedHead u d wt st) st (placeOf i) (λ p q r. ap (λ (l : List ℕ). getD l p 0) head-laid ∙ byte-behind st 0 (headBytes u d wt) (omega arith) p (omega arith))
       ∙ sym (container-is st i j)))
-
-  flag-back : (t : Bool) → not (eqb (flag t) 0) ≡ t
-  flag-back true = refl
-  flag-back false = refl
 
   pub state-head : u < 2 ^ 32 → d < 256 → stateOf (storedHead u d wt st) ≡ record { used = u; depth = d; waiting = wt; containers = stateOf st .containers }
   unfolding laid

@@ -3,19 +3,19 @@
 use Prim.Native.Nat.{ℕ, suc, _≤_}
 use native.Mathlib.Omega.{arith}
 use mathlib.Core.Path.{_≡_, refl, sym, _∙_, ap, ap₂, subst₂}
-use mathlib.Core.Bool.{Bool, true, false, false≢true, _&&_}
+use mathlib.Core.Bool.{Bool, true, _&&_}
 use mathlib.Core.List.{List, [], _∷_, _++_}
 use lib.Dec.{eqb, ltb}
 use lib.ListN.{length}
-use borrow.Author.Tests.{eq-eqb, ne-eqb, eqb-true, eqb-false, ltb-false}
+use borrow.Author.Tests.{eq-eqb, eqb-true, ltb-false}
 use Rattle.ion.proofs.Tests.{by-cases}
 use Rattle.ion.specs.Value.{Scalar}
 use Rattle.encoding.specs.Headers.{markerBytes}
 use Rattle.encoding.specs.Argument.{Argument, meaning}
 use Rattle.encoding.specs.Stream.{streamBytes}
 use Rattle.machine.specs.declared.State.{State}
-use Rattle.machine.specs.Call.{Call, AllTyped}
-use Rattle.machine.specs.Machine.{Config, longestBuffer, emptyState, splice, accepted, refused, verdict, isAccepted, after, startVerdict, started, taken}
+use Rattle.machine.specs.Call.{Call}
+use Rattle.machine.specs.Machine.{Config, longestBuffer, emptyState, splice, accepted, verdict, isAccepted, after, startVerdict, started, taken}
 use Rattle.machine.specs.Model.{Model, modelStep, startedModel}
 use Rattle.machine.specs.Demands.{afterAll, isEmptying, partOf, joined, modelAfter, spelled, Run, ReadsOnlyAs}
 use Rattle.machine.proofs.Splice.{length-splice}
@@ -25,7 +25,7 @@ use Rattle.state_bytes.specs.StateBytes.{stateOf, containersFrom, numberOf}
 use Rattle.goatminute.specs.Entries.{emptyBytes, startEntered}
 use Rattle.goatminute.proofs.Entered.{accepted-is}
 use Rattle.entry_lists.specs.Lists.{Lent, lentStarted, lentAfter, isEntered, lentAfterAll, lentJoined, lentModelAfter, lentSpelled, LentRun, EntryDemand2, EntryDemand3}
-use Rattle.entry_lists.proofs.Steps.{configOf, Sound, Spells, number-accepts, answer-is, call-spells}
+use Rattle.entry_lists.proofs.Steps.{configOf, Spells, number-accepts, answer-is, call-spells}
 
 -- ---- one call
 

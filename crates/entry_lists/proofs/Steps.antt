@@ -1,9 +1,9 @@
 -- A call over lent bytes does what the machine does over the state that they spell.
 -- Assumes nothing.
-use Prim.Native.Nat.{ℕ, _+_, _-_, _^_, _<_, _≤_}
+use Prim.Native.Nat.{ℕ, _+_, _-_, _<_, _≤_}
 use native.Mathlib.Omega.{arith}
-use mathlib.Core.Path.{_≡_, refl, sym, _∙_, ap}
-use mathlib.Core.Bool.{Bool, true, false, false≢true}
+use mathlib.Core.Path.{_≡_, refl, _∙_, ap}
+use mathlib.Core.Bool.{Bool, true, false}
 use mathlib.Core.List.{List, [], _∷_, _++_}
 use lib.Dec.{eqb, ltb, leb}
 use lib.ListN.{length, getD, set, length-append}
@@ -16,11 +16,11 @@ use Rattle.encoding.specs.Argument.{Argument, writeNull, writeBool, writeI64, w
 use Rattle.machine.specs.declared.State.{State}
 use Rattle.machine.specs.declared.Container.{Container}
 use Rattle.machine.specs.Call.{Call, ContainerType, write, name, opening, closing, abandonment, versionMarker, taking, emptying}
-use Rattle.machine.specs.Machine.{Config, noContainer, openContainers, reserve, headerPlace, containerCode, closedInnermost, innermostStart, live, splice, effect, placeLines, lines, checks, Verdict, accepted, refused, firstFailing, verdict, isAccepted, ifAccepted, after}
-use Rattle.machine.specs.Numbers.{Outcome, run}
+use Rattle.machine.specs.Machine.{Config, noContainer, openContainers, reserve, headerPlace, containerCode, closedInnermost, live, splice, effect, lines, checks, Verdict, accepted, refused, firstFailing, verdict, isAccepted, ifAccepted, after}
+use Rattle.machine.specs.Numbers.{run}
 use Rattle.machine.proofs.Splice.{length-splice}
 use Rattle.machine.proofs.Steps.{none-failing}
-use Rattle.state_bytes.specs.StateBytes.{stateOf, storedHead, storedContainer, numberOf, storedBy, storedIf, enteredBy, entered}
+use Rattle.state_bytes.specs.StateBytes.{stateOf, storedHead, numberOf, storedBy, storedIf, enteredBy, entered}
 use Rattle.state_bytes.proofs.Laws.{state-is, length-containers}
 use Rattle.entry_lists.specs.Lists.{Lent, lentAfter, isEntered}
 use Rattle.entry_lists.proofs.Bytes.{length-head, state-head, length-container, state-container}
@@ -94,7 +94,7 @@ holds-right (x ∷ l) r h = holds-right l r (h .1)
 room-line : (w : Config) (misplaced : Bool) (own : List (Bool × ℕ)) (used : ℕ) → NoneHolds (lines w misplaced own used) → used ≤ length (w .buffer)
 room-line w misplaced own used h = ltb-false (length (w .buffer)) used (holds-right own ((ltb (length (w .buffer)) used, 10) ∷ []) (h .1 .1 .1) .0)
 
--- the state y and the buffer l, of which the bytes t hold the containers
+-- Of the state y and the buffer l: they are in their bounds, and the bytes t hold y's containers.
 record Left (w : Lent) (y : State) (l t : List ℕ) : Type 0 where
   size : length t ≡ 296
   containers : stateOf t .containers ≡ y .containers
@@ -105,16 +105,17 @@ record Left (w : Lent) (y : State) (l t : List ℕ) : Type 0 where
 abbrev LeftBy : Call → Lent → Type 0
 LeftBy c w = Left w (effect c (configOf w) .state) (effect c (configOf w) .buffer) (storedBy c (effect c (configOf w) .state) (w .state))
 
+-- a header lies within what is reserved
+header-within : (p : ℕ) (an : List ℕ) → headerPlace p an ≤ p + length (reserve an)
+header-within p [] = omega arith
+header-within p (a ∷ an) = rw (length-append (annotationBytes (a ∷ an)) (0 ∷ 0 ∷ [])) (omega arith)
+
 module _ (w : Lent) (s : Sound w) where
   -- a put by a call that opens nothing
   put-left : (p : ℕ) (out : List ℕ) (d : ℕ) (wt : Bool) → p + length out ≤ length (w .buffer) → d ≤ 32
       → Left w (record { used = p + length out; depth = d; waiting = wt; containers = stateOf (w .state) .containers }) (splice (stateOf (w .state) .used) p out (w .buffer)) (w .state)
   put-left p out d wt room k =
       record { size = s .size; containers = refl; room = room; depth = k; same = length-splice (stateOf (w .state) .used) p out (w .buffer) (omega arith) (s .fit) room }
-
-  header-within : (p : ℕ) (an : List ℕ) → headerPlace p an ≤ p + length (reserve an)
-  header-within p [] = omega arith
-  header-within p (a ∷ an) = rw (length-append (annotationBytes (a ∷ an)) (0 ∷ 0 ∷ [])) (omega arith)
 
   opening-left : (an : List ℕ) (k : ContainerType) → NoneHolds (checks (opening an k) (configOf w)) → LeftBy (opening an k) w
   opening-left an k h =
