@@ -1,0 +1,188 @@
+-- A call over lent bytes does what the machine does over the state that they spell.
+-- Assumes nothing.
+use Prim.Native.Nat.{ℕ, _+_, _-_, _<_, _≤_}
+use native.Mathlib.Omega.{arith}
+use mathlib.Core.Path.{_≡_, refl, _∙_, ap}
+use mathlib.Core.Bool.{Bool, true, false}
+use mathlib.Core.List.{List, [], _∷_, _++_}
+use lib.Dec.{eqb, ltb, leb}
+use lib.ListN.{length, getD, set, length-append}
+use lib.Seq.{getD-set-same}
+use borrow.Author.Tests.{eq-eqb, ne-eqb, le-ltb, ltb-false, leb-false}
+use Rattle.ion.proofs.Tests.{by-cases}
+use Rattle.encoding.specs.Headers.{annotationBytes, annotatedBytes, markerBytes}
+use Rattle.encoding.specs.Fields.{varUIntBytes}
+use Rattle.encoding.specs.Argument.{Argument, writeNull, writeBool, writeI64, writeInt, writeF32, writeF64, writeDecimal, writeTimestamp, writeSymbol, writeString, writeClob, writeBlob, argumentBytes, argumentChecks, NoneHolds}
+use Rattle.machine.specs.declared.State.{State}
+use Rattle.machine.specs.declared.Container.{Container}
+use Rattle.machine.specs.Call.{Call, ContainerType, write, name, opening, closing, abandonment, versionMarker, taking, emptying}
+use Rattle.machine.specs.Machine.{Config, noContainer, openContainers, reserve, headerPlace, containerCode, closedInnermost, live, splice, effect, lines, checks, Verdict, accepted, refused, firstFailing, verdict, isAccepted, ifAccepted, after}
+use Rattle.machine.specs.Numbers.{run}
+use Rattle.machine.proofs.Splice.{length-splice}
+use Rattle.machine.proofs.Steps.{none-failing}
+use Rattle.state_bytes.specs.StateBytes.{stateOf, storedHead, numberOf, storedBy, storedIf, enteredBy, entered}
+use Rattle.state_bytes.proofs.Laws.{state-is, length-containers}
+use Rattle.entry_lists.specs.Lists.{Lent, lentAfter, isEntered}
+use Rattle.entry_lists.proofs.Bytes.{length-head, state-head, length-container, state-container}
+
+abbrev pub configOf : Lent → Config
+configOf w = record { state = stateOf (w .state); buffer = w .buffer }
+
+-- What every call after an accepted start is lent.
+pub record Sound (w : Lent) : Type 0 where
+  pub size : length (w .state) ≡ 296
+  pub short : length (w .buffer) ≤ 16777215
+  pub fit : stateOf (w .state) .used ≤ length (w .buffer)
+  pub depth : stateOf (w .state) .depth ≤ 32
+
+-- what is lent spells the machine's config
+pub record Spells (w : Lent) (m : Config) : Type 0 where
+  pub sound : Sound w
+  pub config : configOf w ≡ m
+
+-- ---- no line has the number 0
+
+abbrev Numbered : List (Bool × ℕ) → Type 0
+Numbered [] = Unit {0}
+Numbered (x ∷ xs) = (0 < x .1) × Numbered xs
+
+numbered-append : (l r : List (Bool × ℕ)) → Numbered l → Numbered r → Numbered (l ++ r)
+numbered-append [] r h k = k
+numbered-append (x ∷ l) r h k = (h .0, numbered-append l r (h .1) k)
+
+numbered-argument : (a : Argument) → Numbered (argumentChecks a)
+numbered-argument (writeNull t) = tt
+numbered-argument (writeBool x) = tt
+numbered-argument (writeI64 z) = tt
+numbered-argument (writeInt s m) = omega arith
+numbered-argument (writeF32 b) = tt
+numbered-argument (writeF64 b) = tt
+numbered-argument (writeDecimal s m e) = omega arith
+numbered-argument (writeTimestamp o fs x) = omega arith
+numbered-argument (writeSymbol n) = tt
+numbered-argument (writeString b) = omega arith
+numbered-argument (writeClob b) = tt
+numbered-argument (writeBlob b) = tt
+
+numbered-checks : (c : Call) (w : Config) → Numbered (checks c w)
+numbered-checks (write an a) w = (omega arith, (omega arith, (omega arith, numbered-append (argumentChecks a) _ (numbered-argument a) (omega arith))))
+numbered-checks (name n) w = omega arith
+numbered-checks (opening an k) w = omega arith
+numbered-checks closing w = omega arith
+numbered-checks abandonment w = omega arith
+numbered-checks versionMarker w = omega arith
+numbered-checks taking w = tt
+numbered-checks emptying w = omega arith
+
+pub number-accepts : (l : List (Bool × ℕ)) → Numbered l → eqb (numberOf (firstFailing l)) 0 ≡ isAccepted (firstFailing l)
+number-accepts [] h = refl
+number-accepts (x ∷ xs) h =
+    by-cases (x .0)
+    (λ p. rw p (ne-eqb (x .1) 0 (not-zero (x .1) (h .0))))
+    (λ p. rw p (number-accepts xs (h .1)))
+  where
+    not-zero : (n : ℕ) → 0 < n → n ≡ 0 → ⊥
+    not-zero n k e = omega arith
+
+-- ---- what an accepted call leaves
+
+holds-right : (l r : List (Bool × ℕ)) → NoneHolds (l ++ r) → NoneHolds r
+holds-right [] r h = h
+holds-right (x ∷ l) r h = holds-right l r (h .1)
+
+-- the line 10
+room-line : (w : Config) (misplaced : Bool) (own : List (Bool × ℕ)) (used : ℕ) → NoneHolds (lines w misplaced own used) → used ≤ length (w .buffer)
+room-line w misplaced own used h = ltb-false (length (w .buffer)) used (holds-right own ((ltb (length (w .buffer)) used, 10) ∷ []) (h .1 .1 .1) .0)
+
+-- Of the state y and the buffer l: they are in their bounds, and the bytes t hold y's containers.
+record Left (w : Lent) (y : State) (l t : List ℕ) : Type 0 where
+  size : length t ≡ 296
+  containers : stateOf t .containers ≡ y .containers
+  room : y .used ≤ length (w .buffer)
+  depth : y .depth ≤ 32
+  same : length l ≡ length (w .buffer)
+
+abbrev LeftBy : Call → Lent → Type 0
+LeftBy c w = Left w (effect c (configOf w) .state) (effect c (configOf w) .buffer) (storedBy c (effect c (configOf w) .state) (w .state))
+
+-- a header lies within what is reserved
+header-within : (p : ℕ) (an : List ℕ) → headerPlace p an ≤ p + length (reserve an)
+header-within p [] = omega arith
+header-within p (a ∷ an) = rw (length-append (annotationBytes (a ∷ an)) (0 ∷ 0 ∷ [])) (omega arith)
+
+module _ (w : Lent) (s : Sound w) where
+  -- a put by a call that opens nothing
+  put-left : (p : ℕ) (out : List ℕ) (d : ℕ) (wt : Bool) → p + length out ≤ length (w .buffer) → d ≤ 32
+      → Left w (record { used = p + length out; depth = d; waiting = wt; containers = stateOf (w .state) .containers }) (splice (stateOf (w .state) .used) p out (w .buffer)) (w .state)
+  put-left p out d wt room k =
+      record { size = s .size; containers = refl; room = room; depth = k; same = length-splice (stateOf (w .state) .used) p out (w .buffer) (omega arith) (s .fit) room }
+
+  opening-left : (an : List ℕ) (k : ContainerType) → NoneHolds (checks (opening an k) (configOf w)) → LeftBy (opening an k) w
+  opening-left an k h =
+      let d : stateOf (w .state) .depth < 32 = leb-false 32 (stateOf (w .state) .depth) (h .1 .1 .1 .0) in
+      let room : stateOf (w .state) .used + length (reserve an) ≤ length (w .buffer) = room-line (configOf w) _ ((leb 32 (stateOf (w .state) .depth), 4) ∷ []) _ h in
+      let c : Container = record { start = stateOf (w .state) .used; header = headerPlace (stateOf (w .state) .used) an; code = containerCode k } in
+      let i : stateOf (w .state) .depth + 1 - 1 ≡ stateOf (w .state) .depth = omega arith in
+      let n : length (stateOf (w .state) .containers) ≡ 32 = rw (state-is (w .state) (s .size)) (length-containers (w .state) 0 32) in
+      let g : getD (set (stateOf (w .state) .containers) (stateOf (w .state) .depth) c) (stateOf (w .state) .depth) noContainer ≡ c = getD-set-same (stateOf (w .state) .containers) (stateOf (w .state) .depth) c noContainer (omega arith) in
+      rw (i, g) (record {
+        size = length-container (w .state) (stateOf (w .state) .depth) c (s .size) d;
+        containers = state-container (w .state) (stateOf (w .state) .depth) c (s .size) d (omega (arith, s .fit, s .short)) (omega (arith, header-within (stateOf (w .state) .used) an, room, s .short));
+        room = room;
+        depth = omega arith;
+        same = length-splice (stateOf (w .state) .used) (stateOf (w .state) .used) (reserve an) (w .buffer) (s .fit) (s .fit) room;
+      })
+
+  left : (c : Call) → NoneHolds (checks c (configOf w)) → LeftBy c w
+  left (write an a) h = put-left _ (annotatedBytes an (argumentBytes a)) _ false (room-line (configOf w) _ (argumentChecks a) _ h) (s .depth)
+  left (name n) h = put-left _ (varUIntBytes n) _ true (room-line (configOf w) _ [] _ h) (s .depth)
+  left (opening an k) h = opening-left an k h
+  left closing h = put-left _ (closedInnermost (openContainers (stateOf (w .state))) (live (configOf w))) _ false (room-line (configOf w) _ [] _ h) (omega (arith, s .depth))
+  left abandonment h = put-left _ [] _ _ (room-line (configOf w) _ [] _ h) (omega (arith, s .depth))
+  left versionMarker h = put-left _ markerBytes _ _ (room-line (configOf w) _ [] _ h) (s .depth)
+  left taking h = record { size = s .size; containers = refl; room = s .fit; depth = s .depth; same = refl }
+  left emptying h = record { size = s .size; containers = refl; room = omega arith; depth = s .depth; same = refl }
+
+  -- ---- one call
+
+  -- what is lent lets the machine decide
+  entered-is : (c : Call) → entered c (w .state) (w .buffer) ≡ enteredBy c (w .state) (run c (stateOf (w .state)) (w .buffer))
+  unfolding entered
+  entered-is c = rw (le-ltb 16777215 (length (w .buffer)) (s .short), entered, eq-eqb (length (w .state)) 296 (s .size))
+
+  -- the answer
+  pub answer-is : (c : Call) → isEntered c w ≡ isAccepted (verdict c (configOf w))
+  unfolding run verdict
+  answer-is c = rw (entered-is c) (number-accepts (checks c (configOf w)) (numbered-checks c (configOf w)))
+
+  -- what is left, as lent bytes
+  abbrev leftAs : Verdict → Call → Lent
+  leftAs v c = record { state = storedIf v c (ifAccepted v (effect c (configOf w)) (configOf w) .state) (w .state); buffer = ifAccepted v (effect c (configOf w)) (configOf w) .buffer }
+
+  after-is : (c : Call) → lentAfter c w ≡ leftAs (verdict c (configOf w)) c
+  unfolding run
+  after-is c = rw (entered-is c)
+
+  -- the state of an accepted call, stored, is spelled by the bytes
+  spelled : (c : Call) → LeftBy c w → Spells (leftAs accepted c) (effect c (configOf w))
+  spelled c k =
+      let y : State = effect c (configOf w) .state in
+      let t : List ℕ = storedBy c y (w .state) in
+      let e : stateOf (storedHead (y .used) (y .depth) (y .waiting) t) ≡ y = state-head t (y .used) (y .depth) (y .waiting) (k .size) (omega (arith, k .room, s .short)) (omega (arith, k .depth)) ∙ rw (k .containers) in
+      record {
+        sound = record {
+          size = length-head t (y .used) (y .depth) (y .waiting) (k .size);
+          short = omega (arith, k .same, s .short);
+          fit = rw (e, k .same) (k .room);
+          depth = rw e (k .depth);
+        };
+        config = ap (λ (x : State). record { state = x; buffer = effect c (configOf w) .buffer }) e;
+      }
+
+  by-verdict : (c : Call) (v : Verdict) → verdict c (configOf w) ≡ v → Spells (leftAs v c) (ifAccepted v (effect c (configOf w)) (configOf w))
+  by-verdict c accepted e = spelled c (left c (none-failing (checks c (configOf w)) (unfold verdict in e)))
+  by-verdict c (refused n) e = record { sound = s; config = refl }
+
+  -- what a call leaves
+  pub call-spells : (c : Call) → Spells (lentAfter c w) (after c (configOf w))
+  call-spells c = rw (after-is c) (by-verdict c (verdict c (configOf w)) refl)
