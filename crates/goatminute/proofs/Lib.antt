@@ -1,5 +1,4 @@
 pub mod Calls
 pub mod Entered
-pub mod Lent
 pub mod Start
 pub mod Values

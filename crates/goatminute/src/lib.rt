@@ -11,20 +11,14 @@ ghost use Rattle.annotations.specs.Sids.{sidsOf};
 ghost use Rattle.scalars.specs.Types.{typeOf};
 ghost use Rattle.timestamp.specs.Arguments.{argumentOf};
 ghost use Rattle.machine.specs.Machine.{finishedLength};
-ghost use Rattle.machine.specs.Numbers.{number, verdictOf};
 ghost use Rattle.machine.specs.Call.{write, name, opening, closing, abandonment, versionMarker, emptying};
 ghost use Rattle.writer.specs.Kinds.{kindOf};
 ghost use Rattle.writer.specs.declared.ContainerType.the-variants.{List, Sexp, Struct};
-ghost use Rattle.state_bytes.specs.StateBytes.{stateOf, numberOf, entered};
+ghost use Rattle.state_bytes.specs.StateBytes.{stateOf, entered};
 ghost use Rattle.goatminute.specs.Entries.{enteredAs, endedNumber, endedState, startEntered};
-ghost use Rattle.goatminute.specs.Lent.{typeCoded, precisionNumbered, offsetLent, fractionLent, timestampLent};
-use machine::Answer;
+ghost use Rattle.entry_numbers.specs.Lent.{typeCoded, timestampLent};
 use machine::Container;
 use machine::Refusal;
-use scalars::IonType;
-use timestamp::Fraction;
-use timestamp::Offset;
-use timestamp::Precision;
 use timestamp::Timestamp;
 use writer::ContainerType;
 
@@ -36,100 +30,18 @@ const STATE_SIZE: usize = 296;
 
 const MOST_OPEN: usize = 32;
 
-fn number_of(why: Refusal) -> u8
-    ensures { λ r. ⌜ r ≡ number why ⌝ }
-{
-    match why {
-        Refusal::BufferTooLong => 1,
-        Refusal::StateUnfit => 2,
-        Refusal::Misplaced => 3,
-        Refusal::TooDeep => 4,
-        Refusal::NegativeZero => 5,
-        Refusal::NotUtf8 => 6,
-        Refusal::BadTimestamp => 7,
-        Refusal::DecimalTooLong => 8,
-        Refusal::TimestampTooLong => 9,
-        Refusal::NoRoom => 10,
-    }
-}
-
-fn answered(answer: Answer) -> u8
-    ensures { λ r. ⌜ r ≡ numberOf (verdictOf answer) ⌝ }
-{
-    match answer {
-        Answer::Accepted => 0,
-        Answer::Refused(why) => number_of(why),
-    }
-}
-
 // The answer of an entry that has put `put` bytes at the end of the used ones, or none for the reason `why`.
 fn ended(state: &mut [u8], put: usize, waiting: bool, why: Refusal) -> u8
     requires { ⌜ ((put ≡ 0 → ⊥) → stateOf (now state) .used + put < 2 ^ 64) ⌝ }
     ensures { λ r. ⌜ (r ≡ endedNumber put why) × (now (state .exit) ≡ endedState (now (state .entry)) put waiting) ⌝ }
 {
     if put == 0 {
-        return number_of(why);
+        return entry_numbers::number_of(why);
     }
     let used = state_bytes::used(state);
     let depth = state_bytes::depth(state);
     state_bytes::store(state, used + put, depth, waiting);
     0
-}
-
-// ---- what numbers stand for
-
-// The type of a null by its type code in the Ion document. 3, which is of negative ints, is int; a number past 13 stands for null.
-fn type_of_code(code: u8) -> IonType
-    ensures { λ r. ⌜ r ≡ typeCoded code ⌝ }
-{
-    match code {
-        0 => IonType::Null,
-        1 => IonType::Bool,
-        2 => IonType::Int,
-        3 => IonType::Int,
-        4 => IonType::Float,
-        5 => IonType::Decimal,
-        6 => IonType::Timestamp,
-        7 => IonType::Symbol,
-        8 => IonType::String,
-        9 => IonType::Clob,
-        10 => IonType::Blob,
-        11 => IonType::List,
-        12 => IonType::Sexp,
-        13 => IonType::Struct,
-        _ => IonType::Null,
-    }
-}
-
-// From 0 for year to 4 for second; a larger number is second too.
-fn precision_of(number: u8) -> Precision
-    ensures { λ r. ⌜ r ≡ precisionNumbered number ⌝ }
-{
-    match number {
-        0 => Precision::Year,
-        1 => Precision::Month,
-        2 => Precision::Day,
-        3 => Precision::Minute,
-        _ => Precision::Second,
-    }
-}
-
-fn offset_of(known: u8, minutes: i32) -> Offset
-    ensures { λ r. ⌜ r ≡ offsetLent known minutes ⌝ }
-{
-    if known == 0 {
-        return Offset::Unknown;
-    }
-    Offset::Minutes(minutes)
-}
-
-fn fraction_of(given: u8, digits: u32, coefficient: u64) -> Fraction
-    ensures { λ r. ⌜ r ≡ fractionLent given digits coefficient ⌝ }
-{
-    if given == 0 {
-        return Fraction::None;
-    }
-    Fraction::Digits(digits, coefficient)
 }
 
 // ---- scalars
@@ -145,13 +57,13 @@ pub extern "C" fn gm_write_null(
     ensures { λ r. ⌜ enteredAs r (now (state .exit)) (now (buf .exit)) ≡ entered (write (sidsOf (now (annotations .entry))) (writeNull (typeOf (typeCoded code)))) (now (state .entry)) (now (buf .entry)) ⌝ }
 {
     if !state_bytes::value_passes(state, buf.len()) {
-        return answered(state_bytes::value_place(state, buf.len()));
+        return entry_numbers::answered(state_bytes::value_place(state, buf.len()));
     }
     let put = values::write_null(
         buf,
         state_bytes::used(state),
         annotations,
-        type_of_code(code),
+        entry_numbers::type_of_code(code),
     );
     ended(state, put, false, Refusal::NoRoom)
 }
@@ -167,7 +79,7 @@ pub extern "C" fn gm_write_bool(
     ensures { λ r. ⌜ enteredAs r (now (state .exit)) (now (buf .exit)) ≡ entered (write (sidsOf (now (annotations .entry))) (writeBool (not (eqb value 0)))) (now (state .entry)) (now (buf .entry)) ⌝ }
 {
     if !state_bytes::value_passes(state, buf.len()) {
-        return answered(state_bytes::value_place(state, buf.len()));
+        return entry_numbers::answered(state_bytes::value_place(state, buf.len()));
     }
     let put = values::write_bool(buf, state_bytes::used(state), annotations, value != 0);
     ended(state, put, false, Refusal::NoRoom)
@@ -184,7 +96,7 @@ pub extern "C" fn gm_write_i64(
     ensures { λ r. ⌜ enteredAs r (now (state .exit)) (now (buf .exit)) ≡ entered (write (sidsOf (now (annotations .entry))) (writeI64 value)) (now (state .entry)) (now (buf .entry)) ⌝ }
 {
     if !state_bytes::value_passes(state, buf.len()) {
-        return answered(state_bytes::value_place(state, buf.len()));
+        return entry_numbers::answered(state_bytes::value_place(state, buf.len()));
     }
     let put = values::write_i64(buf, state_bytes::used(state), annotations, value);
     ended(state, put, false, Refusal::NoRoom)
@@ -202,7 +114,7 @@ pub extern "C" fn gm_write_int(
     ensures { λ r. ⌜ enteredAs r (now (state .exit)) (now (buf .exit)) ≡ entered (write (sidsOf (now (annotations .entry))) (writeInt (not (eqb negative 0)) (now (magnitude .entry)))) (now (state .entry)) (now (buf .entry)) ⌝ }
 {
     if !state_bytes::value_passes(state, buf.len()) {
-        return answered(state_bytes::value_place(state, buf.len()));
+        return entry_numbers::answered(state_bytes::value_place(state, buf.len()));
     }
     let put = values::write_int(
         buf,
@@ -212,7 +124,7 @@ pub extern "C" fn gm_write_int(
         magnitude,
     );
     if put == 0 {
-        return number_of(writer::int_refusal(negative != 0, magnitude));
+        return entry_numbers::number_of(writer::int_refusal(negative != 0, magnitude));
     }
     ended(state, put, false, Refusal::NoRoom)
 }
@@ -228,7 +140,7 @@ pub extern "C" fn gm_write_f32(
     ensures { λ r. ⌜ enteredAs r (now (state .exit)) (now (buf .exit)) ≡ entered (write (sidsOf (now (annotations .entry))) (writeF32 bits)) (now (state .entry)) (now (buf .entry)) ⌝ }
 {
     if !state_bytes::value_passes(state, buf.len()) {
-        return answered(state_bytes::value_place(state, buf.len()));
+        return entry_numbers::answered(state_bytes::value_place(state, buf.len()));
     }
     let put = values::write_f32(buf, state_bytes::used(state), annotations, bits);
     ended(state, put, false, Refusal::NoRoom)
@@ -245,7 +157,7 @@ pub extern "C" fn gm_write_f64(
     ensures { λ r. ⌜ enteredAs r (now (state .exit)) (now (buf .exit)) ≡ entered (write (sidsOf (now (annotations .entry))) (writeF64 bits)) (now (state .entry)) (now (buf .entry)) ⌝ }
 {
     if !state_bytes::value_passes(state, buf.len()) {
-        return answered(state_bytes::value_place(state, buf.len()));
+        return entry_numbers::answered(state_bytes::value_place(state, buf.len()));
     }
     let put = values::write_f64(buf, state_bytes::used(state), annotations, bits);
     ended(state, put, false, Refusal::NoRoom)
@@ -264,7 +176,7 @@ pub extern "C" fn gm_write_decimal(
     ensures { λ r. ⌜ enteredAs r (now (state .exit)) (now (buf .exit)) ≡ entered (write (sidsOf (now (annotations .entry))) (writeDecimal (not (eqb negative 0)) (now (coefficient .entry)) exponent)) (now (state .entry)) (now (buf .entry)) ⌝ }
 {
     if !state_bytes::value_passes(state, buf.len()) {
-        return answered(state_bytes::value_place(state, buf.len()));
+        return entry_numbers::answered(state_bytes::value_place(state, buf.len()));
     }
     let put = values::write_decimal(
         buf,
@@ -275,7 +187,11 @@ pub extern "C" fn gm_write_decimal(
         exponent,
     );
     if put == 0 {
-        return number_of(writer::decimal_refusal(negative != 0, coefficient, exponent));
+        return entry_numbers::number_of(writer::decimal_refusal(
+            negative != 0,
+            coefficient,
+            exponent,
+        ));
     }
     ended(state, put, false, Refusal::NoRoom)
 }
@@ -285,11 +201,11 @@ fn write_timestamp(state: &mut [u8], buf: &mut [u8], annotations: &[u8], value: 
     ensures { λ r. ⌜ enteredAs r (now (state .exit)) (now (buf .exit)) ≡ entered (write (sidsOf (now (annotations .entry))) (argumentOf value)) (now (state .entry)) (now (buf .entry)) ⌝ }
 {
     if !state_bytes::value_passes(state, buf.len()) {
-        return answered(state_bytes::value_place(state, buf.len()));
+        return entry_numbers::answered(state_bytes::value_place(state, buf.len()));
     }
     let put = values::write_timestamp(buf, state_bytes::used(state), annotations, value);
     if put == 0 {
-        return number_of(writer::timestamp_refusal(value));
+        return entry_numbers::number_of(writer::timestamp_refusal(value));
     }
     ended(state, put, false, Refusal::NoRoom)
 }
@@ -316,15 +232,15 @@ pub extern "C" fn gm_write_timestamp(
     ensures { λ r. ⌜ enteredAs r (now (state .exit)) (now (buf .exit)) ≡ entered (write (sidsOf (now (annotations .entry))) (argumentOf (timestampLent precision year month day hour minute second known offset given digits coefficient))) (now (state .entry)) (now (buf .entry)) ⌝ }
 {
     let value = Timestamp {
-        precision: precision_of(precision),
+        precision: entry_numbers::precision_of(precision),
         year,
         month,
         day,
         hour,
         minute,
         second,
-        offset: offset_of(known, offset),
-        fraction: fraction_of(given, digits, coefficient),
+        offset: entry_numbers::offset_of(known, offset),
+        fraction: entry_numbers::fraction_of(given, digits, coefficient),
     };
     write_timestamp(state, buf, annotations, value)
 }
@@ -340,7 +256,7 @@ pub extern "C" fn gm_write_symbol(
     ensures { λ r. ⌜ enteredAs r (now (state .exit)) (now (buf .exit)) ≡ entered (write (sidsOf (now (annotations .entry))) (writeSymbol sid)) (now (state .entry)) (now (buf .entry)) ⌝ }
 {
     if !state_bytes::value_passes(state, buf.len()) {
-        return answered(state_bytes::value_place(state, buf.len()));
+        return entry_numbers::answered(state_bytes::value_place(state, buf.len()));
     }
     let put = values::write_symbol(buf, state_bytes::used(state), annotations, sid);
     ended(state, put, false, Refusal::NoRoom)
@@ -357,11 +273,11 @@ pub extern "C" fn gm_write_string(
     ensures { λ r. ⌜ enteredAs r (now (state .exit)) (now (buf .exit)) ≡ entered (write (sidsOf (now (annotations .entry))) (writeString (now (bytes .entry)))) (now (state .entry)) (now (buf .entry)) ⌝ }
 {
     if !state_bytes::value_passes(state, buf.len()) {
-        return answered(state_bytes::value_place(state, buf.len()));
+        return entry_numbers::answered(state_bytes::value_place(state, buf.len()));
     }
     let put = values::write_string(buf, state_bytes::used(state), annotations, bytes);
     if put == 0 {
-        return number_of(writer::string_refusal(bytes));
+        return entry_numbers::number_of(writer::string_refusal(bytes));
     }
     ended(state, put, false, Refusal::NoRoom)
 }
@@ -377,7 +293,7 @@ pub extern "C" fn gm_write_clob(
     ensures { λ r. ⌜ enteredAs r (now (state .exit)) (now (buf .exit)) ≡ entered (write (sidsOf (now (annotations .entry))) (writeClob (now (bytes .entry)))) (now (state .entry)) (now (buf .entry)) ⌝ }
 {
     if !state_bytes::value_passes(state, buf.len()) {
-        return answered(state_bytes::value_place(state, buf.len()));
+        return entry_numbers::answered(state_bytes::value_place(state, buf.len()));
     }
     let put = values::write_clob(buf, state_bytes::used(state), annotations, bytes);
     ended(state, put, false, Refusal::NoRoom)
@@ -394,7 +310,7 @@ pub extern "C" fn gm_write_blob(
     ensures { λ r. ⌜ enteredAs r (now (state .exit)) (now (buf .exit)) ≡ entered (write (sidsOf (now (annotations .entry))) (writeBlob (now (bytes .entry)))) (now (state .entry)) (now (buf .entry)) ⌝ }
 {
     if !state_bytes::value_passes(state, buf.len()) {
-        return answered(state_bytes::value_place(state, buf.len()));
+        return entry_numbers::answered(state_bytes::value_place(state, buf.len()));
     }
     let put = values::write_blob(buf, state_bytes::used(state), annotations, bytes);
     ended(state, put, false, Refusal::NoRoom)
@@ -408,7 +324,7 @@ pub extern "C" fn gm_field_name(state: &mut [u8], buf: &mut [u8], sid: u64) -> u
     ensures { λ r. ⌜ enteredAs r (now (state .exit)) (now (buf .exit)) ≡ entered (name sid) (now (state .entry)) (now (buf .entry)) ⌝ }
 {
     if !state_bytes::name_passes(state, buf.len()) {
-        return answered(state_bytes::name_place(state, buf.len()));
+        return entry_numbers::answered(state_bytes::name_place(state, buf.len()));
     }
     let put = fields::var_uint::write(buf, state_bytes::used(state), sid);
     ended(state, put, true, Refusal::NoRoom)
@@ -419,16 +335,16 @@ fn open(state: &mut [u8], buf: &mut [u8], annotations: &[u8], kind: ContainerTyp
     ensures { λ r. ⌜ enteredAs r (now (state .exit)) (now (buf .exit)) ≡ entered (opening (sidsOf (now (annotations .entry))) (kindOf kind)) (now (state .entry)) (now (buf .entry)) ⌝ }
 {
     if !state_bytes::value_passes(state, buf.len()) {
-        return answered(state_bytes::value_place(state, buf.len()));
+        return entry_numbers::answered(state_bytes::value_place(state, buf.len()));
     }
     let depth = state_bytes::depth(state);
     if MOST_OPEN <= depth {
-        return number_of(Refusal::TooDeep);
+        return entry_numbers::number_of(Refusal::TooDeep);
     }
     let used = state_bytes::used(state);
     let put = containers::open(buf, used, annotations);
     if put == 0 {
-        return number_of(Refusal::NoRoom);
+        return entry_numbers::number_of(Refusal::NoRoom);
     }
     let code = writer::type_code(kind);
     state_bytes::store_container(
@@ -471,13 +387,13 @@ pub extern "C" fn gm_close(state: &mut [u8], buf: &mut [u8]) -> u8
     ensures { λ r. ⌜ enteredAs r (now (state .exit)) (now (buf .exit)) ≡ entered (closing) (now (state .entry)) (now (buf .entry)) ⌝ }
 {
     if !state_bytes::close_passes(state, buf.len()) {
-        return answered(state_bytes::close_place(state, buf.len()));
+        return entry_numbers::answered(state_bytes::close_place(state, buf.len()));
     }
     let depth = state_bytes::depth(state);
     let c = state_bytes::container(state, depth - 1);
     let used = containers::close(buf, state_bytes::used(state), c);
     if used == 0 {
-        return number_of(Refusal::NoRoom);
+        return entry_numbers::number_of(Refusal::NoRoom);
     }
     state_bytes::store(state, used, depth - 1, false);
     0
@@ -489,7 +405,7 @@ pub extern "C" fn gm_abandon(state: &mut [u8], buf: &mut [u8]) -> u8
     ensures { λ r. ⌜ enteredAs r (now (state .exit)) (now (buf .exit)) ≡ entered (abandonment) (now (state .entry)) (now (buf .entry)) ⌝ }
 {
     if !state_bytes::abandon_passes(state, buf.len()) {
-        return answered(state_bytes::abandon_place(state, buf.len()));
+        return entry_numbers::answered(state_bytes::abandon_place(state, buf.len()));
     }
     let depth = state_bytes::depth(state);
     let c = state_bytes::container(state, depth - 1);
@@ -540,7 +456,7 @@ pub extern "C" fn gm_version_marker(state: &mut [u8], buf: &mut [u8]) -> u8
     ensures { λ r. ⌜ enteredAs r (now (state .exit)) (now (buf .exit)) ≡ entered (versionMarker) (now (state .entry)) (now (buf .entry)) ⌝ }
 {
     if !state_bytes::top_passes(state, buf.len()) {
-        return answered(state_bytes::top_place(state, buf.len()));
+        return entry_numbers::answered(state_bytes::top_place(state, buf.len()));
     }
     let put = buffer::copy(buf, state_bytes::used(state), &MARKER);
     ended(state, put, state_bytes::waiting(state), Refusal::NoRoom)
@@ -552,7 +468,7 @@ pub extern "C" fn gm_empty(state: &mut [u8], buf: &[u8]) -> u8
     ensures { λ r. ⌜ enteredAs r (now (state .exit)) (now (buf .entry)) ≡ entered (emptying) (now (state .entry)) (now (buf .entry)) ⌝ }
 {
     if !state_bytes::top_passes(state, buf.len()) {
-        return answered(state_bytes::top_place(state, buf.len()));
+        return entry_numbers::answered(state_bytes::top_place(state, buf.len()));
     }
     let depth = state_bytes::depth(state);
     let waiting = state_bytes::waiting(state);

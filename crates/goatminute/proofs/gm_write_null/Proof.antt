@@ -6,7 +6,7 @@ use borrow.Author.Tests.{not-true, not-false}
 use Rattle.encoding.specs.Argument.{writeNull}
 use Rattle.annotations.specs.Sids.{sidsOf}
 use Rattle.scalars.specs.Types.{typeOf}
-use Rattle.goatminute.specs.Lent.{typeCoded}
+use Rattle.entry_numbers.specs.Lent.{typeCoded}
 use Rattle.machine.specs.declared.Refusal.the-variants.{NoRoom}
 use Rattle.writer.specs.Refused.{ownRefusal}
 use Rattle.goatminute.proofs.Values.{value-barred, value-fits, value-ended}

@@ -1,11 +1,11 @@
--- `goatminute::precision_of` meets its contract: a case for each number.
+-- `entry_numbers::precision_of` meets its contract: a case for each number.
 -- Assumes nothing.
 use native.Mathlib.Omega.{arith}
 use mathlib.Core.Path.{sym}
-use Rattle.goatminute.specs.Lent.{precisionNumbered}
-use Rattle.goatminute.proofs.Lent.{next, precision-past}
-use Rattle.goatminute.proofs.precision_of.Statement.{statement}
-use Rattle.goatminute.proofs.precision_of.Tie as tie
+use Rattle.entry_numbers.specs.Lent.{precisionNumbered}
+use Rattle.entry_numbers.proofs.Lent.{next, precision-past}
+use Rattle.entry_numbers.proofs.precision_of.Statement.{statement}
+use Rattle.entry_numbers.proofs.precision_of.Tie as tie
 
 returns : tie.Need-returns
 unfolding precisionNumbered

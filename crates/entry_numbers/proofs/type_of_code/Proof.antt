@@ -1,11 +1,11 @@
--- `goatminute::type_of_code` meets its contract: a case for each number.
+-- `entry_numbers::type_of_code` meets its contract: a case for each number.
 -- Assumes nothing.
 use native.Mathlib.Omega.{arith}
 use mathlib.Core.Path.{sym}
-use Rattle.goatminute.specs.Lent.{typeCoded}
-use Rattle.goatminute.proofs.Lent.{next, type-past}
-use Rattle.goatminute.proofs.type_of_code.Statement.{statement}
-use Rattle.goatminute.proofs.type_of_code.Tie as tie
+use Rattle.entry_numbers.specs.Lent.{typeCoded}
+use Rattle.entry_numbers.proofs.Lent.{next, type-past}
+use Rattle.entry_numbers.proofs.type_of_code.Statement.{statement}
+use Rattle.entry_numbers.proofs.type_of_code.Tie as tie
 
 returns : tie.Need-returns
 unfolding typeCoded

@@ -1,11 +1,11 @@
--- `goatminute::offset_of` meets its contract: given, or not.
+-- `entry_numbers::offset_of` meets its contract: given, or not.
 -- Assumes nothing.
 use borrow.Author.Tests.{eq-eqb, ne-eqb}
 use mir.ValLaws.{toZ-ofZ}
 use mir.Syntax.{w32}
-use Rattle.goatminute.specs.Lent.{offsetLent}
-use Rattle.goatminute.proofs.offset_of.Statement.{statement}
-use Rattle.goatminute.proofs.offset_of.Tie as tie
+use Rattle.entry_numbers.specs.Lent.{offsetLent}
+use Rattle.entry_numbers.proofs.offset_of.Statement.{statement}
+use Rattle.entry_numbers.proofs.offset_of.Tie as tie
 
 returns : tie.Need-returns
 unfolding offsetLent

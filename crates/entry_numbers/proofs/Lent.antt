@@ -6,7 +6,7 @@ use mathlib.Core.Path.{_≡_}
 use lib.ListN.{List·getD-eq-default}
 use Rattle.scalars.specs.declared.IonType.the-variants.{Null}
 use Rattle.timestamp.specs.declared.Precision.the-variants.{Second}
-use Rattle.goatminute.specs.Lent.{types, typeCoded, precisions, precisionNumbered}
+use Rattle.entry_numbers.specs.Lent.{types, typeCoded, precisions, precisionNumbered}
 
 -- a number that is none of those up to k
 pub next : (k n : ℕ) → k ≤ n → (n ≡ k → ⊥) → k + 1 ≤ n

@@ -1,9 +1,9 @@
--- `goatminute::fraction_of` meets its contract: given, or not.
+-- `entry_numbers::fraction_of` meets its contract: given, or not.
 -- Assumes nothing.
 use borrow.Author.Tests.{eq-eqb, ne-eqb}
-use Rattle.goatminute.specs.Lent.{fractionLent}
-use Rattle.goatminute.proofs.fraction_of.Statement.{statement}
-use Rattle.goatminute.proofs.fraction_of.Tie as tie
+use Rattle.entry_numbers.specs.Lent.{fractionLent}
+use Rattle.entry_numbers.proofs.fraction_of.Statement.{statement}
+use Rattle.entry_numbers.proofs.fraction_of.Tie as tie
 
 returns : tie.Need-returns
 unfolding fractionLent
