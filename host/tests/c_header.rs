@@ -1,4 +1,4 @@
-//! A C program that includes goatminute.h and links the library, built and run with `cc` if there is one.
+//! A C program that includes goatminute.h and links the library, built with `cc`, which cargo links with too, and run.
 use std::path::Path;
 use std::process::Command;
 
@@ -6,10 +6,6 @@ use std::process::Command;
 fn c_program_drives_the_entry_points() {
     let host = Path::new(env!("CARGO_MANIFEST_DIR"));
     let compiler = std::env::var("CC").unwrap_or_else(|_| "cc".into());
-    if Command::new(&compiler).arg("--version").output().is_err() {
-        println!("no C compiler ({compiler}): not run");
-        return;
-    }
     let program = Path::new(env!("CARGO_TARGET_TMPDIR")).join("c_calls");
     let built = Command::new(&compiler)
         .args(["-std=c11", "-Wall", "-Wextra", "-Wpedantic", "-Werror", "-I"])
