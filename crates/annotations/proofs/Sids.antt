@@ -10,7 +10,7 @@ use lib.ListN.{length, getD, length-append}
 use Rattle.encoding.specs.Fields.{varUIntBytes, varUIntsBytes, AllU64}
 use Rattle.encoding.specs.Headers.{annotationBytes}
 use Rattle.fields.proofs.Sizes.{varUInt-least, varUInt-most}
-use Rattle.annotations.specs.Sids.{leastFirst, eightBytes, sidAt, sidCount, sidsUpTo, sidsOf}
+use Rattle.annotations.specs.Sids.{leastFirst, sidAt, sidCount, sidsUpTo, sidsOf}
 
 -- the byte before k - 1 others, of eight
 pub leastFirst-more : (b : List ℕ) (at k : ℕ) → 0 < k → k ≤ 8 → getD b (at + (k - 1)) 0 + 256 * leastFirst b (at + k) (8 - k) ≡ leastFirst b (at + (k - 1)) (8 - (k - 1))
@@ -24,10 +24,22 @@ leastFirst-next : (b : List ℕ) (at n k : ℕ) → leastFirst b (at + n) (suc k
 unfolding leastFirst
 leastFirst-next b at n k = let e : at + n + 1 ≡ at + suc n = omega arith in rw (leastFirst, e) refl
 
-pub leastFirst-eight : (b : List ℕ) (at : ℕ) → eightBytes b at ≡ leastFirst b at 8
+-- eight bytes as one sum
+pub leastFirst-eight : (b : List ℕ) (at : ℕ) →
+    getD b at 0 + 256 * getD b (at + 1) 0 + 65536 * getD b (at + 2) 0 + 16777216 * getD b (at + 3) 0 + 4294967296 * getD b (at + 4) 0
+    + 1099511627776 * getD b (at + 5) 0 + 281474976710656 * getD b (at + 6) 0 + 72057594037927936 * getD b (at + 7) 0 ≡ leastFirst b at 8
 unfolding leastFirst
 leastFirst-eight b at =
-    omega (arith, leastFirst-next b at 1 6, leastFirst-next b at 2 5, leastFirst-next b at 3 4, leastFirst-next b at 4 3, leastFirst-next b at 5 2, leastFirst-next b at 6 1, leastFirst-next b at 7 0)
+    omega (
+      arith,
+      leastFirst-next b at 1 6,
+      leastFirst-next b at 2 5,
+      leastFirst-next b at 3 4,
+      leastFirst-next b at 4 3,
+      leastFirst-next b at 5 2,
+      leastFirst-next b at 6 1,
+      leastFirst-next b at 7 0,
+    )
 
 -- ---- sids are numbers of 64 bits
 

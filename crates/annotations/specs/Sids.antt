@@ -10,12 +10,6 @@ unfoldable pub leastFirst : List ℕ → ℕ → ℕ → ℕ
 leastFirst b at zero = 0
 leastFirst b at (suc k) = getD b at 0 + 256 * leastFirst b (at + 1) k
 
--- eight of them as one sum: `leastFirst-eight` says that it is the same
-abbrev pub eightBytes : List ℕ → ℕ → ℕ
-eightBytes b at =
-    getD b at 0 + 256 * getD b (at + 1) 0 + 65536 * getD b (at + 2) 0 + 16777216 * getD b (at + 3) 0 + 4294967296 * getD b (at + 4) 0
-    + 1099511627776 * getD b (at + 5) 0 + 281474976710656 * getD b (at + 6) 0 + 72057594037927936 * getD b (at + 7) 0
-
 unfoldable pub sidAt : List ℕ → ℕ → ℕ
 sidAt b i = leastFirst b (8 * i) 8
 

@@ -6,7 +6,7 @@ ghost use lib.ListN.{length, getD};
 ghost use Rattle.encoding.specs.Fields.{varUIntsBytes};
 ghost use Rattle.encoding.specs.Headers.{annotationBytes};
 ghost use Rattle.buffer.specs.Laid.{placed};
-ghost use Rattle.annotations.specs.Sids.{leastFirst, eightBytes, sidAt, sidCount, sidsOf};
+ghost use Rattle.annotations.specs.Sids.{leastFirst, sidAt, sidCount, sidsOf};
 ghost use Rattle.annotations.specs.Prefix.{prefixBytes, placedBefore};
 
 const SID_BYTES: usize = 8;
@@ -39,7 +39,9 @@ fn wide(x: u8) -> u64
 // The eight bytes from `at` on. The compiler makes one load of a sum in this form.
 fn whole_sid(annotations: &[u8], at: usize) -> u64
     requires { ⌜ at + 8 ≤ length (now annotations) ⌝ }
-    ensures { λ r. ⌜ r ≡ eightBytes (now (annotations .entry)) at ⌝ }
+    ensures { λ r. let b = now (annotations .entry) in
+        ⌜ r ≡ getD b at 0 + 256 * getD b (at + 1) 0 + 65536 * getD b (at + 2) 0 + 16777216 * getD b (at + 3) 0 + 4294967296 * getD b (at + 4) 0
+        + 1099511627776 * getD b (at + 5) 0 + 281474976710656 * getD b (at + 6) 0 + 72057594037927936 * getD b (at + 7) 0 ⌝ }
 {
     wide(annotations[at])
         + 256 * wide(annotations[at + 1])
@@ -100,7 +102,8 @@ struct Sizes {
 }
 
 fn measure(annotations: &[u8]) -> Sizes
-    ensures { λ r. ⌜ (r .sum ≡ length (varUIntsBytes (sidsOf (now (annotations .entry))))) × (r .whole ≡ length (annotationBytes (sidsOf (now (annotations .entry))))) × (r .whole ≤ 10 * 2 ^ 60 + 10) ⌝ }
+    ensures { λ r. ⌜ (r .sum ≡ length (varUIntsBytes (sidsOf (now (annotations .entry)))))
+        × (r .whole ≡ length (annotationBytes (sidsOf (now (annotations .entry))))) × (r .whole ≤ 10 * 2 ^ 60 + 10) ⌝ }
 {
     let sum = sids_size(annotations);
     let whole = fields::var_uint::encoded_size_of(sum as u64) + sum;
@@ -148,7 +151,8 @@ pub fn write(buf: &mut [u8], at: usize, annotations: &[u8]) -> usize
 
 // The same, where `inner` bytes fit behind them.
 pub fn write_before(buf: &mut [u8], at: usize, annotations: &[u8], inner: usize) -> usize
-    ensures { λ r. ⌜ _≡_ {A = ℕ × List ℕ} (r, now (buf .exit)) (placedBefore (now (buf .entry)) at (annotationBytes (sidsOf (now (annotations .entry)))) inner) ⌝ }
+    ensures { λ r. ⌜ _≡_ {A = ℕ × List ℕ} (r, now (buf .exit))
+        (placedBefore (now (buf .entry)) at (annotationBytes (sidsOf (now (annotations .entry)))) inner) ⌝ }
 {
     let sizes = measure(annotations);
     let whole = sizes.whole;
@@ -163,7 +167,8 @@ pub fn write_before(buf: &mut [u8], at: usize, annotations: &[u8], inner: usize)
 
 // The wrapper's header and the annotations, before a value of `inner` bytes. Nothing is put where the value would not fit behind them.
 pub fn write_prefix(buf: &mut [u8], at: usize, annotations: &[u8], inner: usize) -> usize
-    ensures { λ r. ⌜ _≡_ {A = ℕ × List ℕ} (r, now (buf .exit)) (placedBefore (now (buf .entry)) at (prefixBytes (sidsOf (now (annotations .entry))) inner) inner) ⌝ }
+    ensures { λ r. ⌜ _≡_ {A = ℕ × List ℕ} (r, now (buf .exit))
+        (placedBefore (now (buf .entry)) at (prefixBytes (sidsOf (now (annotations .entry))) inner) inner) ⌝ }
 {
     let sizes = measure(annotations);
     let whole = sizes.whole;

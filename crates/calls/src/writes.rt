@@ -1,4 +1,5 @@
 // The writer's call that words name: the function and its arguments, before which may stand `ann` and the sids of the annotations, eight bytes each.
+// A float is named by its bits: `f32` and `f64` hand those on, `f32_value` and `f64_value` the float itself.
 ghost use Prim.Native.Nat.{_≤_};
 ghost use lib.ListN.{length};
 use crate::words;
@@ -18,6 +19,14 @@ use writer::ContainerType;
 const BODY: u8 = 0x55;
 
 const LONGEST_BODY: usize = 65536;
+
+const SIGN_32: u32 = 0x8000_0000;
+
+const SIGN_64: u64 = 0x8000_0000_0000_0000;
+
+const INFINITY_32: u32 = 0x7F80_0000;
+
+const INFINITY_64: u64 = 0x7FF0_0000_0000_0000;
 
 fn is_annotated(call: &[u8]) -> bool {
     check::same(word(call, 0), b"ann")
@@ -91,6 +100,35 @@ fn write_f32(call: &[u8], annotations: &[u8], state: State, buf: &mut [u8]) -> W
     writer::write_f32_bits(state, buf, annotations, bits)
 }
 
+// The float of these bits. Those of a NaN are all the one NaN that the language has.
+fn f32_of(bits: u32) -> f32 {
+    if INFINITY_32 < bits % SIGN_32 {
+        return 0.0 / 0.0;
+    }
+    f32::from_bits(bits)
+}
+
+fn f64_of(bits: u64) -> f64 {
+    if INFINITY_64 < bits % SIGN_64 {
+        return 0.0 / 0.0;
+    }
+    f64::from_bits(bits)
+}
+
+fn write_f32_value(call: &[u8], annotations: &[u8], state: State, buf: &mut [u8]) -> Written {
+    let bits = (words::hex_bits(word(call, 1)) % 0x1_0000_0000) as u32;
+    writer::write_f32(state, buf, annotations, f32_of(bits))
+}
+
+fn write_f64_value(call: &[u8], annotations: &[u8], state: State, buf: &mut [u8]) -> Written {
+    writer::write_f64(
+        state,
+        buf,
+        annotations,
+        f64_of(words::hex_bits(word(call, 1))),
+    )
+}
+
 fn write_string(call: &[u8], annotations: &[u8], state: State, buf: &mut [u8]) -> Written {
     let mut bytes = [0u8; 256];
     let n = words::hex_bytes(word(call, 1), &mut bytes);
@@ -148,6 +186,12 @@ fn write_long(call: &[u8], annotations: &[u8], state: State, buf: &mut [u8]) -> 
     }
     if check::same(name, b"f32") {
         return write_f32(call, annotations, state, buf);
+    }
+    if check::same(name, b"f32_value") {
+        return write_f32_value(call, annotations, state, buf);
+    }
+    if check::same(name, b"f64_value") {
+        return write_f64_value(call, annotations, state, buf);
     }
     if check::same(name, b"decimal") {
         return write_decimal(call, annotations, state, buf);

@@ -1,26 +1,21 @@
 -- What a container that fits tells, and its close by parts of the buffer.
 -- By cases of the checks. Assumes nothing.
-use mathlib.Core.Path.{_≡_, refl, sym, _∙_, ap}
-use mathlib.Core.List.{List, [], _∷_, _++_}
-use mathlib.Core.Bool.{Bool, true, false, _&&_, _||_, and-true, and-eq-true-iff}
+use mathlib.Core.Path.{_≡_, refl}
+use mathlib.Core.List.{List, [], _++_}
+use mathlib.Core.Bool.{Bool, true, false, _&&_, _||_, and-eq-true-iff}
 use mathlib.Core.Logic.{_⊎_, inl, inr, ⊎-elim}
-use Prim.Native.Nat.{ℕ, _+_, _-_, _*_, _/_, _≤_, _<_}
+use Prim.Native.Nat.{ℕ, _+_, _-_, _*_, _/_, _≤_}
 use native.Mathlib.Omega.{arith}
 use lib.Dec.{leb, eqb}
 use lib.ListN.{length, take, drop}
 use lib.Seq.{take-take}
 use borrow.Author.Tests.{eqb-true, leb-true, eq-eqb, ne-eqb}
-use Rattle.ion.specs.Value.{listCode, sexpCode, structCode}
+use Rattle.ion.specs.Value.{annotationCode}
 use Rattle.encoding.specs.Headers.{typeByte, framedBytes}
 use Rattle.machine.specs.declared.Container.{Container}
-use Rattle.machine.specs.Machine.{closedBytes, splice, containerFits, containersFit}
-use Rattle.containers.specs.Containers.{spliced, wrapped, closedOn, abandonedOn}
+use Rattle.machine.specs.Machine.{closedBytes, splice, containerFits}
+use Rattle.containers.specs.Containers.{spliced, closedOn, abandonedOn}
 use Rattle.containers.proofs.Moves.{part, slice-part}
-
--- the innermost of several that fit, and the others below its start
-pub containersFit-cons : (limit : ℕ) (c : Container) (cs : List Container) → containersFit limit (c ∷ cs) ≡ (containerFits limit c && containersFit (c .start) cs)
-unfolding containersFit
-containersFit-cons limit c cs = refl
 
 pub record Fit (c : Container) (limit : ℕ) : Type 0 where
   pub high : c .code / 16 * 16 ≡ c .code
@@ -64,10 +59,18 @@ module _ (c : Container) (used : ℕ) (b : List ℕ) where
     unfolding closedBytes
     closedBytes-plain e = rw (closedBytes, eq-eqb (c .header) (c .start) e, body-part, e) refl
 
-    pub closedBytes-wrapped : c .start + 2 ≤ c .header → closedBytes c (take used b) ≡ wrapped b (c .start) (c .header) (c .code) (used - (c .header + 2))
-    unfolding closedBytes wrapped
+    pub closedBytes-wrapped : c .start + 2 ≤ c .header → closedBytes c (take used b)
+        ≡ framedBytes (typeByte annotationCode)
+        (part b (c .start + 2) (c .header - (c .start + 2)) ++ framedBytes (c .code) (part b (c .header + 2) (used - (c .header + 2))))
+    unfolding closedBytes
     closedBytes-wrapped h =
-        rw (closedBytes, ne-eqb (c .header) (c .start) (λ e. omega arith), body-part, take-take (c .header) used b (omega arith), slice-part b (c .start + 2) (c .header) h (omega arith)) refl
+        rw (
+          closedBytes,
+          ne-eqb (c .header) (c .start) (λ e. omega arith),
+          body-part,
+          take-take (c .header) used b (omega arith),
+          slice-part b (c .start + 2) (c .header) h (omega arith),
+        ) refl
 
 -- ---- the abandonment
 

@@ -10,7 +10,7 @@ use Rattle.encoding.specs.Headers.{headerBytes, framedBytes}
 use Rattle.machine.specs.Machine.{splice}
 use Rattle.buffer.specs.Laid.{laid}
 use Rattle.buffer.proofs.Laid.{laid-is, laid-more, laid-before}
-use Rattle.fields.proofs.Headers.{length-header, header-least}
+use Rattle.fields.proofs.Headers.{length-header}
 use Rattle.containers.specs.Containers.{spliced}
 
 -- ---- two runs side by side, the second at a place that the code computes
@@ -34,9 +34,6 @@ framed-is t n body e = ap (λ (k : ℕ). headerBytes t k ++ body) e
 pub length-framed : (t : ℕ) (body : List ℕ) → length (framedBytes t body) ≡ length (headerBytes 0 (length body)) + length body
 unfolding framedBytes
 length-framed t body = length-append (headerBytes t (length body)) body ∙ ap (λ (n : ℕ). n + length body) (length-header t (length body))
-
-pub framed-least : (t : ℕ) (body : List ℕ) → 1 ≤ length (framedBytes t body)
-framed-least t body = omega (arith, length-framed t body, header-least 0 (length body))
 
 module _ (used p : ℕ) (out b : List ℕ) where
   splice-run : p + length out ≤ length b → splice used p out b ≡ laid b p (out ++ zeros (used - (p + length out)))

@@ -7,12 +7,13 @@ use Prim.Native.Nat.{ℕ, _+_, _-_, _≤_, _<_}
 use native.Mathlib.Omega.{arith}
 use lib.Dec.{ltb}
 use borrow.Author.Tests.{ltb-true, ltb-false}
-use lib.ListN.{length, length-append}
-use Rattle.encoding.specs.Headers.{headerBytes, framedBytes}
+use lib.ListN.{length, take, length-append}
+use Rattle.encoding.specs.Headers.{headerBytes}
+use Rattle.machine.specs.Machine.{closedBytes}
 use Rattle.buffer.specs.Laid.{laid}
 use Rattle.fields.proofs.Sizes.{varUInt-least}
 use Rattle.fields.proofs.Headers.{header-short, header-long, length-header}
-use Rattle.containers.specs.Containers.{wrapped}
+use Rattle.containers.proofs.Closed.{closedBytes-wrapped}
 use Rattle.containers.proofs.Moves.{part, length-part, part-before, part-behind}
 use Rattle.containers.proofs.Splice.{then-behind, then-before, framed-is}
 
@@ -62,16 +63,25 @@ module _ (b : List ℕ) (start header code len h w : ℕ)
         content = length-append A (H ++ B) ∙ omega arith;
       }
 
-  whole : W ++ (A ++ (H ++ B)) ≡ wrapped b start header code len
-  unfolding wrapped
-  whole = let k = lengths in sym (ap (λ (x : List ℕ). framedBytes 0xE0 (A ++ x)) (framed-is code len B (k .body)) ∙ framed-is 0xE0 _ (A ++ (H ++ B)) (k .content))
+  -- the final bytes
+  abbrev closed : List ℕ
+  closed = closedBytes (record { start = start; header = header; code = code }) (take (header + 2 + len) b)
 
-  pub length-wrapped : length (wrapped b start header code len) ≡ w + (header - (start + 2) + h + len)
+  whole : W ++ (A ++ (H ++ B)) ≡ closed
+  whole =
+      let k = lengths in
+      let n : header + 2 + len - (header + 2) ≡ len = omega arith in
+      sym (
+      closedBytes-wrapped (record { start = start; header = header; code = code }) (header + 2 + len) b (omega arith) f s
+      ∙ rw (n, framed-is code len B (k .body)) (framed-is 0xE0 _ (A ++ (H ++ B)) (k .content))
+      )
+
+  pub length-wrapped : length closed ≡ w + (header - (start + 2) + h + len)
   length-wrapped = let k = lengths in ap length (sym whole) ∙ (length-append W (A ++ (H ++ B)) ∙ omega arith)
 
   module _ (g : start + w + (header - (start + 2)) + h + len ≤ length b) where
     -- the wrapper's header before all else
-    last : {l₃ l₄ : List ℕ} → l₃ ≡ laid b (start + w) (A ++ (H ++ B)) → l₄ ≡ laid l₃ start W → l₄ ≡ laid b start (wrapped b start header code len)
+    last : {l₃ l₄ : List ℕ} → l₃ ≡ laid b (start + w) (A ++ (H ++ B)) → l₄ ≡ laid l₃ start W → l₄ ≡ laid b start closed
     last e₃ e₄ =
         let k = lengths in
         then-before b start W (A ++ (H ++ B)) (start + w) (omega arith) (omega arith) e₃ e₄ ∙ ap (laid b start) whole
@@ -82,7 +92,7 @@ module _ (b : List ℕ) (start header code len h w : ℕ)
         → l₂ ≡ laid l₁ (start + w + (header - (start + 2))) H
         → l₃ ≡ laid l₂ (start + w) (part l₂ (start + 2) (header - (start + 2)))
         → l₄ ≡ laid l₃ start W
-        → l₄ ≡ laid b start (wrapped b start header code len)
+        → l₄ ≡ laid b start closed
     from-the-right {l₁} {l₂} {l₃} {l₄} u e₁ e₂ e₃ e₄ =
         let k = lengths in
         let i = start + w + (header - (start + 2)) in
@@ -96,7 +106,7 @@ module _ (b : List ℕ) (start header code len h w : ℕ)
         → l₂ ≡ laid l₁ (start + w + (header - (start + 2))) H
         → l₃ ≡ laid l₂ (start + w + (header - (start + 2)) + h) (part l₂ (header + 2) len)
         → l₄ ≡ laid l₃ start W
-        → l₄ ≡ laid b start (wrapped b start header code len)
+        → l₄ ≡ laid b start closed
     from-the-left {l₁} {l₂} {l₃} {l₄} u e₁ e₂ e₃ e₄ =
         let k = lengths in
         let o = one-byte (header - (start + 2)) h len (omega arith) in

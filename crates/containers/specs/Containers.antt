@@ -1,12 +1,10 @@
 -- What closing and abandoning a container answer, and what they leave in every byte of the lent buffer.
 -- Assumes nothing.
-use Prim.Native.Nat.{ℕ, _+_, _-_}
+use Prim.Native.Nat.{ℕ, _+_}
 use mathlib.Core.Bool.{Bool, true, false, _&&_}
-use mathlib.Core.List.{List, [], _++_}
+use mathlib.Core.List.{List, []}
 use lib.Dec.{leb}
-use lib.ListN.{length, take, drop}
-use Rattle.ion.specs.Value.{annotationCode}
-use Rattle.encoding.specs.Headers.{typeByte, framedBytes}
+use lib.ListN.{length, take}
 use Rattle.machine.specs.declared.Container.{Container}
 use Rattle.machine.specs.Machine.{closedBytes, splice, containerFits}
 
@@ -16,13 +14,9 @@ spliced used p out b = elim (leb (p + length out) (length b)) [ true ↦ (p + le
 
 -- a container that does not fit alters nothing
 unfoldable pub closedOn : Container → ℕ → List ℕ → ℕ × List ℕ
-closedOn c used b = elim (containerFits used c && leb used (length b)) [ true ↦ spliced used (c .start) (closedBytes c (take used b)) b | false ↦ (0, b) ]
+closedOn c used b =
+    elim (containerFits used c && leb used (length b)) [ true ↦ spliced used (c .start) (closedBytes c (take used b)) b | false ↦ (0, b) ]
 
 -- whether the bytes from the start on were given back, and the buffer
 unfoldable pub abandonedOn : ℕ → ℕ → List ℕ → Bool × List ℕ
 abandonedOn used start b = elim (leb start used && leb used (length b)) [ true ↦ (true, splice used start [] b) | false ↦ (false, b) ]
-
--- The final bytes of a container with annotations, whose body has so many bytes behind the header's reserve.
-unfoldable pub wrapped : List ℕ → ℕ → ℕ → ℕ → ℕ → List ℕ
-wrapped b start header code body =
-    framedBytes (typeByte annotationCode) (take (header - (start + 2)) (drop (start + 2) b) ++ framedBytes code (take body (drop (header + 2) b)))

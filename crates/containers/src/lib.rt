@@ -4,11 +4,11 @@ ghost use mathlib.Core.Bool.{Bool};
 ghost use mathlib.Core.List.{List, [], _∷_, _++_};
 ghost use Prim.Native.Nat.{ℕ, _+_, _-_, _*_, _/_, _<_, _≤_};
 ghost use lib.ListN.{length, take, drop, replicate};
-ghost use Rattle.encoding.specs.Headers.{headerBytes, framedBytes, annotationBytes};
-ghost use Rattle.machine.specs.Machine.{reserve};
+ghost use Rattle.encoding.specs.Headers.{headerBytes, annotationBytes};
+ghost use Rattle.machine.specs.Machine.{reserve, closedBytes};
 ghost use Rattle.buffer.specs.Laid.{laid, placed};
 ghost use Rattle.annotations.specs.Sids.{sidsOf};
-ghost use Rattle.containers.specs.Containers.{spliced, wrapped, closedOn, abandonedOn};
+ghost use Rattle.containers.specs.Containers.{spliced, closedOn, abandonedOn};
 
 // The type byte of an annotation wrapper.
 const WRAPPER: u8 = 0xE0;
@@ -77,7 +77,8 @@ fn put_header(buf: &mut [u8], at: usize, code: u8, body: usize)
 // A container without annotations: its header in the short form, and its body behind it.
 fn close_plain(buf: &mut [u8], used: usize, start: usize, code: u8) -> usize
     requires { ⌜ (code / 16 * 16 ≡ code) × (start + 2 ≤ used) × (used ≤ length (now buf)) ⌝ }
-    ensures { λ r. ⌜ _≡_ {A = ℕ × List ℕ} (r, now (buf .exit)) (spliced used start (framedBytes code (take (used - (start + 2)) (drop (start + 2) (now (buf .entry))))) (now (buf .entry))) ⌝ }
+    ensures { λ r. ⌜ _≡_ {A = ℕ × List ℕ} (r, now (buf .exit))
+        (spliced used start (closedBytes (record { start = start; header = start; code = code }) (take used (now (buf .entry)))) (now (buf .entry))) ⌝ }
 {
     let body = used - (start + RESERVE);
     let size = fields::header::encoded_size_of(body);
@@ -102,8 +103,11 @@ fn lay_wrapped(
     inner: usize,
     wrapper: usize,
 )
-    requires { ⌜ (code / 16 * 16 ≡ code) × (start + 2 ≤ header) × (header + 2 + body ≤ length (now buf)) × (start + wrapper + (header - (start + 2)) + inner + body ≤ length (now buf)) × (inner ≡ length (headerBytes 0 body)) × (wrapper ≡ length (headerBytes 0 (header - (start + 2) + inner + body))) ⌝ }
-    ensures { λ r. ⌜ now (buf .exit) ≡ laid (now (buf .entry)) start (wrapped (now (buf .entry)) start header code body) ⌝ }
+    requires { ⌜ (code / 16 * 16 ≡ code) × (start + 2 ≤ header) × (header + 2 + body ≤ length (now buf))
+        × (start + wrapper + (header - (start + 2)) + inner + body ≤ length (now buf))
+        × (inner ≡ length (headerBytes 0 body)) × (wrapper ≡ length (headerBytes 0 (header - (start + 2) + inner + body))) ⌝ }
+    ensures { λ r. ⌜ now (buf .exit) ≡ laid (now (buf .entry)) start
+        (closedBytes (record { start = start; header = header; code = code }) (take (header + 2 + body) (now (buf .entry)))) ⌝ }
 {
     let noted = header - (start + RESERVE);
     let place = start + wrapper + noted;
@@ -123,7 +127,8 @@ fn lay_wrapped(
 // A container with annotations: the wrapper's length counts the inner header in its final size.
 fn close_annotated(buf: &mut [u8], used: usize, start: usize, header: usize, code: u8) -> usize
     requires { ⌜ (code / 16 * 16 ≡ code) × (start + 2 ≤ header) × (header + 2 ≤ used) × (used ≤ length (now buf)) ⌝ }
-    ensures { λ r. ⌜ _≡_ {A = ℕ × List ℕ} (r, now (buf .exit)) (spliced used start (wrapped (now (buf .entry)) start header code (used - (header + 2))) (now (buf .entry))) ⌝ }
+    ensures { λ r. ⌜ _≡_ {A = ℕ × List ℕ} (r, now (buf .exit))
+        (spliced used start (closedBytes (record { start = start; header = header; code = code }) (take used (now (buf .entry)))) (now (buf .entry))) ⌝ }
 {
     let body = used - (header + RESERVE);
     let inner = fields::header::encoded_size_of(body);
@@ -176,7 +181,8 @@ fn put_reserve(buf: &mut [u8], at: usize) -> usize
 
 // The wrapper's reserve, the annotations and the header's reserve.
 fn open_annotated(buf: &mut [u8], at: usize, annotations: &[u8]) -> usize
-    ensures { λ r. ⌜ _≡_ {A = ℕ × List ℕ} (r, now (buf .exit)) (placed (now (buf .entry)) at (0 ∷ 0 ∷ (annotationBytes (sidsOf (now (annotations .entry))) ++ (0 ∷ 0 ∷ [])))) ⌝ }
+    ensures { λ r. ⌜ _≡_ {A = ℕ × List ℕ} (r, now (buf .exit))
+        (placed (now (buf .entry)) at (0 ∷ 0 ∷ (annotationBytes (sidsOf (now (annotations .entry))) ++ (0 ∷ 0 ∷ [])))) ⌝ }
 {
     if !buffer::has_room(buf.len(), at, 2 * RESERVE) {
         return 0;

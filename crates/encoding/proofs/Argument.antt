@@ -2,30 +2,30 @@
 -- Assumes nothing.
 use Prim.Native.Nat.{ℕ, zero, suc, _^_, _<_}
 use native.Mathlib.Omega.{arith}
-use mathlib.Core.Path.{_≡_, refl, sym, _∙_, ap, subst}
-use mathlib.Core.Bool.{true, false, true≢false, not}
+use mathlib.Core.Path.{_≡_, refl, _∙_, subst}
+use mathlib.Core.Bool.{true, false, true≢false}
 use mathlib.Core.List.{List, [], _∷_}
 use mathlib.Core.Option.{some}
-use lib.Dec.{T, eqb, ltb}
+use lib.Dec.{eqb, ltb}
 use lib.ListN.{length}
 use lib.IntN.{pos, negsuc, negℤ}
-use lib.Ieee.{binary32, binary64, ofBits, toBits, isNan}
-use lib.Ieee.{fits as holds}
-use lib.Ieee.Bits.{ofBits-toBits, toBits-lt}
+use lib.Ieee.{binary32, binary64, ofBits, toBits}
 use borrow.Author.Tests.{ltb-false, eqb-true, not-false, lt-ltb}
 use Rattle.ion.specs.Value.{IonType, ionNull, ionBool, ionInt, ionFloat, ionDecimal, ionTimestamp, ionSymbol, ionString, ionClob, ionBlob, ionList, ionSexp, ionStruct, positiveCode, negativeCode, decimalCode, timestampCode, symbolCode, stringCode, clobCode, blobCode, nullType, FloatValue, finite, signed, int, float, decimal, timestamp, symbol, string, clob, blob, scalar}
 use Rattle.ion.specs.Fields.{uint}
 use Rattle.ion.specs.Text.{utf8}
-use Rattle.ion.specs.Scalars.{intOf, floatValue, floatOf, scalarOf}
+use Rattle.ion.specs.Scalars.{intOf, floatOf, scalarOf}
 use Rattle.ion.specs.Grammar.{bare, _⟶_, is-null, is-false, is-true, is-zero, is-float32, is-float64}
-use Rattle.ion.proofs.Tests.{by-cases, both}
+use Rattle.ion.proofs.Tests.{by-cases}
 use Rattle.encoding.specs.Fields.{uintBytes, fixedBytes, trimmed, orZero}
 use Rattle.encoding.specs.Decimal.{decimalBody}
 use Rattle.encoding.specs.Timestamp.{utc, isTimestamp, timestampBody}
-use Rattle.encoding.specs.Argument.{Argument, writeNull, writeBool, writeI64, writeInt, writeF32, writeF64, writeDecimal, writeTimestamp, writeSymbol, writeString, writeClob, writeBlob, codeOfNull, float32Bytes, narrows, float64Bytes, argumentBytes, meaning, argumentChecks, NoneHolds, Typed}
+use Rattle.encoding.specs.Argument.{Argument, writeNull, writeBool, writeI64, writeInt, writeF32, writeF64, writeDecimal, writeTimestamp, writeSymbol, writeString, writeClob, writeBlob, codeOfNull, float32Bytes, narrows, float64Bytes, argumentBytes, meaning, argumentChecks, Typed}
+use Rattle.encoding.proofs.Writable.{NoneHolds}
 use Rattle.encoding.proofs.Digits.{length-lowDigits, bigEndian-fixed}
 use Rattle.encoding.proofs.Fields.{uintBytes-reads, uintBytes-short, trimmed-same, trimmed-shorter, orZero-same}
 use Rattle.encoding.proofs.Headers.{scalar-reads}
+use Rattle.encoding.proofs.Narrowing.{narrowed-exact}
 use Rattle.encoding.proofs.Decimal.{decimalBody-reads}
 use Rattle.encoding.proofs.Timestamp.{timestampBody-reads}
 
@@ -82,14 +82,6 @@ float32-reads an b h =
     by-cases (eqb b 0)
     (λ p. rw (p, float32Bytes, eqb-true b 0 p, float-zero) is-zero)
     (λ p. rw (p, float32Bytes) (subst (λ (n : ℕ). (0x44 ∷ fixedBytes 4 b) ⟶ bare an (scalar an (float (floatOf binary32 n)))) (fixed-reads 4 b h) (is-float32 (fixedBytes 4 b) (fixed-length 4 b))))
-
--- what goes out in four bytes is held exactly
-pub narrowed-exact : (b : ℕ) → narrows b ≡ true → (toBits binary32 (ofBits binary64 b) < 2 ^ 32) × (floatOf binary32 (toBits binary32 (ofBits binary64 b)) ≡ floatOf binary64 b)
-unfolding narrows floatOf
-narrowed-exact b e =
-    let v = ofBits binary64 b in
-    let t : T (holds binary32 v) = subst T (sym (both {a = not (isNan v)} e .1)) tt in
-    (toBits-lt binary32 v t, ap floatValue (ofBits-toBits binary32 v t))
 
 float64-reads : (an : List ℕ) (b : ℕ) → b < 2 ^ 64 → float64Bytes b ⟶ bare an (scalar an (float (floatOf binary64 b)))
 unfolding float64Bytes

@@ -8,14 +8,14 @@ use mathlib.Core.Bool.{Bool, true, false, false≢true, cond, _&&_}
 use mathlib.Core.List.{List, [], _∷_}
 use mathlib.Core.Option.{some}
 use lib.Dec.{ltb, leb}
-use lib.ListN.{length, getD}
-use lib.IntN.{ℤ, pos, negsuc, _-ℤ_}
+use lib.ListN.{length, take, drop, getD}
+use lib.IntN.{ℤ, pos, negsuc, natAbs, _-ℤ_}
 use borrow.Author.Tests.{ltb-true, ltb-false, leb-true, le-ltb}
 use Rattle.ion.specs.Value.{Fraction}
 use Rattle.ion.specs.Calendar.{isLeapYear, daysInMonth, isMonth, isDay, daysBeforeMonth, daysBeforeYear, dayNumber, minuteNumber}
 use Rattle.ion.specs.Scalars.{areFields}
 use Rattle.ion.proofs.Tests.{by-cases, both}
-use Rattle.encoding.specs.Timestamp.{Date, date, dayBefore, dayAfter, nearDay, utcMinutes, utc, isLocalYear, offsetFits, isTimestamp, fieldsAt, minuteOf}
+use Rattle.encoding.specs.Timestamp.{Date, date, dayBefore, dayAfter, utcMinutes, utcDay, fieldsAt, utc, isLocalYear, offsetFits, isTimestamp, minuteOf, UtcIsLocalMinusOffset, MinuteUnique}
 
 -- ---- real days
 
@@ -29,12 +29,15 @@ pub record RealDay (y m d : ℕ) : Type 0 where
 abbrev pub RealDate : Date → Type 0
 RealDate (date y m d) = RealDay y m d
 
+real : (y m d : ℕ) → y ≤ 10000 → 1 ≤ m → m ≤ 12 → 1 ≤ d → d ≤ daysInMonth y m → RealDay y m d
+real y m d a b c e f = record { year = a; month-least = b; month-most = c; day-least = e; day-most = f }
+
 pub real-of : (y m d : ℕ) → leb y 10000 ≡ true → isDay y m d ≡ true → RealDay y m d
 real-of y m d e f =
     let a = both {a = isMonth m} f in
     let b = both {a = leb 1 m} (a .0) in
     let c = both {a = leb 1 d} (a .1) in
-    record { year = leb-true y 10000 e; month-least = leb-true 1 m (b .0); month-most = leb-true m 12 (b .1); day-least = leb-true 1 d (c .0); day-most = leb-true d (daysInMonth y m) (c .1) }
+    real y m d (leb-true y 10000 e) (leb-true 1 m (b .0)) (leb-true m 12 (b .1)) (leb-true 1 d (c .0)) (leb-true d (daysInMonth y m) (c .1))
 
 -- what holds of each entry of a table holds at an index of it
 allHold : (ℕ → Bool) → List ℕ → Bool
@@ -65,7 +68,8 @@ days-range y (suc m) h k = of-table (cond (isLeapYear y) 29 28) (february (isLea
     february true = refl
     february false = refl
 
-    of-table : (feb : ℕ) → inMonth feb ≡ true → (28 ≤ getD (31 ∷ feb ∷ 31 ∷ 30 ∷ 31 ∷ 30 ∷ 31 ∷ 31 ∷ 30 ∷ 31 ∷ 30 ∷ 31 ∷ []) m 0) × (getD (31 ∷ feb ∷ 31 ∷ 30 ∷ 31 ∷ 30 ∷ 31 ∷ 31 ∷ 30 ∷ 31 ∷ 30 ∷ 31 ∷ []) m 0 ≤ 31)
+    of-table : (feb : ℕ) → inMonth feb ≡ true →
+        let l : List ℕ = 31 ∷ feb ∷ 31 ∷ 30 ∷ 31 ∷ 30 ∷ 31 ∷ 31 ∷ 30 ∷ 31 ∷ 30 ∷ 31 ∷ [] in (28 ≤ getD l m 0) × (getD l m 0 ≤ 31)
     of-table feb e =
         let l : List ℕ = 31 ∷ feb ∷ 31 ∷ 30 ∷ 31 ∷ 30 ∷ 31 ∷ 31 ∷ 30 ∷ 31 ∷ 30 ∷ 31 ∷ [] in
         let q = both {a = leb 28 (getD l m 0)} (holds-at inMonth l m (unfold allHold in rw e) (omega arith)) in
@@ -78,30 +82,36 @@ before-real : (y m d : ℕ) → 1 ≤ y → RealDay y m d → RealDate (dayBefor
 unfolding dayBefore
 before-real y m d h g =
     by-cases (ltb 1 d)
-    (λ p. let q : 1 < d = ltb-true 1 d p in rw (p, dayBefore) (record { year = g .year; month-least = g .month-least; month-most = g .month-most; day-least = omega arith; day-most = omega (arith, g .day-most) }))
+    (λ p.
+    let q : 1 < d = ltb-true 1 d p in
+    rw (p, dayBefore) (real y m (d - 1) (g .year) (g .month-least) (g .month-most) (omega arith) (omega (arith, g .day-most))))
     (λ p. by-cases (ltb 1 m)
     (λ q.
     let r : 1 < m = ltb-true 1 m q in
     let n = days-range y (m - 1) (omega arith) (omega (arith, g .month-most)) in
-    rw (p, dayBefore, q) (record { year = g .year; month-least = omega arith; month-most = omega (arith, g .month-most); day-least = omega (arith, n .0); day-most = omega arith }))
-    (λ q. rw (p, dayBefore, q) (record { year = omega (arith, g .year); month-least = omega arith; month-most = omega arith; day-least = omega arith; day-most = omega arith })))
+    rw (p, dayBefore, q)
+    (real y (m - 1) (daysInMonth y (m - 1)) (g .year) (omega arith) (omega (arith, g .month-most)) (omega (arith, n .0)) (omega arith)))
+    (λ q. rw (p, dayBefore, q) (real (y - 1) 12 31 (omega (arith, g .year)) (omega arith) (omega arith) (omega arith) (omega arith))))
 
 after-real : (y m d : ℕ) → y ≤ 9999 → RealDay y m d → RealDate (dayAfter y m d)
 unfolding dayAfter
 after-real y m d h g =
     by-cases (ltb d (daysInMonth y m))
-    (λ p. let q : d < daysInMonth y m = ltb-true d (daysInMonth y m) p in rw (p, dayAfter) (record { year = g .year; month-least = g .month-least; month-most = g .month-most; day-least = omega arith; day-most = omega arith }))
+    (λ p.
+    let q : d < daysInMonth y m = ltb-true d (daysInMonth y m) p in
+    rw (p, dayAfter) (real y m (d + 1) (g .year) (g .month-least) (g .month-most) (omega arith) (omega arith)))
     (λ p. by-cases (ltb m 12)
     (λ q.
     let r : m < 12 = ltb-true m 12 q in
     let n = days-range y (m + 1) (omega arith) (omega arith) in
-    rw (p, dayAfter, q) (record { year = g .year; month-least = omega arith; month-most = omega arith; day-least = omega arith; day-most = omega (arith, n .0) }))
-    (λ q. rw (p, dayAfter, q) (record { year = omega arith; month-least = omega arith; month-most = omega arith; day-least = omega arith; day-most = omega arith })))
+    rw (p, dayAfter, q) (real y (m + 1) 1 (g .year) (omega arith) (omega arith) (omega arith) (omega (arith, n .0))))
+    (λ q. rw (p, dayAfter, q) (real (y + 1) 1 1 (omega arith) (omega arith) (omega arith) (omega arith) (omega arith))))
 
-pub near-real : (k y m d : ℕ) → 1 ≤ y → y ≤ 9999 → RealDay y m d → RealDate (nearDay k y m d)
-near-real zero y m d a b g = before-real y m d a g
-near-real (suc zero) y m d a b g = g
-near-real (suc (suc k)) y m d a b g = after-real y m d b g
+pub utcDay-real : (t y m d : ℕ) → 1 ≤ y → y ≤ 9999 → RealDay y m d → RealDate (utcDay t y m d)
+utcDay-real t y m d a b g =
+    by-cases (ltb t 1440)
+    (λ p. rw p (before-real y m d a g))
+    (λ p. by-cases (ltb t 2880) (λ q. rw (p, q) g) (λ q. rw (p, q) (after-real y m d b g)))
 
 -- ---- day numbers
 
@@ -155,32 +165,28 @@ before-number y m d h g =
     let b : daysBeforeMonth y m ≡ 0 = ap (daysBeforeMonth y) f ∙ month-first y in
     rw (p, dayBefore, r) (omega (arith, month-next (y - 1) 12))))
 
-near-number : (k y m d : ℕ) → 1 ≤ y → RealDay y m d → k ≤ 2 → suc (numberOf (nearDay k y m d)) ≡ dayNumber y m d + k
-near-number zero y m d h g k = before-number y m d h g ∙ omega arith
-near-number (suc zero) y m d h g k = omega arith
-near-number (suc (suc zero)) y m d h g k = ap suc (after-number y m d g) ∙ omega arith
-near-number (suc (suc (suc n))) y m d h g k = absurd (many n k)
-  where
-    many : (j : ℕ) → suc (suc (suc j)) ≤ 2 → ⊥
-    many j q = omega arith
-
 -- ---- minutes
 
 abbrev minuteAt : Date → ℕ → ℕ
 minuteAt x t = numberOf x * 1440 + t % 1440
 
--- t minutes from the start of the day before are the minute t % 1440 of the day t / 1440
-near-minute : (t y m d : ℕ) → 1 ≤ y → RealDay y m d → t < 4320 → minuteAt (nearDay (t / 1440) y m d) t + 1440 ≡ dayNumber y m d * 1440 + t
-near-minute t y m d h g lt =
-    let e : suc (numberOf (nearDay (t / 1440) y m d)) ≡ dayNumber y m d + t / 1440 = near-number (t / 1440) y m d h g (omega arith) in
-    omega (arith, e)
+-- t minutes from the start of the day before are the minute t % 1440 of their day
+utcDay-minute : (t y m d : ℕ) → 1 ≤ y → RealDay y m d → t < 4320 → minuteAt (utcDay t y m d) t + 1440 ≡ dayNumber y m d * 1440 + t
+utcDay-minute t y m d h g lt =
+    by-cases (ltb t 1440)
+    (λ p. rw p (omega (arith, ltb-true t 1440 p, before-number y m d h g)))
+    (λ p.
+    by-cases (ltb t 2880)
+    (λ q. rw (p, q) (omega (arith, ltb-false t 1440 p, ltb-true t 2880 q)))
+    (λ q. rw (p, q) (omega (arith, ltb-false t 2880 q, after-number y m d g))))
 
 fields-minute : (x : Date) (t : ℕ) (r : List ℕ) → minuteOf (fieldsAt x t r) ≡ pos (minuteAt x t)
 unfolding minuteNumber
 fields-minute (date y m d) t r = ap pos (omega arith)
 
 -- u is a minute of the calendar that lies local minus offset from the same day's start
-minus-offset : (z : ℤ) (n h i u : ℕ) (fs : List ℕ) → offsetFits (some z) fs ≡ true → 1440 ≤ n → u + 1440 ≡ n + utcMinutes z h i → pos u ≡ pos (n + (h * 60 + i)) -ℤ z
+minus-offset : (z : ℤ) (n h i u : ℕ) (fs : List ℕ) → offsetFits (some z) fs ≡ true → 1440 ≤ n → u + 1440 ≡ n + utcMinutes z h i →
+    pos u ≡ pos (n + (h * 60 + i)) -ℤ z
 minus-offset (pos zero) n h i u fs f big e = ap pos (omega arith)
 minus-offset (pos (suc k)) n h i u fs f big e =
     let le : suc k ≤ 1439 = leb-true (suc k) 1439 (both {a = leb 5 (length fs)} f .1) in
@@ -219,20 +225,43 @@ day-positive : (y m d : ℕ) → RealDay y m d → 1440 ≤ dayNumber y m d * 14
 unfolding dayNumber
 day-positive y m d g = omega (arith, g .day-least)
 
--- UTC is local minus offset, of every timestamp that passes check 7 and has a minute; the seconds stay.
-pub utc-is-local-minus-offset : (z : ℤ) (y m d h i : ℕ) (r : List ℕ) (x : Fraction) → isTimestamp (some z) (y ∷ m ∷ d ∷ h ∷ i ∷ r) x ≡ true
-    → minuteOf (utc (some z) (y ∷ m ∷ d ∷ h ∷ i ∷ r)) ≡ minuteOf (y ∷ m ∷ d ∷ h ∷ i ∷ r) -ℤ z
+-- a known offset needs the minute
+minute-given : (z : ℤ) (fs : List ℕ) → offsetFits (some z) fs ≡ true → 5 ≤ length fs
+minute-given (pos n) fs e = leb-true 5 (length fs) (both {a = leb 5 (length fs)} e .0)
+minute-given (negsuc n) fs e = leb-true 5 (length fs) (both {a = leb 5 (length fs)} e .0)
+
+-- fields with a minute, and those behind it
+front : (fs : List ℕ) → 5 ≤ length fs → fs ≡ getD fs 0 0 ∷ getD fs 1 0 ∷ getD fs 2 0 ∷ getD fs 3 0 ∷ getD fs 4 0 ∷ drop 5 fs
+front [] h = absurd (omega arith)
+front (y ∷ []) h = absurd (omega arith)
+front (y ∷ m ∷ []) h = absurd (omega arith)
+front (y ∷ m ∷ d ∷ []) h = absurd (omega arith)
+front (y ∷ m ∷ d ∷ h ∷ []) k = absurd (omega arith)
+front (y ∷ m ∷ d ∷ h ∷ i ∷ r) k = refl
+
+local-minus-offset : (z : ℤ) (y m d h i : ℕ) (r : List ℕ) (x : Fraction) → isTimestamp (some z) (y ∷ m ∷ d ∷ h ∷ i ∷ r) x ≡ true →
+    minuteOf (utc (some z) (y ∷ m ∷ d ∷ h ∷ i ∷ r)) ≡ minuteOf (y ∷ m ∷ d ∷ h ∷ i ∷ r) -ℤ z
 unfolding isTimestamp
-utc-is-local-minus-offset z y m d h i r x e =
-    let a = both {a = areFields (y ∷ m ∷ d ∷ h ∷ i ∷ r)} e in
-    let b = both {a = isLocalYear (y ∷ m ∷ d ∷ h ∷ i ∷ r)} (a .1) in
-    let o = both {a = offsetFits (some z) (y ∷ m ∷ d ∷ h ∷ i ∷ r)} (b .1) .0 in
+local-minus-offset z y m d h i r x e =
+    let fs = y ∷ m ∷ d ∷ h ∷ i ∷ r in
+    let a = both {a = areFields fs} e in
+    let b = both {a = isLocalYear fs} (a .1) in
+    let o = both {a = offsetFits (some z) fs} (b .1) .0 in
     let w = with-minute y m d h i r (a .0) in
     let t = utcMinutes z h i in
-    let q = near-minute t y m d (local-year y (m ∷ d ∷ h ∷ i ∷ r) (b .0) .0) (w .real) (within-days z h i (y ∷ m ∷ d ∷ h ∷ i ∷ r) o (w .hour) (w .minute)) in
-    fields-minute (nearDay (t / 1440) y m d) t r
-    ∙ minus-offset z (dayNumber y m d * 1440) h i (minuteAt (nearDay (t / 1440) y m d) t) (y ∷ m ∷ d ∷ h ∷ i ∷ r) o (day-positive y m d (w .real)) q
+    let q = utcDay-minute t y m d (local-year y (m ∷ d ∷ h ∷ i ∷ r) (b .0) .0) (w .real) (within-days z h i fs o (w .hour) (w .minute)) in
+    fields-minute (utcDay t y m d) t r
+    ∙ minus-offset z (dayNumber y m d * 1440) h i (minuteAt (utcDay t y m d) t) fs o (day-positive y m d (w .real)) q
     ∙ unfold minuteNumber in refl
+
+pub utc-is-local-minus-offset : UtcIsLocalMinusOffset
+unfolding isTimestamp
+utc-is-local-minus-offset z fs x e =
+    let o = both {a = offsetFits (some z) fs} (both {a = isLocalYear fs} (both {a = areFields fs} e .1) .1) .0 in
+    let q = front fs (minute-given z fs o) in
+    let v = subst (λ (l : List ℕ). isTimestamp (some z) l x ≡ true) q e in
+    subst (λ (l : List ℕ). minuteOf (utc (some z) l) ≡ minuteOf l -ℤ z) (sym q)
+    (local-minus-offset z (getD fs 0 0) (getD fs 1 0) (getD fs 2 0) (getD fs 3 0) (getD fs 4 0) (drop 5 fs) x v)
 
 -- ---- no other minute of the calendar has the same number, so the theorem leaves `utc` no choice
 
@@ -268,7 +297,10 @@ year-order y m d y′ m′ d′ g g′ lt =
 
 -- two numbers that neither order
 same-number : (m n : ℕ) → (m < n → ⊥) → (n < m → ⊥) → m ≡ n
-same-number m n p q = by-cases (ltb m n) (λ e. absurd (p (ltb-true m n e))) (λ e. by-cases (ltb n m) (λ f. absurd (q (ltb-true n m f))) (λ f. omega (arith, ltb-false m n e, ltb-false n m f)))
+same-number m n p q =
+    by-cases (ltb m n)
+    (λ e. absurd (p (ltb-true m n e)))
+    (λ e. by-cases (ltb n m) (λ f. absurd (q (ltb-true n m f))) (λ f. omega (arith, ltb-false m n e, ltb-false n m f)))
 
 day-order : (y m d d′ : ℕ) → dayNumber y m d ≡ dayNumber y m d′ → d ≡ d′
 unfolding dayNumber
@@ -285,10 +317,26 @@ day-unique y m d y′ m′ d′ g g′ e =
     let u = unique-in-year y m d m′ d′ g (subst (λ (k : ℕ). RealDay k m′ d′) (sym a) g′) (e ∙ ap (λ (k : ℕ). dayNumber k m′ d′) (sym a)) in
     (a, u .0, u .1)
 
-pub minute-unique : (y m d h i y′ m′ d′ h′ i′ : ℕ) → WithMinute y m d h i → WithMinute y′ m′ d′ h′ i′ → minuteNumber y m d h i ≡ minuteNumber y′ m′ d′ h′ i′ → (y ≡ y′) × (m ≡ m′) × (d ≡ d′) × (h ≡ h′) × (i ≡ i′)
+same-minute : (y m d h i y′ m′ d′ h′ i′ : ℕ) → WithMinute y m d h i → WithMinute y′ m′ d′ h′ i′ → minuteNumber y m d h i ≡ minuteNumber y′ m′ d′ h′ i′ →
+    _≡_ {A = List ℕ} (y ∷ m ∷ d ∷ h ∷ i ∷ []) (y′ ∷ m′ ∷ d′ ∷ h′ ∷ i′ ∷ [])
 unfolding minuteNumber
-minute-unique y m d h i y′ m′ d′ h′ i′ w w′ e =
+same-minute y m d h i y′ m′ d′ h′ i′ w w′ e =
     let a : dayNumber y m d ≡ dayNumber y′ m′ d′ = omega (arith, w .hour, w .minute, w′ .hour, w′ .minute) in
     let t : h * 60 + i ≡ h′ * 60 + i′ = omega arith in
     let u = day-unique y m d y′ m′ d′ (w .real) (w′ .real) a in
-    (u .0, u .1, u .2, omega (arith, w .minute, w′ .minute), omega (arith, w .minute, w′ .minute))
+    let p : h ≡ h′ = omega (arith, w .minute, w′ .minute) in
+    let q : i ≡ i′ = omega (arith, w .minute, w′ .minute) in
+    cc
+
+module _ (fs : List ℕ) (e : areFields fs ≡ true) (h : 5 ≤ length fs) where
+  minute-of : WithMinute (getD fs 0 0) (getD fs 1 0) (getD fs 2 0) (getD fs 3 0) (getD fs 4 0)
+  minute-of =
+      let v = subst (λ (l : List ℕ). areFields l ≡ true) (front fs h) e in
+      with-minute (getD fs 0 0) (getD fs 1 0) (getD fs 2 0) (getD fs 3 0) (getD fs 4 0) (drop 5 fs) v
+
+pub minute-unique : MinuteUnique
+minute-unique fs gs e f p q same =
+    ap (take 5) (front fs p)
+    ∙ (same-minute (getD fs 0 0) (getD fs 1 0) (getD fs 2 0) (getD fs 3 0) (getD fs 4 0) (getD gs 0 0) (getD gs 1 0) (getD gs 2 0) (getD gs 3 0) (getD gs 4 0)
+    (minute-of fs e p) (minute-of gs f q) (ap natAbs same)
+    ∙ sym (ap (take 5) (front gs q)))

@@ -1,8 +1,11 @@
+pub mod Writable
 pub mod Digits
 pub mod Fields
 pub mod Headers
 pub mod Decimal
 pub mod Calendar
 pub mod Timestamp
+pub mod Narrowing
 pub mod Argument
 pub mod Stream
+pub mod Examples

@@ -4,12 +4,14 @@ use Prim.Native.Nat.{ℕ, _^_, _<_}
 use native.Mathlib.Omega.{arith}
 use mathlib.Core.List.{List, [], _∷_, _++_}
 use lib.ListN.{length, length-append}
-use Rattle.ion.specs.Value.{structCode, sequenceCode, Tree, scalar, sequence, struct, Members, noMembers, member, Fields, noFields, field, Item, marker, value, mapTree, mapMembers, mapFields, mapItems}
+use Rattle.ion.specs.Value.{structCode, sequenceCode, Tree, scalar, sequence, struct, Members, noMembers, member, Fields, noFields, field, Item, marker, value}
 use Rattle.ion.specs.Grammar.{one, members, fields, stream, _⟶_, members-end, members-next, fields-end, fields-next, stream-end, stream-marker, stream-next}
+use Rattle.ion.proofs.Maps.{mapTree, mapMembers, mapFields, mapItems}
 use Rattle.encoding.specs.Fields.{varUIntBytes}
 use Rattle.encoding.specs.Headers.{typeByte, framedBytes, annotatedBytes}
 use Rattle.encoding.specs.Argument.{Argument, argumentBytes, meaning}
-use Rattle.encoding.specs.Stream.{treeBytes, membersBytes, fieldsBytes, streamBytes, Writable, WritableMembers, WritableFields, WritableItems}
+use Rattle.encoding.specs.Stream.{treeBytes, membersBytes, fieldsBytes, streamBytes}
+use Rattle.encoding.proofs.Writable.{Writable, WritableMembers, WritableFields, WritableItems}
 use Rattle.encoding.proofs.Fields.{varUIntBytes-reads}
 use Rattle.encoding.proofs.Headers.{framed-longer, sequence-reads, struct-reads, annotated-reads, annotated-longer}
 use Rattle.encoding.proofs.Argument.{argumentBytes-reads}

@@ -19,46 +19,58 @@ use Rattle.ion.proofs.Tests.{both, and-true}
 use Rattle.ion.proofs.Fields.{varUInt-append}
 use Rattle.encoding.specs.Fields.{varUIntBytes, varUIntsBytes, varIntBytes, signedOf, uintBytes, trimmed, intBytes, AllU64}
 use Rattle.encoding.specs.Decimal.{isZeroDecimal, decimalBody}
-use Rattle.encoding.specs.Timestamp.{Date, date, nearDay, fieldsAt, utcMinutes, utc, isLocalYear, offsetFits, fractionFits, isTimestamp, offsetBytes, fractionBytes, timestampBody}
+use Rattle.encoding.specs.Timestamp.{Date, date, utcMinutes, utcDay, fieldsAt, utc, isLocalYear, offsetFits, fractionFits, isTimestamp, offsetBytes, fractionBytes, timestampBody, UtcKeepsSeconds, UtcAreFields}
 use Rattle.encoding.proofs.Fields.{varUIntBytes-reads, varIntBytes-reads, signed-reads, uintBytes-reads, trimmed-same, intBytes-reads}
-use Rattle.encoding.proofs.Calendar.{RealDay, RealDate, real-of, month-days, near-real, with-minute, local-year}
+use Rattle.encoding.proofs.Calendar.{RealDay, RealDate, real-of, month-days, utcDay-real, with-minute, local-year}
 
 -- ---- the UTC fields are fields of the grammar
 
 day-yes : (y m d : ℕ) → RealDay y m d → isDay y m d ≡ true
-day-yes y m d g = and-true (and-true (le-leb 1 m (g .month-least)) (le-leb m 12 (g .month-most))) (and-true (le-leb 1 d (g .day-least)) (le-leb d (daysInMonth y m) (g .day-most)))
+day-yes y m d g =
+    and-true (and-true (le-leb 1 m (g .month-least)) (le-leb m 12 (g .month-most)))
+    (and-true (le-leb 1 d (g .day-least)) (le-leb d (daysInMonth y m) (g .day-most)))
 
 minute-fields : (x : Date) (t : ℕ) → RealDate x → areFields (fieldsAt x t []) ≡ true
 unfolding areFields
 minute-fields (date y m d) t g =
-    and-true (le-leb y 10000 (g .year)) (and-true (day-yes y m d g) (and-true (lt-ltb (t % 1440 / 60) 24 (omega arith)) (lt-ltb (t % 1440 % 60) 60 (omega arith))))
+    and-true (le-leb y 10000 (g .year))
+    (and-true (day-yes y m d g) (and-true (lt-ltb (t % 1440 / 60) 24 (omega arith)) (lt-ltb (t % 1440 % 60) 60 (omega arith))))
 
 second-fields : (x : Date) (t s : ℕ) → RealDate x → ltb s 60 ≡ true → areFields (fieldsAt x t (s ∷ [])) ≡ true
 unfolding areFields
 second-fields (date y m d) t s g e =
-    and-true (le-leb y 10000 (g .year)) (and-true (day-yes y m d g) (and-true (lt-ltb (t % 1440 / 60) 24 (omega arith)) (and-true (lt-ltb (t % 1440 % 60) 60 (omega arith)) e)))
+    and-true (le-leb y 10000 (g .year))
+    (and-true (day-yes y m d g) (and-true (lt-ltb (t % 1440 / 60) 24 (omega arith)) (and-true (lt-ltb (t % 1440 % 60) 60 (omega arith)) e)))
 
 second-of : (y m d h i s : ℕ) → areFields (y ∷ m ∷ d ∷ h ∷ i ∷ s ∷ []) ≡ true → ltb s 60 ≡ true
 unfolding areFields
 second-of y m d h i s e = both {a = ltb i 60} (both {a = ltb h 24} (both {a = isDay y m d} (both {a = isYear y} e .1) .1) .1) .1
 
 -- the day of the local fields, moved
-utc-day : (z : ℤ) (y m d h i : ℕ) (r : List ℕ) → areFields (y ∷ m ∷ d ∷ h ∷ i ∷ r) ≡ true → isLocalYear (y ∷ m ∷ d ∷ h ∷ i ∷ r) ≡ true → RealDate (nearDay (utcMinutes z h i / 1440) y m d)
+utc-day : (z : ℤ) (y m d h i : ℕ) (r : List ℕ) → areFields (y ∷ m ∷ d ∷ h ∷ i ∷ r) ≡ true → isLocalYear (y ∷ m ∷ d ∷ h ∷ i ∷ r) ≡ true →
+    RealDate (utcDay (utcMinutes z h i) y m d)
 utc-day z y m d h i r e k =
     let l = local-year y (m ∷ d ∷ h ∷ i ∷ r) k in
-    near-real (utcMinutes z h i / 1440) y m d (l .0) (l .1) (with-minute y m d h i r e .real)
+    utcDay-real (utcMinutes z h i) y m d (l .0) (l .1) (with-minute y m d h i r e .real)
 
-pub utc-areFields : (o : Option ℤ) (fs : List ℕ) → areFields fs ≡ true → isLocalYear fs ≡ true → areFields (utc o fs) ≡ true
-utc-areFields none fs e k = e
-utc-areFields (some z) [] e k = e
-utc-areFields (some z) (y ∷ []) e k = e
-utc-areFields (some z) (y ∷ m ∷ []) e k = e
-utc-areFields (some z) (y ∷ m ∷ d ∷ []) e k = e
-utc-areFields (some z) (y ∷ m ∷ d ∷ h ∷ []) e k = e
-utc-areFields (some z) (y ∷ m ∷ d ∷ h ∷ i ∷ []) e k = minute-fields (nearDay (utcMinutes z h i / 1440) y m d) (utcMinutes z h i) (utc-day z y m d h i [] e k)
-utc-areFields (some z) (y ∷ m ∷ d ∷ h ∷ i ∷ s ∷ []) e k =
-    second-fields (nearDay (utcMinutes z h i / 1440) y m d) (utcMinutes z h i) s (utc-day z y m d h i (s ∷ []) e k) (second-of y m d h i s e)
-utc-areFields (some z) (y ∷ m ∷ d ∷ h ∷ i ∷ s ∷ x ∷ r) e k = absurd (false≢true (unfold areFields in e))
+fields-moved : (o : Option ℤ) (fs : List ℕ) → areFields fs ≡ true → isLocalYear fs ≡ true → areFields (utc o fs) ≡ true
+fields-moved none fs e k = e
+fields-moved (some z) [] e k = e
+fields-moved (some z) (y ∷ []) e k = e
+fields-moved (some z) (y ∷ m ∷ []) e k = e
+fields-moved (some z) (y ∷ m ∷ d ∷ []) e k = e
+fields-moved (some z) (y ∷ m ∷ d ∷ h ∷ []) e k = e
+fields-moved (some z) (y ∷ m ∷ d ∷ h ∷ i ∷ []) e k =
+    minute-fields (utcDay (utcMinutes z h i) y m d) (utcMinutes z h i) (utc-day z y m d h i [] e k)
+fields-moved (some z) (y ∷ m ∷ d ∷ h ∷ i ∷ s ∷ []) e k =
+    second-fields (utcDay (utcMinutes z h i) y m d) (utcMinutes z h i) s (utc-day z y m d h i (s ∷ []) e k) (second-of y m d h i s e)
+fields-moved (some z) (y ∷ m ∷ d ∷ h ∷ i ∷ s ∷ x ∷ r) e k = absurd (false≢true (unfold areFields in e))
+
+pub utc-areFields : UtcAreFields
+unfolding isTimestamp
+utc-areFields o fs x e =
+    let a = both {a = areFields fs} e in
+    fields-moved o fs (a .0) (both {a = isLocalYear fs} (a .1) .0)
 
 fieldsAt-length : (x : Date) (t : ℕ) (r : List ℕ) → length (fieldsAt x t r) ≡ 5 + length r
 fieldsAt-length (date y m d) t r = omega arith
@@ -70,14 +82,21 @@ utc-length (some z) (y ∷ []) = refl
 utc-length (some z) (y ∷ m ∷ []) = refl
 utc-length (some z) (y ∷ m ∷ d ∷ []) = refl
 utc-length (some z) (y ∷ m ∷ d ∷ h ∷ []) = refl
-utc-length (some z) (y ∷ m ∷ d ∷ h ∷ i ∷ r) = fieldsAt-length (nearDay (utcMinutes z h i / 1440) y m d) (utcMinutes z h i) r ∙ omega arith
+utc-length (some z) (y ∷ m ∷ d ∷ h ∷ i ∷ r) = fieldsAt-length (utcDay (utcMinutes z h i) y m d) (utcMinutes z h i) r ∙ omega arith
 
--- the offset moves no second
-pub utc-keeps-seconds : (z : ℤ) (y m d h i : ℕ) (r : List ℕ) → drop 5 (utc (some z) (y ∷ m ∷ d ∷ h ∷ i ∷ r)) ≡ r
-utc-keeps-seconds z y m d h i r = behind (nearDay (utcMinutes z h i / 1440) y m d)
-  where
-    behind : (x : Date) → drop 5 (fieldsAt x (utcMinutes z h i) r) ≡ r
-    behind (date a b c) = refl
+below-minute : (x : Date) (t : ℕ) (r : List ℕ) → drop 5 (fieldsAt x t r) ≡ r
+below-minute (date y m d) t r = refl
+
+seconds-kept : (z : ℤ) (fs : List ℕ) → drop 5 (utc (some z) fs) ≡ drop 5 fs
+seconds-kept z [] = refl
+seconds-kept z (y ∷ []) = refl
+seconds-kept z (y ∷ m ∷ []) = refl
+seconds-kept z (y ∷ m ∷ d ∷ []) = refl
+seconds-kept z (y ∷ m ∷ d ∷ h ∷ []) = refl
+seconds-kept z (y ∷ m ∷ d ∷ h ∷ i ∷ r) = below-minute (utcDay (utcMinutes z h i) y m d) (utcMinutes z h i) r
+
+pub utc-keeps-seconds : UtcKeepsSeconds
+utc-keeps-seconds z fs = (utc-length (some z) fs, seconds-kept z fs)
 
 -- at most six fields, each far below 64 bits
 pub fields-small : (fs : List ℕ) → areFields fs ≡ true → AllU64 fs × (length fs ≤ 6)
@@ -95,12 +114,16 @@ fields-small (y ∷ m ∷ d ∷ h ∷ []) e = absurd (false≢true e)
 fields-small (y ∷ m ∷ d ∷ h ∷ i ∷ []) e =
     let w = with-minute y m d h i [] (unfold areFields in e) in
     let g = w .real in
-    ((omega (arith, g .year), (omega (arith, g .month-most), (omega (arith, g .day-most, month-days y m (g .month-least) (g .month-most)), (omega (arith, w .hour), (omega (arith, w .minute), tt))))), omega arith)
+    let n = month-days y m (g .month-least) (g .month-most) in
+    let t : AllU64 (h ∷ i ∷ []) = (omega (arith, w .hour), (omega (arith, w .minute), tt)) in
+    ((omega (arith, g .year), (omega (arith, g .month-most), (omega (arith, g .day-most, n), t))), omega arith)
 fields-small (y ∷ m ∷ d ∷ h ∷ i ∷ s ∷ []) e =
     let w = with-minute y m d h i (s ∷ []) (unfold areFields in e) in
     let g = w .real in
     let q : s < 60 = ltb-true s 60 (second-of y m d h i s (unfold areFields in e)) in
-    ((omega (arith, g .year), (omega (arith, g .month-most), (omega (arith, g .day-most, month-days y m (g .month-least) (g .month-most)), (omega (arith, w .hour), (omega (arith, w .minute), (omega arith, tt)))))), omega arith)
+    let n = month-days y m (g .month-least) (g .month-most) in
+    let t : AllU64 (h ∷ i ∷ s ∷ []) = (omega (arith, w .hour), (omega (arith, w .minute), (omega arith, tt))) in
+    ((omega (arith, g .year), (omega (arith, g .month-most), (omega (arith, g .day-most, n), t))), omega arith)
 fields-small (y ∷ m ∷ d ∷ h ∷ i ∷ s ∷ x ∷ r) e = absurd (false≢true e)
 
 -- ---- the parts of the body
@@ -131,7 +154,9 @@ front-field u r h = varUInt-append (varUIntBytes u) u [] r (varUIntBytes-reads u
 fields-then : (us r : List ℕ) → AllU64 us → varUInts (length us) (varUIntsBytes us ++ r) ≡ some (us, r)
 unfolding varUInts varUIntsBytes
 fields-then [] r h = refl
-fields-then (u ∷ us) r h = rw (append-assoc, next-field u (length us) (varUIntBytes u ++ (varUIntsBytes us ++ r)) (varUIntsBytes us ++ r) (front-field u (varUIntsBytes us ++ r) (h .0)), fields-then us r (h .1))
+fields-then (u ∷ us) r h =
+    let l = varUIntsBytes us ++ r in
+    rw (append-assoc, next-field u (length us) (varUIntBytes u ++ l) l (front-field u l (h .0)), fields-then us r (h .1))
 
 fields-alone : (us : List ℕ) (n : ℕ) → AllU64 us → length us ≤ n → varUInts n (varUIntsBytes us) ≡ some (us, [])
 unfolding varUInts varUIntsBytes
@@ -141,13 +166,17 @@ fields-alone (u ∷ us) zero h k = absurd (none (length us) k)
   where
     none : (j : ℕ) → suc j ≤ 0 → ⊥
     none j q = omega arith
-fields-alone (u ∷ us) (suc n) h k = rw (next-field u n (varUIntBytes u ++ varUIntsBytes us) (varUIntsBytes us) (front-field u (varUIntsBytes us) (h .0)), fields-alone us n (h .1) (omega arith))
+fields-alone (u ∷ us) (suc n) h k =
+    let l = varUIntsBytes us in
+    rw (next-field u n (varUIntBytes u ++ l) l (front-field u l (h .0)), fields-alone us n (h .1) (omega arith))
 
-fields-read : (us : List ℕ) (x : Fraction) → AllU64 us → length us ≤ 6 → fractionFits x us ≡ true → varUInts 6 (varUIntsBytes us ++ fractionBytes x) ≡ some (us, fractionBytes x)
+fields-read : (us : List ℕ) (x : Fraction) → AllU64 us → length us ≤ 6 → fractionFits x us ≡ true →
+    varUInts 6 (varUIntsBytes us ++ fractionBytes x) ≡ some (us, fractionBytes x)
 fields-read us noFraction h k e = rw append-nil (fields-alone us 6 h k)
 fields-read us (fraction j c) h k e =
     let q : length us ≡ 6 = eqb-true (length us) 6 (both {a = eqb (length us) 6} e .0) in
-    subst (λ (n : ℕ). varUInts n (varUIntsBytes us ++ fractionBytes (fraction j c)) ≡ some (us, fractionBytes (fraction j c))) q (fields-then us (fractionBytes (fraction j c)) h)
+    let l = fractionBytes (fraction j c) in
+    subst (λ (n : ℕ). varUInts n (varUIntsBytes us ++ l) ≡ some (us, l)) q (fields-then us l h)
 
 fraction-utc : (x : Fraction) (us fs : List ℕ) → length us ≡ length fs → fractionFits x fs ≡ true → fractionFits x us ≡ true
 fraction-utc noFraction us fs q e = refl
@@ -187,19 +216,22 @@ fraction-reads (fraction (suc k) c) fs e =
 
 -- ---- the body
 
-body-parts : (b r us fr : List ℕ) (g : Signed) (x : Fraction) → varInt b ≡ some (g, r) → varUInts 6 r ≡ some (us, fr) → areFields us ≡ true → fractionAt fr ≡ some x → timestampOf b ≡ some (timestamp (offsetOf g) us x)
+body-parts : (b r us fr : List ℕ) (g : Signed) (x : Fraction) →
+    varInt b ≡ some (g, r) → varUInts 6 r ≡ some (us, fr) → areFields us ≡ true → fractionAt fr ≡ some x → timestampOf b ≡ some (timestamp (offsetOf g) us x)
 unfolding timestampOf
 body-parts b r us fr g x p q s t = rw (p, q, s, t)
 
-pub timestampBody-reads : (o : Option ℤ) (fs : List ℕ) (x : Fraction) → isTimestamp o fs x ≡ true → timestampOf (timestampBody o fs x) ≡ some (timestamp o (utc o fs) x)
+pub timestampBody-reads : (o : Option ℤ) (fs : List ℕ) (x : Fraction) → isTimestamp o fs x ≡ true →
+    timestampOf (timestampBody o fs x) ≡ some (timestamp o (utc o fs) x)
 unfolding isTimestamp timestampBody
 timestampBody-reads o fs x e =
     let a = both {a = areFields fs} e in
     let b = both {a = isLocalYear fs} (a .1) in
     let c = both {a = offsetFits o fs} (b .1) in
     let us = utc o fs in
-    let g : areFields us ≡ true = utc-areFields o fs (a .0) (b .0) in
+    let g : areFields us ≡ true = utc-areFields o fs x e in
     let s = fields-small us g in
     body-parts (offsetBytes o ++ (varUIntsBytes us ++ fractionBytes x)) (varUIntsBytes us ++ fractionBytes x) us (fractionBytes x) (offsetSigned o) x
-    (offset-reads o fs (varUIntsBytes us ++ fractionBytes x) (c .0)) (fields-read us x (s .0) (s .1) (fraction-utc x us fs (utc-length o fs) (c .1))) g (fraction-reads x fs (c .1))
+    (offset-reads o fs (varUIntsBytes us ++ fractionBytes x) (c .0))
+    (fields-read us x (s .0) (s .1) (fraction-utc x us fs (utc-length o fs) (c .1))) g (fraction-reads x fs (c .1))
     ∙ ap (λ (q : Option ℤ). some (timestamp q us x)) (offset-is o)

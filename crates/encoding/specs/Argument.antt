@@ -2,7 +2,6 @@
 -- The bytes are no function of the value: 20 and 21 00 both read as the int 0.
 -- Assumes nothing.
 use Prim.Native.Nat.{ℕ, suc, _+_, _^_, _<_}
-use mathlib.Core.Path.{_≡_}
 use mathlib.Core.Bool.{Bool, true, false, _&&_, _||_, not}
 use mathlib.Core.List.{List, [], _∷_}
 use mathlib.Core.Option.{Option}
@@ -11,7 +10,11 @@ use lib.ListN.{length}
 use lib.IntN.{ℤ, pos, negsuc, negℤ}
 use lib.Ieee.{binary32, binary64, ofBits, toBits, isNan}
 use lib.Ieee.{fits as holds}
-use Rattle.ion.specs.Value.{IonType, ionNull, ionBool, ionInt, ionFloat, ionDecimal, ionTimestamp, ionSymbol, ionString, ionClob, ionBlob, ionList, ionSexp, ionStruct, TypeCode, nullCode, boolCode, positiveCode, negativeCode, floatCode, decimalCode, timestampCode, symbolCode, stringCode, clobCode, blobCode, listCode, sexpCode, structCode, signed, Fraction, Scalar, null, bool, int, float, decimal, timestamp, symbol, string, clob, blob}
+use Rattle.ion.specs.Value.{IonType, ionNull, ionBool, ionInt, ionFloat, ionDecimal, ionTimestamp, ionSymbol, ionString, ionClob, ionBlob}
+use Rattle.ion.specs.Value.{ionList, ionSexp, ionStruct}
+use Rattle.ion.specs.Value.{TypeCode, nullCode, boolCode, positiveCode, negativeCode, floatCode, decimalCode, timestampCode, symbolCode}
+use Rattle.ion.specs.Value.{stringCode, clobCode, blobCode, listCode, sexpCode, structCode}
+use Rattle.ion.specs.Value.{signed, Fraction, Scalar, null, bool, int, float, decimal, timestamp, symbol, string, clob, blob}
 use Rattle.ion.specs.Fields.{uint}
 use Rattle.ion.specs.Text.{utf8}
 use Rattle.ion.specs.Scalars.{floatOf}
@@ -117,11 +120,6 @@ argumentChecks (writeSymbol n) = []
 argumentChecks (writeString b) = (not (utf8 b), 6) ∷ []
 argumentChecks (writeClob b) = []
 argumentChecks (writeBlob b) = []
-
--- none of the tests holds
-abbrev pub NoneHolds : List (Bool × ℕ) → Type 0
-NoneHolds [] = Unit {0}
-NoneHolds (x ∷ xs) = (x .0 ≡ false) × NoneHolds xs
 
 -- one of the tests holds
 abbrev pub anyHolds : List (Bool × ℕ) → Bool

@@ -5,12 +5,12 @@ use mathlib.Core.Bool.{true, false}
 use mathlib.Core.List.{List, [], _∷_, _++_}
 use lib.Dec.{ltb}
 use lib.ListN.{length}
-use Rattle.ion.specs.Value.{TypeCode, annotationCode, code}
+use Rattle.ion.specs.Value.{TypeCode, annotationCode, highBits}
 use Rattle.encoding.specs.Fields.{varUIntBytes, varUIntsBytes}
 
 -- the type code in the high four bits
 abbrev pub typeByte : TypeCode → ℕ
-typeByte c = code c * 16
+typeByte c = highBits c * 16
 
 -- The header of n body bytes, given the byte with the type code: the length in the low four bits, or from 14 on E there and a VarUInt behind.
 unfoldable pub headerBytes : ℕ → ℕ → List ℕ

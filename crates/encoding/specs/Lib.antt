@@ -4,5 +4,6 @@ pub mod Headers
 pub mod Decimal
 pub mod Timestamp
 pub mod Argument
+pub mod Narrowing
 pub mod Stream
 pub mod Table

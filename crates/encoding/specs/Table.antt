@@ -14,7 +14,8 @@ use Rattle.encoding.specs.Fields.{varUIntBytes, varUIntsBytes, varIntGro
 use Rattle.encoding.specs.Headers.{headerBytes, framedBytes, annotationBytes, annotatedBytes}
 use Rattle.encoding.specs.Decimal.{decimalBody}
 use Rattle.encoding.specs.Timestamp.{dayBefore, dayAfter, timestampBody}
-use Rattle.encoding.specs.Argument.{writeI64, writeInt, writeF64, writeDecimal, writeTimestamp, writeSymbol, float32Bytes, narrows, float64Bytes, argumentBytes}
+use Rattle.encoding.specs.Argument.{writeI64, writeInt, writeF64, writeDecimal, writeTimestamp, writeSymbol}
+use Rattle.encoding.specs.Argument.{float32Bytes, narrows, float64Bytes, argumentBytes}
 use Rattle.encoding.specs.Stream.{treeBytes}
 
 -- what the definition gives, and what document 01 says
@@ -45,10 +46,15 @@ cases =
     ∷ (argumentBytes (writeDecimal false (0x96 ∷ []) (negsuc 1)), 0x53 ∷ 0xC2 ∷ 0x00 ∷ 0x96 ∷ [])
     ∷ (argumentBytes (writeDecimal true (0x80 ∷ []) (pos 0)), 0x53 ∷ 0x80 ∷ 0x80 ∷ 0x80 ∷ [])
     ∷ (argumentBytes (writeTimestamp none (2000 ∷ []) noFraction), 0x63 ∷ 0xC0 ∷ 0x0F ∷ 0xD0 ∷ [])
-    ∷ (argumentBytes (writeTimestamp (some (pos 60)) (2000 ∷ 1 ∷ 1 ∷ 0 ∷ 30 ∷ []) noFraction), 0x67 ∷ 0xBC ∷ 0x0F ∷ 0xCF ∷ 0x8C ∷ 0x9F ∷ 0x97 ∷ 0x9E ∷ [])
+    ∷ (
+      argumentBytes (writeTimestamp (some (pos 60)) (2000 ∷ 1 ∷ 1 ∷ 0 ∷ 30 ∷ []) noFraction),
+      0x67 ∷ 0xBC ∷ 0x0F ∷ 0xCF ∷ 0x8C ∷ 0x9F ∷ 0x97 ∷ 0x9E ∷ [],
+    )
     ∷ (treeBytes (sequence (10 ∷ []) list noMembers), 0xE3 ∷ 0x81 ∷ 0x8A ∷ 0xB0 ∷ [])
     ∷ []
 
 pub table : map (λ (c : List ℕ × List ℕ). c .0) cases ≡ map (λ (c : List ℕ × List ℕ). c .1) cases
-unfolding lowDigits countDigits digitCount digits varUIntBytes varUIntsBytes varIntGroups varIntBytes uintBytes fixedBytes trimmed intBytes headerBytes framedBytes annotationBytes annotatedBytes dayBefore dayAfter timestampBody float32Bytes narrows float64Bytes decimalBody argumentBytes treeBytes ofBits toBits holds isNan
+unfolding lowDigits countDigits digitCount digits varUIntBytes varUIntsBytes varIntGroups varIntBytes uintBytes fixedBytes trimmed intBytes
+    headerBytes framedBytes annotationBytes annotatedBytes dayBefore dayAfter timestampBody float32Bytes narrows float64Bytes decimalBody
+    argumentBytes treeBytes ofBits toBits holds isNan
 table = refl

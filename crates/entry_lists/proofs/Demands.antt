@@ -1,9 +1,10 @@
--- Demands 2 and 3 over the entry points: the machine's, since every list of calls over lent bytes runs as the machine does.
+-- Demands 1, 2 and 3 over the entry points: 1 from the definition of `entered`; 2 and 3 are the machine's, since every list of calls over lent bytes
+-- runs as the machine does.
 -- Assumes nothing.
 use Prim.Native.Nat.{ℕ, suc, _≤_}
 use native.Mathlib.Omega.{arith}
 use mathlib.Core.Path.{_≡_, refl, sym, _∙_, ap, ap₂, subst₂}
-use mathlib.Core.Bool.{Bool, true, _&&_}
+use mathlib.Core.Bool.{Bool, true, false≢true, not, _&&_}
 use mathlib.Core.List.{List, [], _∷_, _++_}
 use lib.Dec.{eqb, ltb}
 use lib.ListN.{length}
@@ -11,52 +12,81 @@ use borrow.Author.Tests.{eq-eqb, eqb-true, ltb-false}
 use Rattle.ion.proofs.Tests.{by-cases}
 use Rattle.ion.specs.Value.{Scalar}
 use Rattle.encoding.specs.Headers.{markerBytes}
-use Rattle.encoding.specs.Argument.{Argument, meaning}
+use Rattle.encoding.specs.Argument.{Argument, meaning, anyHolds}
 use Rattle.encoding.specs.Stream.{streamBytes}
 use Rattle.machine.specs.declared.State.{State}
-use Rattle.machine.specs.Call.{Call}
-use Rattle.machine.specs.Machine.{Config, longestBuffer, emptyState, splice, accepted, verdict, isAccepted, after, startVerdict, started, taken}
+use Rattle.machine.specs.Call.{Call, AllTyped}
+use Rattle.machine.specs.Machine.{Config, longestBuffer, emptyState, splice, effect, Verdict, accepted, refused, firstFailing, verdict, isAccepted, ifAccepted}
+use Rattle.machine.specs.Machine.{after, startVerdict, started, taken}
+use Rattle.machine.specs.Numbers.{run}
 use Rattle.machine.specs.Model.{Model, modelStep, startedModel}
-use Rattle.machine.specs.Demands.{afterAll, isEmptying, partOf, joined, modelAfter, spelled, Run, ReadsOnlyAs}
+use Rattle.machine.specs.Demands.{isEmptying, partOf, joined, modelAfter, spelling, spelled, Run, ReadsOnlyAs}
 use Rattle.machine.proofs.Splice.{length-splice}
 use Rattle.machine.proofs.Steps.{none-failing}
 use Rattle.machine.proofs.Demands.{demand2, demand3}
-use Rattle.state_bytes.specs.StateBytes.{stateOf, containersFrom, numberOf}
+use Rattle.state_bytes.specs.StateBytes.{stateOf, containersFrom, numberOf, storedIf, entered}
+use Rattle.entry_numbers.specs.EntryCall.{callOf, HostCall}
+use Rattle.entry_numbers.proofs.Typed.{entry-typed}
 use Rattle.goatminute.specs.Entries.{emptyBytes, startEntered}
 use Rattle.goatminute.proofs.Entered.{accepted-is}
-use Rattle.entry_lists.specs.Lists.{Lent, lentStarted, lentAfter, isEntered, lentAfterAll, lentJoined, lentModelAfter, lentSpelled, LentRun, EntryDemand2, EntryDemand3}
-use Rattle.entry_lists.proofs.Steps.{configOf, Spells, number-accepts, answer-is, call-spells}
+use Rattle.entry_lists.specs.Demands.{Lent, configOf, tableOf, EntryDemand1, lentStarted, lentJoined, lentModelAfter, lentSpelling, LentRun, EntryDemand2, EntryDemand3}
+use Rattle.entry_lists.proofs.Steps.{Spells, number-accepts, answer-is, lentBy, call-spells}
 
--- ---- one call
+-- ---- demand 1
+
+-- no line fails exactly if none holds
+none-fails : (l : List (Bool × ℕ)) → isAccepted (firstFailing l) ≡ not (anyHolds l)
+none-fails [] = refl
+none-fails (x ∷ xs) = by-cases (x .0) (λ p. rw p) (λ p. rw p (none-fails xs))
+
+kept : (c : Call) (w : Lent) (v : Verdict) → (numberOf v ≡ 0 → ⊥)
+    → record { state = storedIf v c (ifAccepted v (effect c (configOf w)) (configOf w) .state) (w .state); buffer = ifAccepted v (effect c (configOf w)) (configOf w) .buffer } ≡ w
+kept c w accepted h = absurd (h refl)
+kept c w (refused n) h = refl
+
+pub entry-demand1 : EntryDemand1
+unfolding entered run verdict
+entry-demand1 e w = record {
+  table = refl;
+  keeps = λ h. kept (callOf e) w (firstFailing (tableOf e w)) h;
+  accepts = answer-is (callOf e) w ∙ none-fails (tableOf e w);
+}
+
+-- ---- one call of a list
 
 module _ (w : Lent) (m : Config) (s : Spells w m) (c : Call) where
-  step : Spells (lentAfter c w) (after c m)
+  step : Spells (lentBy c w) (after c m)
   step = rw (s .config) at (call-spells w (s .sound) c)
 
-  answer : isEntered c w ≡ isAccepted (verdict c m)
-  answer = answer-is w (s .sound) c ∙ ap (λ (x : Config). isAccepted (verdict c x)) (s .config)
+  accepts : eqb (entered c (w .state) (w .buffer) .number) 0 ≡ isAccepted (verdict c m)
+  accepts = answer-is c w ∙ ap (λ (x : Config). isAccepted (verdict c x)) (s .config)
 
 -- ---- a list of calls
 
-all-is : (cs : List Call) (w : Lent) (m : Config) → Spells w m → configOf (lentAfterAll cs w) ≡ afterAll cs m
-unfolding lentAfterAll afterAll
-all-is [] w m s = s .config
-all-is (c ∷ cs) w m s = all-is cs (lentAfter c w) (after c m) (step w m s c)
+abbrev calls : List HostCall → List Call
+calls [] = []
+calls (h ∷ hs) = callOf (h .entry) ∷ calls hs
 
-joined-is : (cs : List Call) (w : Lent) (m : Config) → Spells w m → lentJoined cs w ≡ joined cs m
+all-typed : (hs : List HostCall) → AllTyped (calls hs)
+all-typed [] = tt
+all-typed (h ∷ hs) = (entry-typed (h .entry) (h .typed), all-typed hs)
+
+joined-is : (hs : List HostCall) (w : Lent) (m : Config) → Spells w m → lentJoined hs w ≡ joined (calls hs) m
 unfolding lentJoined joined
 joined-is [] w m s = ap taken (s .config)
-joined-is (c ∷ cs) w m s =
+joined-is (h ∷ hs) w m s =
+    let c = callOf (h .entry) in
     ap₂ (λ (x y : List ℕ). x ++ y)
-    (ap₂ (λ (t : Bool) (x : Config). partOf (isEmptying c && t) (taken x)) (answer w m s c) (s .config))
-    (joined-is cs (lentAfter c w) (after c m) (step w m s c))
+    (ap₂ (λ (t : Bool) (x : Config). partOf (isEmptying c && t) (taken x)) (accepts w m s c) (s .config))
+    (joined-is hs (lentBy c w) (after c m) (step w m s c))
 
-model-is : {S : Type 0} (f : Argument → S) (cs : List Call) (w : Lent) (m : Config) (x : Model S) → Spells w m → lentModelAfter f cs w x ≡ modelAfter f cs m x
+model-is : {S : Type 0} (f : Argument → S) (hs : List HostCall) (w : Lent) (m : Config) (x : Model S) → Spells w m → lentModelAfter f hs w x ≡ modelAfter f (calls hs) m x
 unfolding lentModelAfter modelAfter
 model-is f [] w m x s = refl
-model-is f (c ∷ cs) w m x s =
-    ap (λ (t : Bool). lentModelAfter f cs (lentAfter c w) (modelStep f c t x)) (answer w m s c)
-    ∙ model-is f cs (lentAfter c w) (after c m) (modelStep f c (isAccepted (verdict c m)) x) (step w m s c)
+model-is f (h ∷ hs) w m x s =
+    let c = callOf (h .entry) in
+    ap (λ (t : Bool). lentModelAfter f hs (lentBy c w) (modelStep f c t x)) (accepts w m s c)
+    ∙ model-is f hs (lentBy c w) (after c m) (modelStep f c (isAccepted (verdict c m)) x) (step w m s c)
 
 -- ---- the start
 
@@ -101,22 +131,27 @@ started-spells st b e =
       config = ap (λ (x : State). record { state = x; buffer = splice 0 0 markerBytes b }) empty-spelled;
     })
 
--- ---- the demands
+-- ---- demands 2 and 3
 
-run-of : (cs : List Call) (st b : List ℕ) → LentRun cs st b → Run cs b
-run-of cs st b r = record {
-  starts = start-accepted st b (r .starts) .1;
-  ends = sym (ap (λ (x : Config). x .state .depth) (all-is cs (lentStarted st b) (started b) (started-spells st b (r .starts)))) ∙ r .ends;
-}
+module _ (hs : List HostCall) (st b : List ℕ) (r : LentRun hs st b) where
+  spells : Spells (lentStarted st b) (started b)
+  spells = started-spells st b (r .starts)
+
+  spelling-is : lentSpelling hs st b ≡ spelling (calls hs) b
+  spelling-is = model-is meaning hs (lentStarted st b) (started b) startedModel spells
+
+  run-of : Run (calls hs) b
+  run-of = record { starts = start-accepted st b (r .starts) .1; ends = sym (ap (λ (x : Model Scalar). x .stack) spelling-is) ∙ r .ends }
 
 pub entry-demand2 : EntryDemand2
-entry-demand2 cs st b r =
-    let s : Spells (lentStarted st b) (started b) = started-spells st b (r .starts) in
-    joined-is cs (lentStarted st b) (started b) s
-    ∙ (demand2 cs b (run-of cs st b r) ∙ sym (ap (λ (x : Model Argument). streamBytes (x .items)) (model-is (λ a. a) cs (lentStarted st b) (started b) startedModel s)))
+entry-demand2 hs st b r =
+    let s = spells hs st b r in
+    joined-is hs (lentStarted st b) (started b) s
+    ∙ demand2 (calls hs) b (run-of hs st b r)
+    ∙ sym (ap (λ (x : Model Argument). streamBytes (x .items)) (model-is (λ a. a) hs (lentStarted st b) (started b) startedModel s))
 
 pub entry-demand3 : EntryDemand3
-entry-demand3 cs st b r t =
-    let s : Spells (lentStarted st b) (started b) = started-spells st b (r .starts) in
-    let e : lentSpelled cs st b ≡ spelled cs b = ap (λ (x : Model Scalar). x .items) (model-is meaning cs (lentStarted st b) (started b) startedModel s) in
-    subst₂ ReadsOnlyAs (sym (joined-is cs (lentStarted st b) (started b) s)) (sym e) (demand3 cs b (run-of cs st b r) t)
+entry-demand3 hs st b r =
+    let j : lentJoined hs (lentStarted st b) ≡ joined (calls hs) (started b) = joined-is hs (lentStarted st b) (started b) (spells hs st b r) in
+    let e : lentSpelling hs st b .items ≡ spelled (calls hs) b = ap (λ (x : Model Scalar). x .items) (spelling-is hs st b r) in
+    subst₂ ReadsOnlyAs (sym j) (sym e) (demand3 (calls hs) b (run-of hs st b r) (all-typed hs))

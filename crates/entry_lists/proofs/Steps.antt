@@ -1,6 +1,6 @@
 -- A call over lent bytes does what the machine does over the state that they spell.
 -- Assumes nothing.
-use Prim.Native.Nat.{ℕ, _+_, _-_, _<_, _≤_}
+use Prim.Native.Nat.{ℕ, _+_, _-_, _^_, _<_, _≤_}
 use native.Mathlib.Omega.{arith}
 use mathlib.Core.Path.{_≡_, refl, _∙_, ap}
 use mathlib.Core.Bool.{Bool, true, false}
@@ -8,11 +8,12 @@ use mathlib.Core.List.{List, [], _∷_, _++_}
 use lib.Dec.{eqb, ltb, leb}
 use lib.ListN.{length, getD, set, length-append}
 use lib.Seq.{getD-set-same}
-use borrow.Author.Tests.{eq-eqb, ne-eqb, le-ltb, ltb-false, leb-false}
+use borrow.Author.Tests.{ne-eqb, ltb-false, leb-false}
 use Rattle.ion.proofs.Tests.{by-cases}
 use Rattle.encoding.specs.Headers.{annotationBytes, annotatedBytes, markerBytes}
 use Rattle.encoding.specs.Fields.{varUIntBytes}
-use Rattle.encoding.specs.Argument.{Argument, writeNull, writeBool, writeI64, writeInt, writeF32, writeF64, writeDecimal, writeTimestamp, writeSymbol, writeString, writeClob, writeBlob, argumentBytes, argumentChecks, NoneHolds}
+use Rattle.encoding.specs.Argument.{Argument, writeNull, writeBool, writeI64, writeInt, writeF32, writeF64, writeDecimal, writeTimestamp, writeSymbol, writeString, writeClob, writeBlob, argumentBytes, argumentChecks}
+use Rattle.encoding.proofs.Writable.{NoneHolds}
 use Rattle.machine.specs.declared.State.{State}
 use Rattle.machine.specs.declared.Container.{Container}
 use Rattle.machine.specs.Call.{Call, ContainerType, write, name, opening, closing, abandonment, versionMarker, taking, emptying}
@@ -20,13 +21,10 @@ use Rattle.machine.specs.Machine.{Config, noContainer, openContainers, reserve,
 use Rattle.machine.specs.Numbers.{run}
 use Rattle.machine.proofs.Splice.{length-splice}
 use Rattle.machine.proofs.Steps.{none-failing}
-use Rattle.state_bytes.specs.StateBytes.{stateOf, storedHead, numberOf, storedBy, storedIf, enteredBy, entered}
+use Rattle.state_bytes.specs.StateBytes.{stateOf, storedContainer, numberOf, storedState, storedBy, storedIf, entered}
 use Rattle.state_bytes.proofs.Laws.{state-is, length-containers}
-use Rattle.entry_lists.specs.Lists.{Lent, lentAfter, isEntered}
+use Rattle.entry_lists.specs.Demands.{Lent, configOf}
 use Rattle.entry_lists.proofs.Bytes.{length-head, state-head, length-container, state-container}
-
-abbrev pub configOf : Lent → Config
-configOf w = record { state = stateOf (w .state); buffer = w .buffer }
 
 -- What every call after an accepted start is lent.
 pub record Sound (w : Lent) : Type 0 where
@@ -84,7 +82,16 @@ number-accepts (x ∷ xs) h =
     not-zero : (n : ℕ) → 0 < n → n ≡ 0 → ⊥
     not-zero n k e = omega arith
 
+-- the answer
+pub answer-is : (c : Call) (w : Lent) → eqb (entered c (w .state) (w .buffer) .number) 0 ≡ isAccepted (verdict c (configOf w))
+unfolding entered run verdict
+answer-is c w = number-accepts (checks c (configOf w)) (numbered-checks c (configOf w))
+
 -- ---- what an accepted call leaves
+
+-- by a call in the place of its entry point
+abbrev pub lentBy : Call → Lent → Lent
+lentBy c w = record { state = entered c (w .state) (w .buffer) .state; buffer = entered c (w .state) (w .buffer) .buffer }
 
 holds-right : (l r : List (Bool × ℕ)) → NoneHolds (l ++ r) → NoneHolds r
 holds-right [] r h = h
@@ -94,10 +101,10 @@ holds-right (x ∷ l) r h = holds-right l r (h .1)
 room-line : (w : Config) (misplaced : Bool) (own : List (Bool × ℕ)) (used : ℕ) → NoneHolds (lines w misplaced own used) → used ≤ length (w .buffer)
 room-line w misplaced own used h = ltb-false (length (w .buffer)) used (holds-right own ((ltb (length (w .buffer)) used, 10) ∷ []) (h .1 .1 .1) .0)
 
--- Of the state y and the buffer l: they are in their bounds, and the bytes t hold y's containers.
+-- Of the state y, the buffer l and the bytes t: they are in their bounds, and the bytes spell y.
 record Left (w : Lent) (y : State) (l t : List ℕ) : Type 0 where
   size : length t ≡ 296
-  containers : stateOf t .containers ≡ y .containers
+  spelled : stateOf t ≡ y
   room : y .used ≤ length (w .buffer)
   depth : y .depth ≤ 32
   same : length l ≡ length (w .buffer)
@@ -111,11 +118,22 @@ header-within p [] = omega arith
 header-within p (a ∷ an) = rw (length-append (annotationBytes (a ∷ an)) (0 ∷ 0 ∷ [])) (omega arith)
 
 module _ (w : Lent) (s : Sound w) where
+  -- a state y with the containers that the bytes t hold, its head stored
+  head-left : (y : State) (l t : List ℕ) → length t ≡ 296 → stateOf t .containers ≡ y .containers → y .used ≤ length (w .buffer) → y .depth ≤ 32 → length l ≡ length (w .buffer)
+      → Left w y l (storedState y t)
+  head-left y l t h e room d k = record {
+    size = length-head t (y .used) (y .depth) (y .waiting) h;
+    spelled = state-head t (y .used) (y .depth) (y .waiting) h (omega (arith, s .short)) (omega arith) ∙ rw e;
+    room = room;
+    depth = d;
+    same = k;
+  }
+
   -- a put by a call that opens nothing
   put-left : (p : ℕ) (out : List ℕ) (d : ℕ) (wt : Bool) → p + length out ≤ length (w .buffer) → d ≤ 32
-      → Left w (record { used = p + length out; depth = d; waiting = wt; containers = stateOf (w .state) .containers }) (splice (stateOf (w .state) .used) p out (w .buffer)) (w .state)
-  put-left p out d wt room k =
-      record { size = s .size; containers = refl; room = room; depth = k; same = length-splice (stateOf (w .state) .used) p out (w .buffer) (omega arith) (s .fit) room }
+      → let y : State = record { used = p + length out; depth = d; waiting = wt; containers = stateOf (w .state) .containers } in
+      Left w y (splice (stateOf (w .state) .used) p out (w .buffer)) (storedState y (w .state))
+  put-left p out d wt room k = head-left _ _ (w .state) (s .size) refl room k (length-splice (stateOf (w .state) .used) p out (w .buffer) (omega arith) (s .fit) room)
 
   opening-left : (an : List ℕ) (k : ContainerType) → NoneHolds (checks (opening an k) (configOf w)) → LeftBy (opening an k) w
   opening-left an k h =
@@ -124,65 +142,50 @@ module _ (w : Lent) (s : Sound w) where
       let c : Container = record { start = stateOf (w .state) .used; header = headerPlace (stateOf (w .state) .used) an; code = containerCode k } in
       let i : stateOf (w .state) .depth + 1 - 1 ≡ stateOf (w .state) .depth = omega arith in
       let n : length (stateOf (w .state) .containers) ≡ 32 = rw (state-is (w .state) (s .size)) (length-containers (w .state) 0 32) in
-      let g : getD (set (stateOf (w .state) .containers) (stateOf (w .state) .depth) c) (stateOf (w .state) .depth) noContainer ≡ c = getD-set-same (stateOf (w .state) .containers) (stateOf (w .state) .depth) c noContainer (omega arith) in
-      rw (i, g) (record {
-        size = length-container (w .state) (stateOf (w .state) .depth) c (s .size) d;
-        containers = state-container (w .state) (stateOf (w .state) .depth) c (s .size) d (omega (arith, s .fit, s .short)) (omega (arith, header-within (stateOf (w .state) .used) an, room, s .short));
-        room = room;
-        depth = omega arith;
-        same = length-splice (stateOf (w .state) .used) (stateOf (w .state) .used) (reserve an) (w .buffer) (s .fit) (s .fit) room;
-      })
+      let g : getD (set (stateOf (w .state) .containers) (stateOf (w .state) .depth) c) (stateOf (w .state) .depth) noContainer ≡ c =
+      getD-set-same (stateOf (w .state) .containers) (stateOf (w .state) .depth) c noContainer (omega arith) in
+      let f : c .header < 2 ^ 32 = omega (arith, header-within (stateOf (w .state) .used) an, room, s .short) in
+      rw (i, g)
+      (head-left _ _ (storedContainer (stateOf (w .state) .depth) c (w .state))
+      (length-container (w .state) (stateOf (w .state) .depth) c (s .size) d)
+      (state-container (w .state) (stateOf (w .state) .depth) c (s .size) d (omega (arith, s .fit, s .short)) f)
+      room
+      (omega arith)
+      (length-splice (stateOf (w .state) .used) (stateOf (w .state) .used) (reserve an) (w .buffer) (s .fit) (s .fit) room))
 
   left : (c : Call) → NoneHolds (checks c (configOf w)) → LeftBy c w
   left (write an a) h = put-left _ (annotatedBytes an (argumentBytes a)) _ false (room-line (configOf w) _ (argumentChecks a) _ h) (s .depth)
   left (name n) h = put-left _ (varUIntBytes n) _ true (room-line (configOf w) _ [] _ h) (s .depth)
   left (opening an k) h = opening-left an k h
-  left closing h = put-left _ (closedInnermost (openContainers (stateOf (w .state))) (live (configOf w))) _ false (room-line (configOf w) _ [] _ h) (omega (arith, s .depth))
+  left closing h =
+      put-left _ (closedInnermost (openContainers (stateOf (w .state))) (live (configOf w))) _ false (room-line (configOf w) _ [] _ h) (omega (arith, s .depth))
   left abandonment h = put-left _ [] _ _ (room-line (configOf w) _ [] _ h) (omega (arith, s .depth))
   left versionMarker h = put-left _ markerBytes _ _ (room-line (configOf w) _ [] _ h) (s .depth)
-  left taking h = record { size = s .size; containers = refl; room = s .fit; depth = s .depth; same = refl }
-  left emptying h = record { size = s .size; containers = refl; room = omega arith; depth = s .depth; same = refl }
+  left taking h = record { size = s .size; spelled = refl; room = s .fit; depth = s .depth; same = refl }
+  left emptying h = head-left _ _ (w .state) (s .size) refl (omega arith) (s .depth) refl
 
   -- ---- one call
 
-  -- what is lent lets the machine decide
-  entered-is : (c : Call) → entered c (w .state) (w .buffer) ≡ enteredBy c (w .state) (run c (stateOf (w .state)) (w .buffer))
-  unfolding entered
-  entered-is c = rw (le-ltb 16777215 (length (w .buffer)) (s .short), entered, eq-eqb (length (w .state)) 296 (s .size))
-
-  -- the answer
-  pub answer-is : (c : Call) → isEntered c w ≡ isAccepted (verdict c (configOf w))
-  unfolding run verdict
-  answer-is c = rw (entered-is c) (number-accepts (checks c (configOf w)) (numbered-checks c (configOf w)))
-
   -- what is left, as lent bytes
   abbrev leftAs : Verdict → Call → Lent
-  leftAs v c = record { state = storedIf v c (ifAccepted v (effect c (configOf w)) (configOf w) .state) (w .state); buffer = ifAccepted v (effect c (configOf w)) (configOf w) .buffer }
+  leftAs v c = record {
+    state = storedIf v c (ifAccepted v (effect c (configOf w)) (configOf w) .state) (w .state);
+    buffer = ifAccepted v (effect c (configOf w)) (configOf w) .buffer;
+  }
 
-  after-is : (c : Call) → lentAfter c w ≡ leftAs (verdict c (configOf w)) c
-  unfolding run
-  after-is c = rw (entered-is c)
-
-  -- the state of an accepted call, stored, is spelled by the bytes
-  spelled : (c : Call) → LeftBy c w → Spells (leftAs accepted c) (effect c (configOf w))
-  spelled c k =
-      let y : State = effect c (configOf w) .state in
-      let t : List ℕ = storedBy c y (w .state) in
-      let e : stateOf (storedHead (y .used) (y .depth) (y .waiting) t) ≡ y = state-head t (y .used) (y .depth) (y .waiting) (k .size) (omega (arith, k .room, s .short)) (omega (arith, k .depth)) ∙ rw (k .containers) in
-      record {
-        sound = record {
-          size = length-head t (y .used) (y .depth) (y .waiting) (k .size);
-          short = omega (arith, k .same, s .short);
-          fit = rw (e, k .same) (k .room);
-          depth = rw e (k .depth);
-        };
-        config = ap (λ (x : State). record { state = x; buffer = effect c (configOf w) .buffer }) e;
-      }
+  after-is : (c : Call) → lentBy c w ≡ leftAs (verdict c (configOf w)) c
+  unfolding entered run
+  after-is c = refl
 
   by-verdict : (c : Call) (v : Verdict) → verdict c (configOf w) ≡ v → Spells (leftAs v c) (ifAccepted v (effect c (configOf w)) (configOf w))
-  by-verdict c accepted e = spelled c (left c (none-failing (checks c (configOf w)) (unfold verdict in e)))
+  by-verdict c accepted e =
+      let k = left c (none-failing (checks c (configOf w)) (unfold verdict in e)) in
+      record {
+        sound = record { size = k .size; short = omega (arith, k .same, s .short); fit = rw (k .spelled, k .same) (k .room); depth = rw (k .spelled) (k .depth) };
+        config = ap (λ (x : State). record { state = x; buffer = effect c (configOf w) .buffer }) (k .spelled);
+      }
   by-verdict c (refused n) e = record { sound = s; config = refl }
 
   -- what a call leaves
-  pub call-spells : (c : Call) → Spells (lentAfter c w) (after c (configOf w))
+  pub call-spells : (c : Call) → Spells (lentBy c w) (after c (configOf w))
   call-spells c = rw (after-is c) (by-verdict c (verdict c (configOf w)) refl)

@@ -15,7 +15,6 @@ use Rattle.timestamp.specs.declared.Offset.{Offset}
 use Rattle.timestamp.specs.declared.Offset.the-variants.{Unknown, Minutes}
 use Rattle.timestamp.specs.declared.Fraction.{Fraction}
 use Rattle.timestamp.specs.declared.Fraction.the-variants.{None, Digits}
-use Rattle.timestamp.specs.declared.Timestamp.{Timestamp as Stamp}
 
 -- "Typed Value Formats": a type by its code. 2 and 3 are both int; a number past 13 stands for null.
 abbrev pub types : Listed IonType
@@ -36,7 +35,3 @@ offsetLent known minutes = elim (eqb known 0) [ true ↦ Unknown | false ↦ Min
 
 unfoldable pub fractionLent : ℕ → ℕ → ℕ → Fraction
 fractionLent given digits coefficient = elim (eqb given 0) [ true ↦ None | false ↦ Digits digits coefficient ]
-
-abbrev pub timestampLent : ℕ → ℕ → ℕ → ℕ → ℕ → ℕ → ℕ → ℕ → ℤ → ℕ → ℕ → ℕ → Stamp
-timestampLent precision year month day hour minute second known minutes given digits coefficient =
-    record { precision = precisionNumbered precision; year = year; month = month; day = day; hour = hour; minute = minute; second = second; offset = offsetLent known minutes; fraction = fractionLent given digits coefficient }

@@ -6,11 +6,15 @@ use Prim.Native.Nat.{ℕ, zero, suc, _+_, _-_, _*_, _/_, _%_, _^_, _≤_, _<_}
 use native.Mathlib.Omega.{arith}
 use native.Mathlib.Nat.{pow-zero, pow-suc, pow-succ', mul-zero, mul-suc, mul-le-mul-left, le-div-iff-mul-le, div-lt-iff-lt-mul, div-lt-self, div-div-eq-div-mul, le-trans, lt-of-lt-of-le, div-one, eq-zero-or-pos}
 use mathlib.Core.Logic.{⊎-elim}
-use borrow.Author.Tests.{eq-eqb, ne-eqb}
+use borrow.Author.Tests.{eq-eqb, ne-eqb, leb-true, leb-false}
+use lib.Dec.{leb}
 use lib.Pow.{pow-add, pow-mono, pow-pos, shr-lt}
 use lib.Count.{leadingZeros, leading-length}
-use lib.ListN.{length, length-append}
+use lib.ListN.{length, set, length-append}
+use Rattle.ion.proofs.Tests.{by-cases}
 use Rattle.encoding.specs.Digits.{lowDigits, countDigits, digitCount}
+use Rattle.buffer.specs.Laid.{laid}
+use Rattle.buffer.proofs.Laid.{laid-one, laid-before}
 
 -- ---- the lowest digits
 
@@ -119,6 +123,16 @@ bitsUsed-pos n p h = let l = leading-length 64 n h in go (l .0) (l .1) (l .2)
     go zero e u = absurd (omega arith)
     go (suc m) e u = omega arith
 
+pub bitsUsed-most : (k n : ℕ) → n < 2 ^ 64 → n < 2 ^ k → bitsUsed n ≤ k
+bitsUsed-most k n h l =
+    let m = leading-length 64 n h in
+    by-cases (leb (m .0) k)
+    (λ e. omega (arith, m .1, leb-true (m .0) k e))
+    (λ e.
+    let over : 2 ^ suc k ≤ 2 ^ m .0 = pow-mono {i = suc k} {j = m .0} (leb-false (m .0) k e) in
+    let twice : 2 ^ suc k ≡ 2 ^ k * 2 = pow-suc 2 k in
+    absurd (omega (arith, m .3)))
+
 pub power-power : (w k : ℕ) → (2 ^ w) ^ k ≡ 2 ^ (w * k)
 power-power w zero = rw (pow-zero (2 ^ w), mul-zero w) refl
 power-power w (suc k) = pow-suc (2 ^ w) k ∙ rw (power-power w k, mul-suc w k) (sym (pow-add 2 (w * k) w))
@@ -142,3 +156,13 @@ digitCount-by-zeros w d k n p h hi lo =
         let r : 2 ^ suc (w * k + d) ≡ 2 ^ (w * k + d) * 2 = pow-suc 2 (w * k + d) in
         let m : 2 ^ (w * k + d) ≤ n = omega (arith, l .3) in
         rw (power-power w k) (le-div-iff-mul-le {k = 2 ^ d} {x = 2 ^ (w * k)} {y = n} (pow-pos d) .1 (rw (← (pow-add 2 (w * k) d)) m))
+
+-- ---- digits put before a byte that is there already
+
+pub digits-before : (b l : List ℕ) (at k n p v : ℕ) → p ≡ at + k → p < length b → l ≡ laid (set b p v) at (lowDigits 128 k n) → l ≡ laid b at (lowDigits 128 k n ++ (v ∷ []))
+digits-before b l at k n p v e h q =
+    let w : length (lowDigits 128 k n) ≡ k = length-lowDigits 128 k n in
+    let f : p ≡ at + length (lowDigits 128 k n) = omega arith in
+    q
+    ∙ (ap (λ (x : List ℕ). laid x at (lowDigits 128 k n)) (laid-one b p v h ∙ ap (λ (i : ℕ). laid b i (v ∷ [])) f)
+    ∙ laid-before b at (lowDigits 128 k n) (omega arith) (v ∷ []) (omega arith))

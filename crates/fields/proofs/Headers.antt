@@ -8,7 +8,7 @@ use native.Mathlib.Omega.{arith}
 use lib.Dec.{ltb}
 use borrow.Author.Tests.{lt-ltb, le-ltb, ltb-true, ltb-false}
 use lib.ListN.{length}
-use Rattle.ion.specs.Value.{TypeCode, code}
+use Rattle.ion.specs.Value.{TypeCode, highBits}
 use Rattle.encoding.specs.Fields.{varUIntBytes}
 use Rattle.encoding.specs.Headers.{typeByte, headerBytes, framedBytes}
 use Rattle.fields.proofs.Sizes.{varUInt-most}
@@ -50,7 +50,7 @@ header-most t n h = go (ltb n 14) refl
 
 -- a type byte has nothing in its low four bits
 pub typeByte-high : (c : TypeCode) → typeByte c / 16 * 16 ≡ typeByte c
-typeByte-high c = high (code c)
+typeByte-high c = high (highBits c)
   where
     high : (k : ℕ) → k * 16 / 16 * 16 ≡ k * 16
     high k = omega arith

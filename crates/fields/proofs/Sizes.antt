@@ -142,11 +142,14 @@ int-fixed-by n k e = ⊎-elim
 pub varUInt-size-small : (n : ℕ) → n < 128 → length (varUIntBytes n) ≡ 1
 varUInt-size-small n h = length-varUInt n ∙ ap suc (digitCount-zero 128 (n / 128) (omega arith))
 
+pub varInt-size-small : (s : Bool) (n : ℕ) → n < 64 → length (varIntBytes (signed s n)) ≡ 1
+varInt-size-small s n h = length-varInt s n ∙ ap suc (digitCount-zero 128 (n / 64) (omega arith))
+
 module _ (n : ℕ) (h : n < 2 ^ 64) where
-  pub varUInt-size : 0 < n → length (varUIntBytes n) ≡ (bitsUsed n + 6) / 7
+  pub varUInt-size : 0 < n → length (varUIntBytes n) ≡ (bitsUsed n - 1) / 7 + 1
   varUInt-size p =
       let b = bitsUsed-pos n p h in
-      length-varUInt n ∙ (ap suc (digitCount-by-zeros 7 7 ((bitsUsed n + 6) / 7 - 1) n (omega arith) h (omega arith) (λ k. omega arith)) ∙ omega arith)
+      length-varUInt n ∙ (ap suc (digitCount-by-zeros 7 7 ((bitsUsed n - 1) / 7) n (omega arith) h (omega arith) (λ k. omega arith)) ∙ omega arith)
 
   pub varInt-size : (s : Bool) → length (varIntBytes (signed s n)) ≡ bitsUsed n / 7 + 1
   varInt-size s = length-varInt s n ∙ (ap suc (digitCount-by-zeros 7 6 (bitsUsed n / 7) n (omega arith) h (omega arith) (λ k. omega arith)) ∙ omega arith)
@@ -172,6 +175,15 @@ varUInt-most (suc n) h = rw (varUInt-size (suc n) h (omega arith)) (omega arith)
 
 pub varInt-least : (s : Bool) (n : ℕ) → 1 ≤ length (varIntBytes (signed s n))
 varInt-least s n = rw (length-varInt s n) (omega arith)
+
+pub varInt-least-two : (s : Bool) (n : ℕ) → 64 ≤ n → 2 ≤ length (varIntBytes (signed s n))
+varInt-least-two s n h =
+    let p : n / 64 < 128 ^ digitCount 128 (n / 64) = digitCount-below 128 (omega arith) (n / 64) in
+    rw (length-varInt s n) (go (digitCount 128 (n / 64)) p)
+  where
+    go : (k : ℕ) → n / 64 < 128 ^ k → 2 ≤ suc k
+    go zero q = absurd (omega arith)
+    go (suc k) q = omega arith
 
 pub varInt-most : (s : Bool) (n : ℕ) → n < 2 ^ 64 → length (varIntBytes (signed s n)) ≤ 10
 varInt-most s n h = rw (varInt-size n h s) (omega arith)

@@ -12,29 +12,34 @@ const END_FLAG: u8 = 0x80;
 
 const SIGN: u8 = 0x40;
 
+// The least magnitude that takes more than one byte.
+const TWO_BYTES: u64 = 64;
+
 // The bytes that a VarInt of this magnitude takes, of either sign: n of them hold 6 + 7 (n - 1) bits.
 pub fn encoded_size_of(magnitude: u64) -> usize
     ensures { λ r. ⌜ r ≡ length (varIntBytes (signed false magnitude)) ⌝ }
 {
+    if magnitude < TWO_BYTES {
+        return 1;
+    }
     crate::bits_used(magnitude) / 7 + 1
 }
 
-// The sign and the magnitude as a VarInt. Zero keeps its sign.
+// The sign and the magnitude as a VarInt, from the last byte, which has the end flag, to the first. Zero keeps its sign.
 pub fn write(buf: &mut [u8], at: usize, negative: bool, magnitude: u64) -> usize
     ensures { λ r. ⌜ _≡_ {A = ℕ × List ℕ} (r, now (buf .exit)) (placed (now (buf .entry)) at (varIntBytes (signed negative magnitude))) ⌝ }
 {
+    let sign = SIGN * (negative as u8);
+    if magnitude < TWO_BYTES {
+        return buffer::put(buf, at, END_FLAG + sign + magnitude as u8);
+    }
     let size = encoded_size_of(magnitude);
     if !buffer::has_room(buf.len(), at, size) {
         return 0;
     }
-    let sign = SIGN * (negative as u8);
     let last = size - 1;
-    if last == 0 {
-        buf[at] = END_FLAG + sign + magnitude as u8;
-        return size;
-    }
-    buf[at] = sign + (magnitude >> (7 * last)) as u8;
-    crate::put_digits(buf, at + 1, last - 1, 7, magnitude >> 7);
     buf[at + last] = END_FLAG + (magnitude % 128) as u8;
+    crate::put_digits(buf, at + 1, last - 1, 7, magnitude >> 7);
+    buf[at] = sign + (magnitude >> (7 * last)) as u8;
     size
 }

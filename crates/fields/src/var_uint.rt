@@ -18,10 +18,10 @@ pub fn encoded_size_of(value: u64) -> usize
     if value < TWO_BYTES {
         return 1;
     }
-    (crate::bits_used(value) + 6) / 7
+    (crate::bits_used(value) - 1) / 7 + 1
 }
 
-// The digits of base 128 but for the last, and the last with the end flag.
+// The digits of base 128, from the last, which has the end flag, to the first.
 fn write_digits(buf: &mut [u8], at: usize, value: u64) -> usize
     ensures { λ r. ⌜ _≡_ {A = ℕ × List ℕ} (r, now (buf .exit)) (placed (now (buf .entry)) at (varUIntBytes value)) ⌝ }
 {
@@ -30,8 +30,8 @@ fn write_digits(buf: &mut [u8], at: usize, value: u64) -> usize
         return 0;
     }
     let last = size - 1;
-    crate::put_digits(buf, at, last, 7, value >> 7);
     buf[at + last] = END_FLAG + (value % 128) as u8;
+    crate::put_digits(buf, at, last, 7, value >> 7);
     size
 }
 

@@ -1,13 +1,11 @@
 -- The bytes of a float by the cases of its bits.
 -- Assumes nothing.
-use Prim.Native.Nat.{ℕ, _≤_}
+use Prim.Native.Nat.{ℕ}
 use mathlib.Core.Path.{_≡_, refl, ap}
 use mathlib.Core.Bool.{Bool, true, false}
-use mathlib.Core.List.{[], _∷_}
+use mathlib.Core.List.{_∷_}
 use native.Mathlib.Omega.{arith}
 use borrow.Author.Tests.{ne-eqb}
-use lib.Dec.{eqb, lit≤}
-use lib.ListN.{length}
 use lib.Ieee.{binary32, binary64, ofBits, toBits, isNan}
 use lib.Ieee.{fits as holds}
 use Rattle.encoding.specs.Digits.{lowDigits}
@@ -16,17 +14,17 @@ use Rattle.encoding.specs.Argument.{narrows, float32Bytes, float64Bytes}
 use Rattle.floats.specs.declared.Narrowed.the-variants.{Exact, No}
 use Rattle.floats.specs.Narrowed.{narrowedTo, narrowedBits}
 
-pub float32-zero : float32Bytes 0 ≡ 0x40 ∷ fixedBytes 0 0
+pub float32-zero : (b : ℕ) → b ≡ 0 → float32Bytes b ≡ 0x40 ∷ fixedBytes 0 0
 unfolding float32Bytes fixedBytes lowDigits
-float32-zero = refl
+float32-zero b e = rw e refl
 
 pub float32-other : (b : ℕ) → (b ≡ 0 → ⊥) → float32Bytes b ≡ 0x44 ∷ fixedBytes 4 b
 unfolding float32Bytes
 float32-other b h = rw (ne-eqb b 0 h, float32Bytes)
 
-pub float64-zero : float64Bytes 0 ≡ 0x40 ∷ fixedBytes 0 0
+pub float64-zero : (b : ℕ) → b ≡ 0 → float64Bytes b ≡ 0x40 ∷ fixedBytes 0 0
 unfolding float64Bytes float32Bytes fixedBytes lowDigits narrows ofBits toBits holds isNan
-float64-zero = refl
+float64-zero b e = rw e refl
 
 pub float64-narrowed : (b n : ℕ) → narrowedBits b ≡ Exact n → float64Bytes b ≡ float32Bytes n
 unfolding float64Bytes narrowedBits
@@ -45,21 +43,3 @@ float64-other b e = by-test (narrows b) e
         elim t [ true ↦ float32Bytes (toBits binary32 (ofBits binary64 b)) | false ↦ 0x48 ∷ fixedBytes 8 b ] ≡ 0x48 ∷ fixedBytes 8 b
     by-test true q = let z : _≡_ {A = ℕ} 0 1 = cc in absurd (omega arith)
     by-test false q = refl
-
--- ---- how many they are
-
-pub float32-most : (b : ℕ) → length (float32Bytes b) ≤ 5
-unfolding float32Bytes fixedBytes lowDigits
-float32-most b = by-test (eqb b 0)
-  where
-    by-test : (t : Bool) → length {A = ℕ} (elim t [ true ↦ 0x40 ∷ [] | false ↦ 0x44 ∷ fixedBytes 4 b ]) ≤ 5
-    by-test true = lit≤ tt
-    by-test false = lit≤ tt
-
-pub float64-most : (b : ℕ) → length (float64Bytes b) ≤ 9
-unfolding float64Bytes fixedBytes lowDigits
-float64-most b = by-test (narrows b)
-  where
-    by-test : (t : Bool) → length {A = ℕ} (elim t [ true ↦ float32Bytes (toBits binary32 (ofBits binary64 b)) | false ↦ 0x48 ∷ fixedBytes 8 b ]) ≤ 9
-    by-test true = omega (arith, float32-most (toBits binary32 (ofBits binary64 b)))
-    by-test false = lit≤ tt

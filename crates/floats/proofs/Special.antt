@@ -5,13 +5,15 @@ use mathlib.Core.Path.{_≡_, refl, sym, _∙_, ap, subst}
 use mathlib.Core.Bool.{Bool, true, false, not, _&&_, cond}
 use native.Mathlib.Nat.{zero-mul, mul-pos, zero-lt-suc, lt-irrefl, pow-suc}
 use native.Mathlib.Omega.{arith}
-use borrow.Author.Tests.{eqb-true, ltb-true}
+use borrow.Author.Tests.{eqb-true, eqb-false, ltb-true, lt-ltb}
 use lib.Dec.{T, ltb, eqb, eqb→eq}
 use lib.Pow.{pow-pos}
 use lib.IntN.{ℤ, pos, negsuc}
 use lib.Ieee.{Float, nan, inf, fin, Format, binary32, binary64, up, down, top, fits, isNan, ofBits, toBits, eq, ne}
+use lib.Ieee.Bits.{ofBits-toBits}
 use lib.Ieee.Compare.{differs-from-itself, nan-differs}
 use lib.Ieee.Fits.{up-pos}
+use Rattle.ion.proofs.Tests.{by-cases}
 
 pub nan-bits : (f : Format) (v : Float) → ne v v ≡ true → toBits f v ≡ toBits f nan
 nan-bits f v e = ap (toBits f) (differs-from-itself v (subst T (sym e) tt))
@@ -62,7 +64,7 @@ signed-zero binary64 true = refl
 signed-zero binary64 false = refl
 
 -- a zero whose bits b have no sign
-pub zero-bits : (f : Format) (v : Float) (b : ℕ) → T (fits f v) → b ≡ toBits f v → (eq v (ofBits f 0) && ltb b (top f)) ≡ true → toBits f v ≡ 0
+zero-bits : (f : Format) (v : Float) (b : ℕ) → T (fits f v) → b ≡ toBits f v → (eq v (ofBits f 0) && ltb b (top f)) ≡ true → toBits f v ≡ 0
 zero-bits f v b h is e =
     let z = equals-zero f v h (subst (λ (x : Float). eq v x ≡ true) (zero-literal f) (and-first _ _ e)) in
     let signed : toBits f v ≡ cond (z .0) (top f) 0 = ap (toBits f) (z .1) ∙ signed-zero f (z .0) in
@@ -72,3 +74,23 @@ zero-bits f v b h is e =
     by-sign : (s : Bool) → cond s (top f) 0 < top f → cond s (top f) 0 ≡ 0
     by-sign true l = absurd (lt-irrefl (top f) l)
     by-sign false l = refl
+
+-- the bits 0 are those of the literal
+bits-zero : (f : Format) (v : Float) (b : ℕ) → T (fits f v) → b ≡ toBits f v → toBits f v ≡ 0 → (eq v (ofBits f 0) && ltb b (top f)) ≡ true
+unfolding eq
+bits-zero f v b h is z =
+    let w : v ≡ fin false 0 (pos 0) = sym (ofBits-toBits f v h) ∙ (ap (ofBits f) z ∙ zero-literal f) in
+    rw (w, zero-literal f, is, z, lt-ltb 0 (top f) (top-pos f))
+  where
+    top-pos : (g : Format) → 0 < top g
+    top-pos binary32 = omega arith
+    top-pos binary64 = omega arith
+
+-- so the comparison with zero and the sign bit tell whether the bits are 0
+pub positive-zero : (f : Format) (v : Float) (b : ℕ) → T (fits f v) → b ≡ toBits f v → (eq v (ofBits f 0) && ltb b (top f)) ≡ eqb (toBits f v) 0
+positive-zero f v b h is =
+    by-cases (eqb (toBits f v) 0)
+    (λ p. bits-zero f v b h is (eqb-true (toBits f v) 0 p) ∙ sym p)
+    (λ p. by-cases (eq v (ofBits f 0) && ltb b (top f))
+    (λ q. absurd (eqb-false (toBits f v) 0 p (zero-bits f v b h is q)))
+    (λ q. q ∙ sym p))

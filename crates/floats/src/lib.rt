@@ -1,8 +1,9 @@
 // Floats: `write_f32` and `write_f64` of document 01's value_writer. The type byte is 4 and the size of what follows: 40, 44 or 48.
-// Bits come as numbers, since the language has one NaN: a call that keeps a NaN's own bits takes bits.
+// A call that keeps a NaN's own bits takes bits, since the language has one NaN; a call that takes an f32 or f64 compares it with zero.
 ghost use mathlib.Core.Path.{_≡_};
 ghost use mathlib.Core.List.{List, _∷_};
 ghost use Prim.Native.Nat.{ℕ, _+_, _≤_, _<_};
+ghost use lib.Dec.{eqb};
 ghost use lib.ListN.{length};
 ghost use lib.Ieee.{binary32, binary64, toBits};
 ghost use Rattle.buffer.specs.Laid.{laid, placed};
@@ -112,7 +113,7 @@ fn write_sized(buf: &mut [u8], at: usize, size: usize, bits: u64) -> usize
 }
 
 // The size of what `write_f32_bits` puts.
-pub fn f32_size(bits: u32) -> usize
+pub fn f32_bits_size(bits: u32) -> usize
     ensures { λ r. ⌜ r ≡ length (float32Bytes bits) ⌝ }
 {
     if bits == 0 {
@@ -132,11 +133,11 @@ pub fn write_f32_bits(buf: &mut [u8], at: usize, bits: u32) -> usize
 }
 
 // The size of what `write_f64_bits` puts.
-pub fn f64_size(bits: u64) -> usize
+pub fn f64_bits_size(bits: u64) -> usize
     ensures { λ r. ⌜ r ≡ length (float64Bytes bits) ⌝ }
 {
     match narrow(bits) {
-        Narrowed::Exact(n) => f32_size(n),
+        Narrowed::Exact(n) => f32_bits_size(n),
         Narrowed::No => 9,
     }
 }
@@ -152,7 +153,7 @@ pub fn write_f64_bits(buf: &mut [u8], at: usize, bits: u64) -> usize
 }
 
 // A NaN has the bits 7FC00000: `to_bits` is not defined there.
-pub fn bits_of_f32(v: f32) -> u32
+fn bits_of_f32(v: f32) -> u32
     ensures { λ r. ⌜ r ≡ toBits binary32 v ⌝ }
 {
     if v != v {
@@ -162,7 +163,7 @@ pub fn bits_of_f32(v: f32) -> u32
 }
 
 // A NaN has the bits 7FF8000000000000.
-pub fn bits_of_f64(v: f64) -> u64
+fn bits_of_f64(v: f64) -> u64
     ensures { λ r. ⌜ r ≡ toBits binary64 v ⌝ }
 {
     if v != v {
@@ -171,24 +172,56 @@ pub fn bits_of_f64(v: f64) -> u64
     f64::to_bits(v)
 }
 
-// An f32 by its value. Negative zero equals zero, so the sign bit is asked too.
+// Whether an f32 is positive zero. Negative zero equals it, so the sign bit is asked too.
+fn is_positive_zero_f32(v: f32) -> bool
+    ensures { λ r. ⌜ r ≡ eqb (toBits binary32 v) 0 ⌝ }
+{
+    (v == 0.0) & (bits_of_f32(v) < SIGN_32)
+}
+
+// The same of an f64.
+fn is_positive_zero_f64(v: f64) -> bool
+    ensures { λ r. ⌜ r ≡ eqb (toBits binary64 v) 0 ⌝ }
+{
+    (v == 0.0) & (bits_of_f64(v) < SIGN_64)
+}
+
+// The size of what `write_f32` puts.
+pub fn f32_size(v: f32) -> usize
+    ensures { λ r. ⌜ r ≡ length (float32Bytes (toBits binary32 v)) ⌝ }
+{
+    if is_positive_zero_f32(v) {
+        return 1;
+    }
+    5
+}
+
+// An f32 by its value.
 pub fn write_f32(buf: &mut [u8], at: usize, v: f32) -> usize
     ensures { λ r. ⌜ _≡_ {A = ℕ × List ℕ} (r, now (buf .exit)) (placed (now (buf .entry)) at (float32Bytes (toBits binary32 v))) ⌝ }
 {
-    let bits = bits_of_f32(v);
-    if (v == 0.0) & (bits < SIGN_32) {
+    if is_positive_zero_f32(v) {
         return write_sized(buf, at, 0, 0);
     }
-    write_f32_bits(buf, at, bits)
+    write_sized(buf, at, 4, bits_of_f32(v) as u64)
+}
+
+// The size of what `write_f64` puts.
+pub fn f64_size(v: f64) -> usize
+    ensures { λ r. ⌜ r ≡ length (float64Bytes (toBits binary64 v)) ⌝ }
+{
+    if is_positive_zero_f64(v) {
+        return 1;
+    }
+    f64_bits_size(bits_of_f64(v))
 }
 
 // An f64 by its value.
 pub fn write_f64(buf: &mut [u8], at: usize, v: f64) -> usize
     ensures { λ r. ⌜ _≡_ {A = ℕ × List ℕ} (r, now (buf .exit)) (placed (now (buf .entry)) at (float64Bytes (toBits binary64 v))) ⌝ }
 {
-    let bits = bits_of_f64(v);
-    if (v == 0.0) & (bits < SIGN_64) {
+    if is_positive_zero_f64(v) {
         return write_sized(buf, at, 0, 0);
     }
-    write_f64_bits(buf, at, bits)
+    write_f64_bits(buf, at, bits_of_f64(v))
 }

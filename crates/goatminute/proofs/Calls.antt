@@ -15,31 +15,32 @@ use Rattle.machine.specs.declared.State.{State}
 use Rattle.machine.specs.declared.Container.{Container}
 use Rattle.machine.specs.declared.Refusal.the-variants.{NoRoom}
 use Rattle.machine.specs.Call.{Call, ContainerType, opening, closing, abandonment, emptying}
-use Rattle.machine.specs.Machine.{noContainer, openContainers, isOpen, inStruct, lacksName, reserve, containerCode, put, effect, placeLines, checks, accepted, refused, firstFailing, isAccepted, outer}
+use Rattle.machine.specs.Machine.{noContainer, openContainers, isOpen, inStruct, lacksName, reserve, containerCode, put, atEnd, effect}
+use Rattle.machine.specs.Machine.{placeLines, checks, accepted, refused, firstFailing, isAccepted, outer}
 use Rattle.machine.specs.Numbers.{Outcome, run}
 use Rattle.containers.specs.Containers.{closedOn, abandonedOn}
-use Rattle.writer.specs.Ended.{openedState}
 use Rattle.writer.proofs.Run.{outcome, config, run-accepted, past-place, placed-some, end-run}
-use Rattle.place.specs.Place.{placeVerdict}
-use Rattle.writer.proofs.Containers.{accepted-fits, accepted-placed, opened-not, either-not, some-open, innermost, reserve-least, opening-refused, opening-accepted, opening-deep, closing-refused, closing-accepted, abandonment-run}
-use Rattle.state_bytes.specs.StateBytes.{stateOf, lentPlace, storedHead, storedContainer, storedBy, enteredBy, entered}
+use Rattle.machine.specs.Machine.{placeVerdict}
+use Rattle.writer.proofs.Containers.{accepted-fits, accepted-placed, opened-not, either-not, some-open, innermost, reserve-least, openedState, opening-refused, opening-accepted, opening-deep, closing-refused, closing-accepted, abandonment-run}
+use Rattle.state_bytes.specs.StateBytes.{stateOf, storedHead, storedContainer, storedState, storedBy, enteredBy, entered}
 use Rattle.state_bytes.proofs.Laws.{state-is, state-none, length-containers, outer-step}
-use Rattle.goatminute.specs.Entries.{enteredAs, endedNumber, endedState}
-use Rattle.goatminute.proofs.Entered.{accepted-is, lent-place, entered-run, entered-ended}
+use Rattle.goatminute.specs.Entries.{enteredAs}
+use Rattle.goatminute.proofs.Entered.{accepted-is, entered-run, entered-ended}
 
 -- ---- bytes that are never none, put at the end of the used ones, with no check of their own but 10
 
-pub end-entry : (c : Call) (st b : List ℕ) (m : Bool) (out : List ℕ) (waits : Bool)
-    → checks c (config (stateOf st) b) ≡ placeLines (stateOf st) (length b) m ++ ((ltb (length b) (stateOf st .used + length out), 10) ∷ [])
-    → ((s : State) → storedBy c s st ≡ st) → 0 < length out
-    → effect c (config (stateOf st) b) ≡ put (config (stateOf st) b) (stateOf st .used) out (stateOf st .depth) waits (stateOf st .containers)
-    → isAccepted (lentPlace st (length b) m) ≡ true → (n : ℕ) (l : List ℕ) → _≡_ {A = ℕ × List ℕ} (n, l) (placed b (stateOf st .used) out)
-    → enteredAs (endedNumber n NoRoom) (endedState st n waits) l ≡ entered c st b
-end-entry c st b m out waits q same pos f t n l e =
-    let rest : List (Bool × ℕ) = (ltb (length b) (stateOf st .used + length out), 10) ∷ [] in
-    let ok = accepted-is (lentPlace st (length b) m) t in
-    entered-ended c st b m rest q same n l waits NoRoom ok
-    (end-run c (stateOf st) b out n l waits e (past-place c (stateOf st) b m rest q (lent-place c st b m rest q ok)) pos f)
+module _ (c : Call) (st b : List ℕ) (m : Bool) (out : List ℕ) (waits : Bool)
+    (lines : checks c (config (stateOf st) b) ≡ placeLines (stateOf st) (length b) m ++ ((ltb (length b) (stateOf st .used + length out), 10) ∷ []))
+    (same : (s : State) → storedBy c s st ≡ storedState s st) (some : 0 < length out)
+    (does : effect c (config (stateOf st) b) ≡ put (config (stateOf st) b) (atEnd (stateOf st) out waits))
+    (t : isAccepted (placeVerdict (stateOf st) (length b) m) ≡ true) (n : ℕ) (l : List ℕ) (e : _≡_ {A = ℕ × List ℕ} (n, l) (placed b (stateOf st .used) out)) where
+  room-left : firstFailing (checks c (config (stateOf st) b)) ≡ firstFailing ((ltb (length b) (stateOf st .used + length out), 10) ∷ [])
+  room-left = past-place c (stateOf st) b m ((ltb (length b) (stateOf st .used + length out), 10) ∷ []) lines (accepted-is _ t)
+
+  pub end-entry : (k : ℕ) (x : List ℕ) → (n ≡ 0 → (k ≡ 10) × (x ≡ st)) → ((n ≡ 0 → ⊥) → (k ≡ 0) × (x ≡ storedHead (stateOf st .used + n) (stateOf st .depth) waits st))
+      → enteredAs k x l ≡ entered c st b
+  end-entry =
+      entered-ended c st b same n l waits NoRoom (end-run c (stateOf st) b out n l waits e room-left some does)
 
 -- ---- the line 10 behind a place
 
@@ -54,15 +55,15 @@ containers-length st =
     (λ p. rw (state-is st (eqb-true (length st) 296 p)) (length-containers st 0 32))
     (λ p. rw (state-none st (eqb-false (length st) 296 p)))
 
-module _ (an : List ℕ) (k : ContainerType) (st b : List ℕ) (t : isAccepted (lentPlace st (length b) (lacksName (stateOf st))) ≡ true) where
+module _ (an : List ℕ) (k : ContainerType) (st b : List ℕ) (t : isAccepted (placeVerdict (stateOf st) (length b) (lacksName (stateOf st))) ≡ true) where
   abbrev lines : List (Bool × ℕ)
   lines = (leb 32 (stateOf st .depth), 4) ∷ (ltb (length b) (stateOf st .used + length (reserve an)), 10) ∷ []
 
   opening-run : (o : Outcome) → o ≡ run (opening an k) (stateOf st) b → enteredBy (opening an k) st o ≡ entered (opening an k) st b
-  opening-run o r = entered-run (opening an k) st b (lacksName (stateOf st)) lines refl o (accepted-is _ t) r
+  opening-run o r = entered-run (opening an k) st b o r
 
   past : firstFailing (checks (opening an k) (config (stateOf st) b)) ≡ firstFailing lines
-  past = past-place (opening an k) (stateOf st) b (lacksName (stateOf st)) lines refl (lent-place (opening an k) st b (lacksName (stateOf st)) lines refl (accepted-is _ t))
+  past = past-place (opening an k) (stateOf st) b (lacksName (stateOf st)) lines refl (accepted-is _ t)
 
   pub open-deep : 32 ≤ stateOf st .depth → enteredAs 4 st b ≡ entered (opening an k) st b
   open-deep h = opening-run (outcome (refused 4) (stateOf st) b) (opening-deep an k (stateOf st) b past h)
@@ -79,7 +80,6 @@ module _ (an : List ℕ) (k : ContainerType) (st b : List ℕ) (t : isAccepted (
     pub open-done : (n ≡ 0 → ⊥)
         → enteredAs 0 (storedHead (stateOf st .used + n) (stateOf st .depth + 1) false (storedContainer (stateOf st .depth) (record { start = stateOf st .used; header = stateOf st .used + (n - 2); code = containerCode k }) st)) l
         ≡ entered (opening an k) st b
-    unfolding openedState
     open-done h =
         let c : Container = record { start = stateOf st .used; header = stateOf st .used + (n - 2); code = containerCode k } in
         let i : stateOf st .depth + 1 - 1 ≡ stateOf st .depth = omega arith in
@@ -88,12 +88,12 @@ module _ (an : List ℕ) (k : ContainerType) (st b : List ℕ) (t : isAccepted (
 
 -- ---- a closing
 
-module _ (st b : List ℕ) (t : isAccepted (lentPlace st (length b) (not (isOpen (openContainers (stateOf st))) || stateOf st .waiting)) ≡ true) where
+module _ (st b : List ℕ) (t : isAccepted (placeVerdict (stateOf st) (length b) (not (isOpen (openContainers (stateOf st))) || stateOf st .waiting)) ≡ true) where
   closing-place : placeVerdict (stateOf st) (length b) (not (isOpen (openContainers (stateOf st))) || stateOf st .waiting) ≡ accepted
-  closing-place = lent-place closing st b (not (isOpen (openContainers (stateOf st))) || stateOf st .waiting) (roomLine closing st b) refl (accepted-is _ t)
+  closing-place = accepted-is _ t
 
   closing-run : (o : Outcome) → o ≡ run closing (stateOf st) b → enteredBy closing st o ≡ entered closing st b
-  closing-run o r = entered-run closing st b (not (isOpen (openContainers (stateOf st))) || stateOf st .waiting) (roomLine closing st b) refl o (accepted-is _ t) r
+  closing-run o r = entered-run closing st b o r
 
   pub close-open : 0 < stateOf st .depth
   close-open = some-open (stateOf st) (length b) (accepted-fits (stateOf st) (length b) _ closing-place) (either-not (isOpen (openContainers (stateOf st))) (stateOf st .waiting) (accepted-placed (stateOf st) (length b) _ closing-place))
@@ -107,9 +107,9 @@ module _ (st b : List ℕ) (t : isAccepted (lentPlace st (length b) (not (isOpen
 
 -- ---- an abandonment
 
-module _ (st b : List ℕ) (t : isAccepted (lentPlace st (length b) (not (isOpen (openContainers (stateOf st))))) ≡ true) where
+module _ (st b : List ℕ) (t : isAccepted (placeVerdict (stateOf st) (length b) (not (isOpen (openContainers (stateOf st))))) ≡ true) where
   abandonment-place : placeVerdict (stateOf st) (length b) (not (isOpen (openContainers (stateOf st)))) ≡ accepted
-  abandonment-place = lent-place abandonment st b (not (isOpen (openContainers (stateOf st)))) (roomLine abandonment st b) refl (accepted-is _ t)
+  abandonment-place = accepted-is _ t
 
   pub abandon-open : 0 < stateOf st .depth
   abandon-open = some-open (stateOf st) (length b) (accepted-fits (stateOf st) (length b) _ abandonment-place) (opened-not (isOpen (openContainers (stateOf st))) (accepted-placed (stateOf st) (length b) _ abandonment-place))
@@ -117,15 +117,15 @@ module _ (st b : List ℕ) (t : isAccepted (lentPlace st (length b) (not (isOpen
   pub abandon-done : (r : Bool) (l : List ℕ) (waits : Bool) → _≡_ {A = Bool × List ℕ} (r, l) (abandonedOn (stateOf st .used) (innermost (stateOf st) .start) b) → waits ≡ inStruct (outer (openContainers (stateOf st)))
       → enteredAs 0 (storedHead (innermost (stateOf st) .start) (stateOf st .depth - 1) waits st) l ≡ entered abandonment st b
   abandon-done r l waits e w =
-      entered-run abandonment st b (not (isOpen (openContainers (stateOf st)))) (roomLine abandonment st b) refl
-      (outcome accepted (record { used = innermost (stateOf st) .start; depth = stateOf st .depth - 1; waiting = waits; containers = stateOf st .containers }) l) (accepted-is _ t)
+      entered-run abandonment st b
+      (outcome accepted (record { used = innermost (stateOf st) .start; depth = stateOf st .depth - 1; waiting = waits; containers = stateOf st .containers }) l)
       (abandonment-run (stateOf st) b r l waits abandonment-place e (w ∙ sym (outer-step (stateOf st .containers) (stateOf st .depth) abandon-open)))
 
 -- ---- an emptying
 
-pub empty-done : (st b : List ℕ) → isAccepted (lentPlace st (length b) (isOpen (openContainers (stateOf st)))) ≡ true → enteredAs 0 (storedHead 0 (stateOf st .depth) (stateOf st .waiting) st) b ≡ entered emptying st b
+pub empty-done : (st b : List ℕ) → isAccepted (placeVerdict (stateOf st) (length b) (isOpen (openContainers (stateOf st)))) ≡ true → enteredAs 0 (storedHead 0 (stateOf st .depth) (stateOf st .waiting) st) b ≡ entered emptying st b
 empty-done st b t =
     let m = isOpen (openContainers (stateOf st)) in
-    let q = lent-place emptying st b m (roomLine emptying st b) refl (accepted-is _ t) in
-    entered-run emptying st b m (roomLine emptying st b) refl (outcome accepted (record { used = 0; depth = stateOf st .depth; waiting = stateOf st .waiting; containers = stateOf st .containers }) b) (accepted-is _ t)
-    (sym (run-accepted emptying (stateOf st) b (past-place emptying (stateOf st) b m (roomLine emptying st b) refl q ∙ rw (le-ltb (length b) 0 (omega arith)))))
+    entered-run emptying st b
+    (outcome accepted (record { used = 0; depth = stateOf st .depth; waiting = stateOf st .waiting; containers = stateOf st .containers }) b)
+    (sym (run-accepted emptying (stateOf st) b (past-place emptying (stateOf st) b m (roomLine emptying st b) refl (accepted-is _ t) ∙ rw (le-ltb (length b) 0 (omega arith)))))

@@ -1,24 +1,15 @@
--- What the entry points answer and leave beside `entered`: a start, and the pieces that they share.
+-- What the entry points answer and leave beside `entered`: a start.
 -- Assumes nothing.
-use Prim.Native.Nat.{ℕ, _+_}
-use mathlib.Core.Bool.{Bool, true, false}
+use Prim.Native.Nat.{ℕ}
+use mathlib.Core.Bool.{true, false}
 use mathlib.Core.List.{List, _++_}
 use lib.Dec.{eqb, ltb}
 use lib.ListN.{length, replicate}
-use Rattle.machine.specs.declared.Refusal.{Refusal}
 use Rattle.machine.specs.Machine.{longestBuffer, startVerdict, started}
-use Rattle.machine.specs.Numbers.{number}
-use Rattle.state_bytes.specs.StateBytes.{stateSize, stateOf, headBytes, storedHead, numberOf, Entered}
+use Rattle.state_bytes.specs.StateBytes.{stateSize, headBytes, numberOf, Entered}
 
 abbrev pub enteredAs : ℕ → List ℕ → List ℕ → Entered
 enteredAs n st b = record { number = n; state = st; buffer = b }
-
--- What an entry answers that could put n bytes at the end of the used ones, and the state that it leaves; `why` is why it could put none.
-unfoldable pub endedNumber : ℕ → Refusal → ℕ
-endedNumber n why = elim (eqb n 0) [ true ↦ number why | false ↦ 0 ]
-
-unfoldable pub endedState : List ℕ → ℕ → Bool → List ℕ
-endedState st n waits = elim (eqb n 0) [ true ↦ st | false ↦ storedHead (stateOf st .used + n) (stateOf st .depth) waits st ]
 
 -- the bytes of a state with no container and no name
 abbrev pub emptyBytes : ℕ → List ℕ

@@ -2,21 +2,19 @@
 // Each answers 0 for an accepted call, or the refusal's number. A refused call leaves state and buffer as they were.
 // A number that stands for yes or no is no where it is 0.
 ghost use mathlib.Core.Path.{_≡_};
-ghost use mathlib.Core.Bool.{not};
 ghost use Prim.Native.Nat.{_+_, _<_, _^_};
-ghost use lib.Dec.{eqb};
 ghost use lib.ListN.{length, replicate};
-ghost use Rattle.encoding.specs.Argument.{writeNull, writeBool, writeI64, writeInt, writeF32, writeF64, writeDecimal, writeSymbol, writeString, writeClob, writeBlob};
 ghost use Rattle.annotations.specs.Sids.{sidsOf};
-ghost use Rattle.scalars.specs.Types.{typeOf};
 ghost use Rattle.timestamp.specs.Arguments.{argumentOf};
 ghost use Rattle.machine.specs.Machine.{finishedLength};
-ghost use Rattle.machine.specs.Call.{write, name, opening, closing, abandonment, versionMarker, emptying};
+ghost use Rattle.machine.specs.Call.{write, opening};
+ghost use Rattle.machine.specs.Numbers.{number};
 ghost use Rattle.writer.specs.Kinds.{kindOf};
-ghost use Rattle.writer.specs.declared.ContainerType.the-variants.{List, Sexp, Struct};
-ghost use Rattle.state_bytes.specs.StateBytes.{stateOf, entered};
-ghost use Rattle.goatminute.specs.Entries.{enteredAs, endedNumber, endedState, startEntered};
-ghost use Rattle.entry_numbers.specs.Lent.{typeCoded, timestampLent};
+ghost use Rattle.state_bytes.specs.StateBytes.{stateOf, storedHead, entered};
+ghost use Rattle.goatminute.specs.Entries.{enteredAs, startEntered};
+ghost use Rattle.entry_numbers.specs.EntryCall.{gmWriteNull, gmWriteBool, gmWriteI64, gmWriteInt, gmWriteF32, gmWriteF64, gmWriteDecimal, gmWriteTimestamp};
+ghost use Rattle.entry_numbers.specs.EntryCall.{gmWriteSymbol, gmWriteString, gmWriteClob, gmWriteBlob, gmFieldName, gmOpenList, gmOpenSexp, gmOpenStruct};
+ghost use Rattle.entry_numbers.specs.EntryCall.{gmClose, gmAbandon, gmVersionMarker, gmEmpty, callOf};
 use machine::Container;
 use machine::Refusal;
 use timestamp::Timestamp;
@@ -33,7 +31,9 @@ const MOST_OPEN: usize = 32;
 // The answer of an entry that has put `put` bytes at the end of the used ones, or none for the reason `why`.
 fn ended(state: &mut [u8], put: usize, waiting: bool, why: Refusal) -> u8
     requires { ⌜ ((put ≡ 0 → ⊥) → stateOf (now state) .used + put < 2 ^ 64) ⌝ }
-    ensures { λ r. ⌜ (r ≡ endedNumber put why) × (now (state .exit) ≡ endedState (now (state .entry)) put waiting) ⌝ }
+    ensures { λ r. ⌜ (put ≡ 0 → (r ≡ number why) × (now (state .exit) ≡ now (state .entry)))
+        × ((put ≡ 0 → ⊥) → (r ≡ 0)
+        × (now (state .exit) ≡ storedHead (stateOf (now (state .entry)) .used + put) (stateOf (now (state .entry)) .depth) waiting (now (state .entry)))) ⌝ }
 {
     if put == 0 {
         return entry_numbers::number_of(why);
@@ -54,7 +54,8 @@ pub extern "C" fn gm_write_null(
     annotations: &[u8],
     code: u8,
 ) -> u8
-    ensures { λ r. ⌜ enteredAs r (now (state .exit)) (now (buf .exit)) ≡ entered (write (sidsOf (now (annotations .entry))) (writeNull (typeOf (typeCoded code)))) (now (state .entry)) (now (buf .entry)) ⌝ }
+    ensures { λ r. ⌜ enteredAs r (now (state .exit)) (now (buf .exit))
+        ≡ entered (callOf (gmWriteNull (now (annotations .entry)) code)) (now (state .entry)) (now (buf .entry)) ⌝ }
 {
     if !state_bytes::value_passes(state, buf.len()) {
         return entry_numbers::answered(state_bytes::value_place(state, buf.len()));
@@ -76,7 +77,8 @@ pub extern "C" fn gm_write_bool(
     annotations: &[u8],
     value: u8,
 ) -> u8
-    ensures { λ r. ⌜ enteredAs r (now (state .exit)) (now (buf .exit)) ≡ entered (write (sidsOf (now (annotations .entry))) (writeBool (not (eqb value 0)))) (now (state .entry)) (now (buf .entry)) ⌝ }
+    ensures { λ r. ⌜ enteredAs r (now (state .exit)) (now (buf .exit))
+        ≡ entered (callOf (gmWriteBool (now (annotations .entry)) value)) (now (state .entry)) (now (buf .entry)) ⌝ }
 {
     if !state_bytes::value_passes(state, buf.len()) {
         return entry_numbers::answered(state_bytes::value_place(state, buf.len()));
@@ -93,7 +95,8 @@ pub extern "C" fn gm_write_i64(
     annotations: &[u8],
     value: i64,
 ) -> u8
-    ensures { λ r. ⌜ enteredAs r (now (state .exit)) (now (buf .exit)) ≡ entered (write (sidsOf (now (annotations .entry))) (writeI64 value)) (now (state .entry)) (now (buf .entry)) ⌝ }
+    ensures { λ r. ⌜ enteredAs r (now (state .exit)) (now (buf .exit))
+        ≡ entered (callOf (gmWriteI64 (now (annotations .entry)) value)) (now (state .entry)) (now (buf .entry)) ⌝ }
 {
     if !state_bytes::value_passes(state, buf.len()) {
         return entry_numbers::answered(state_bytes::value_place(state, buf.len()));
@@ -111,7 +114,8 @@ pub extern "C" fn gm_write_int(
     negative: u8,
     magnitude: &[u8],
 ) -> u8
-    ensures { λ r. ⌜ enteredAs r (now (state .exit)) (now (buf .exit)) ≡ entered (write (sidsOf (now (annotations .entry))) (writeInt (not (eqb negative 0)) (now (magnitude .entry)))) (now (state .entry)) (now (buf .entry)) ⌝ }
+    ensures { λ r. ⌜ enteredAs r (now (state .exit)) (now (buf .exit))
+        ≡ entered (callOf (gmWriteInt (now (annotations .entry)) negative (now (magnitude .entry)))) (now (state .entry)) (now (buf .entry)) ⌝ }
 {
     if !state_bytes::value_passes(state, buf.len()) {
         return entry_numbers::answered(state_bytes::value_place(state, buf.len()));
@@ -137,7 +141,8 @@ pub extern "C" fn gm_write_f32(
     annotations: &[u8],
     bits: u32,
 ) -> u8
-    ensures { λ r. ⌜ enteredAs r (now (state .exit)) (now (buf .exit)) ≡ entered (write (sidsOf (now (annotations .entry))) (writeF32 bits)) (now (state .entry)) (now (buf .entry)) ⌝ }
+    ensures { λ r. ⌜ enteredAs r (now (state .exit)) (now (buf .exit))
+        ≡ entered (callOf (gmWriteF32 (now (annotations .entry)) bits)) (now (state .entry)) (now (buf .entry)) ⌝ }
 {
     if !state_bytes::value_passes(state, buf.len()) {
         return entry_numbers::answered(state_bytes::value_place(state, buf.len()));
@@ -154,7 +159,8 @@ pub extern "C" fn gm_write_f64(
     annotations: &[u8],
     bits: u64,
 ) -> u8
-    ensures { λ r. ⌜ enteredAs r (now (state .exit)) (now (buf .exit)) ≡ entered (write (sidsOf (now (annotations .entry))) (writeF64 bits)) (now (state .entry)) (now (buf .entry)) ⌝ }
+    ensures { λ r. ⌜ enteredAs r (now (state .exit)) (now (buf .exit))
+        ≡ entered (callOf (gmWriteF64 (now (annotations .entry)) bits)) (now (state .entry)) (now (buf .entry)) ⌝ }
 {
     if !state_bytes::value_passes(state, buf.len()) {
         return entry_numbers::answered(state_bytes::value_place(state, buf.len()));
@@ -173,7 +179,8 @@ pub extern "C" fn gm_write_decimal(
     coefficient: &[u8],
     exponent: i64,
 ) -> u8
-    ensures { λ r. ⌜ enteredAs r (now (state .exit)) (now (buf .exit)) ≡ entered (write (sidsOf (now (annotations .entry))) (writeDecimal (not (eqb negative 0)) (now (coefficient .entry)) exponent)) (now (state .entry)) (now (buf .entry)) ⌝ }
+    ensures { λ r. ⌜ enteredAs r (now (state .exit)) (now (buf .exit))
+        ≡ entered (callOf (gmWriteDecimal (now (annotations .entry)) negative (now (coefficient .entry)) exponent)) (now (state .entry)) (now (buf .entry)) ⌝ }
 {
     if !state_bytes::value_passes(state, buf.len()) {
         return entry_numbers::answered(state_bytes::value_place(state, buf.len()));
@@ -198,7 +205,8 @@ pub extern "C" fn gm_write_decimal(
 
 // A timestamp by its local fields and its offset.
 fn write_timestamp(state: &mut [u8], buf: &mut [u8], annotations: &[u8], value: Timestamp) -> u8
-    ensures { λ r. ⌜ enteredAs r (now (state .exit)) (now (buf .exit)) ≡ entered (write (sidsOf (now (annotations .entry))) (argumentOf value)) (now (state .entry)) (now (buf .entry)) ⌝ }
+    ensures { λ r. ⌜ enteredAs r (now (state .exit)) (now (buf .exit))
+        ≡ entered (write (sidsOf (now (annotations .entry))) (argumentOf value)) (now (state .entry)) (now (buf .entry)) ⌝ }
 {
     if !state_bytes::value_passes(state, buf.len()) {
         return entry_numbers::answered(state_bytes::value_place(state, buf.len()));
@@ -229,7 +237,21 @@ pub extern "C" fn gm_write_timestamp(
     digits: u32,
     coefficient: u64,
 ) -> u8
-    ensures { λ r. ⌜ enteredAs r (now (state .exit)) (now (buf .exit)) ≡ entered (write (sidsOf (now (annotations .entry))) (argumentOf (timestampLent precision year month day hour minute second known offset given digits coefficient))) (now (state .entry)) (now (buf .entry)) ⌝ }
+    ensures { λ r. ⌜ enteredAs r (now (state .exit)) (now (buf .exit))
+        ≡ entered (callOf (gmWriteTimestamp (now (annotations .entry)) (record {
+          precision = precision;
+          year = year;
+          month = month;
+          day = day;
+          hour = hour;
+          minute = minute;
+          second = second;
+          known = known;
+          offset = offset;
+          given = given;
+          digits = digits;
+          coefficient = coefficient;
+        }))) (now (state .entry)) (now (buf .entry)) ⌝ }
 {
     let value = Timestamp {
         precision: entry_numbers::precision_of(precision),
@@ -253,7 +275,8 @@ pub extern "C" fn gm_write_symbol(
     annotations: &[u8],
     sid: u64,
 ) -> u8
-    ensures { λ r. ⌜ enteredAs r (now (state .exit)) (now (buf .exit)) ≡ entered (write (sidsOf (now (annotations .entry))) (writeSymbol sid)) (now (state .entry)) (now (buf .entry)) ⌝ }
+    ensures { λ r. ⌜ enteredAs r (now (state .exit)) (now (buf .exit))
+        ≡ entered (callOf (gmWriteSymbol (now (annotations .entry)) sid)) (now (state .entry)) (now (buf .entry)) ⌝ }
 {
     if !state_bytes::value_passes(state, buf.len()) {
         return entry_numbers::answered(state_bytes::value_place(state, buf.len()));
@@ -270,7 +293,8 @@ pub extern "C" fn gm_write_string(
     annotations: &[u8],
     bytes: &[u8],
 ) -> u8
-    ensures { λ r. ⌜ enteredAs r (now (state .exit)) (now (buf .exit)) ≡ entered (write (sidsOf (now (annotations .entry))) (writeString (now (bytes .entry)))) (now (state .entry)) (now (buf .entry)) ⌝ }
+    ensures { λ r. ⌜ enteredAs r (now (state .exit)) (now (buf .exit))
+        ≡ entered (callOf (gmWriteString (now (annotations .entry)) (now (bytes .entry)))) (now (state .entry)) (now (buf .entry)) ⌝ }
 {
     if !state_bytes::value_passes(state, buf.len()) {
         return entry_numbers::answered(state_bytes::value_place(state, buf.len()));
@@ -290,7 +314,8 @@ pub extern "C" fn gm_write_clob(
     annotations: &[u8],
     bytes: &[u8],
 ) -> u8
-    ensures { λ r. ⌜ enteredAs r (now (state .exit)) (now (buf .exit)) ≡ entered (write (sidsOf (now (annotations .entry))) (writeClob (now (bytes .entry)))) (now (state .entry)) (now (buf .entry)) ⌝ }
+    ensures { λ r. ⌜ enteredAs r (now (state .exit)) (now (buf .exit))
+        ≡ entered (callOf (gmWriteClob (now (annotations .entry)) (now (bytes .entry)))) (now (state .entry)) (now (buf .entry)) ⌝ }
 {
     if !state_bytes::value_passes(state, buf.len()) {
         return entry_numbers::answered(state_bytes::value_place(state, buf.len()));
@@ -307,7 +332,8 @@ pub extern "C" fn gm_write_blob(
     annotations: &[u8],
     bytes: &[u8],
 ) -> u8
-    ensures { λ r. ⌜ enteredAs r (now (state .exit)) (now (buf .exit)) ≡ entered (write (sidsOf (now (annotations .entry))) (writeBlob (now (bytes .entry)))) (now (state .entry)) (now (buf .entry)) ⌝ }
+    ensures { λ r. ⌜ enteredAs r (now (state .exit)) (now (buf .exit))
+        ≡ entered (callOf (gmWriteBlob (now (annotations .entry)) (now (bytes .entry)))) (now (state .entry)) (now (buf .entry)) ⌝ }
 {
     if !state_bytes::value_passes(state, buf.len()) {
         return entry_numbers::answered(state_bytes::value_place(state, buf.len()));
@@ -321,7 +347,8 @@ pub extern "C" fn gm_write_blob(
 // A field name: its sid as a VarUInt.
 #[no_mangle]
 pub extern "C" fn gm_field_name(state: &mut [u8], buf: &mut [u8], sid: u64) -> u8
-    ensures { λ r. ⌜ enteredAs r (now (state .exit)) (now (buf .exit)) ≡ entered (name sid) (now (state .entry)) (now (buf .entry)) ⌝ }
+    ensures { λ r. ⌜ enteredAs r (now (state .exit)) (now (buf .exit))
+        ≡ entered (callOf (gmFieldName sid)) (now (state .entry)) (now (buf .entry)) ⌝ }
 {
     if !state_bytes::name_passes(state, buf.len()) {
         return entry_numbers::answered(state_bytes::name_place(state, buf.len()));
@@ -332,7 +359,8 @@ pub extern "C" fn gm_field_name(state: &mut [u8], buf: &mut [u8], sid: u64) -> u
 
 // An opening: it reserves two bytes for its header, and with annotations two more for the wrapper's before them.
 fn open(state: &mut [u8], buf: &mut [u8], annotations: &[u8], kind: ContainerType) -> u8
-    ensures { λ r. ⌜ enteredAs r (now (state .exit)) (now (buf .exit)) ≡ entered (opening (sidsOf (now (annotations .entry))) (kindOf kind)) (now (state .entry)) (now (buf .entry)) ⌝ }
+    ensures { λ r. ⌜ enteredAs r (now (state .exit)) (now (buf .exit))
+        ≡ entered (opening (sidsOf (now (annotations .entry))) (kindOf kind)) (now (state .entry)) (now (buf .entry)) ⌝ }
 {
     if !state_bytes::value_passes(state, buf.len()) {
         return entry_numbers::answered(state_bytes::value_place(state, buf.len()));
@@ -362,21 +390,24 @@ fn open(state: &mut [u8], buf: &mut [u8], annotations: &[u8], kind: ContainerTyp
 
 #[no_mangle]
 pub extern "C" fn gm_open_list(state: &mut [u8], buf: &mut [u8], annotations: &[u8]) -> u8
-    ensures { λ r. ⌜ enteredAs r (now (state .exit)) (now (buf .exit)) ≡ entered (opening (sidsOf (now (annotations .entry))) (kindOf List)) (now (state .entry)) (now (buf .entry)) ⌝ }
+    ensures { λ r. ⌜ enteredAs r (now (state .exit)) (now (buf .exit))
+        ≡ entered (callOf (gmOpenList (now (annotations .entry)))) (now (state .entry)) (now (buf .entry)) ⌝ }
 {
     open(state, buf, annotations, ContainerType::List)
 }
 
 #[no_mangle]
 pub extern "C" fn gm_open_sexp(state: &mut [u8], buf: &mut [u8], annotations: &[u8]) -> u8
-    ensures { λ r. ⌜ enteredAs r (now (state .exit)) (now (buf .exit)) ≡ entered (opening (sidsOf (now (annotations .entry))) (kindOf Sexp)) (now (state .entry)) (now (buf .entry)) ⌝ }
+    ensures { λ r. ⌜ enteredAs r (now (state .exit)) (now (buf .exit))
+        ≡ entered (callOf (gmOpenSexp (now (annotations .entry)))) (now (state .entry)) (now (buf .entry)) ⌝ }
 {
     open(state, buf, annotations, ContainerType::Sexp)
 }
 
 #[no_mangle]
 pub extern "C" fn gm_open_struct(state: &mut [u8], buf: &mut [u8], annotations: &[u8]) -> u8
-    ensures { λ r. ⌜ enteredAs r (now (state .exit)) (now (buf .exit)) ≡ entered (opening (sidsOf (now (annotations .entry))) (kindOf Struct)) (now (state .entry)) (now (buf .entry)) ⌝ }
+    ensures { λ r. ⌜ enteredAs r (now (state .exit)) (now (buf .exit))
+        ≡ entered (callOf (gmOpenStruct (now (annotations .entry)))) (now (state .entry)) (now (buf .entry)) ⌝ }
 {
     open(state, buf, annotations, ContainerType::Struct)
 }
@@ -384,7 +415,8 @@ pub extern "C" fn gm_open_struct(state: &mut [u8], buf: &mut [u8], annotations: 
 // A closing: the header, and the wrapper's, in their final form.
 #[no_mangle]
 pub extern "C" fn gm_close(state: &mut [u8], buf: &mut [u8]) -> u8
-    ensures { λ r. ⌜ enteredAs r (now (state .exit)) (now (buf .exit)) ≡ entered (closing) (now (state .entry)) (now (buf .entry)) ⌝ }
+    ensures { λ r. ⌜ enteredAs r (now (state .exit)) (now (buf .exit))
+        ≡ entered (callOf gmClose) (now (state .entry)) (now (buf .entry)) ⌝ }
 {
     if !state_bytes::close_passes(state, buf.len()) {
         return entry_numbers::answered(state_bytes::close_place(state, buf.len()));
@@ -402,7 +434,8 @@ pub extern "C" fn gm_close(state: &mut [u8], buf: &mut [u8]) -> u8
 // An abandonment: the innermost container's bytes are given back, and a name before it waits again.
 #[no_mangle]
 pub extern "C" fn gm_abandon(state: &mut [u8], buf: &mut [u8]) -> u8
-    ensures { λ r. ⌜ enteredAs r (now (state .exit)) (now (buf .exit)) ≡ entered (abandonment) (now (state .entry)) (now (buf .entry)) ⌝ }
+    ensures { λ r. ⌜ enteredAs r (now (state .exit)) (now (buf .exit))
+        ≡ entered (callOf gmAbandon) (now (state .entry)) (now (buf .entry)) ⌝ }
 {
     if !state_bytes::abandon_passes(state, buf.len()) {
         return entry_numbers::answered(state_bytes::abandon_place(state, buf.len()));
@@ -453,7 +486,8 @@ pub extern "C" fn gm_start(state: &mut [u8], buf: &mut [u8]) -> u8
 // A version marker, at the place of the call.
 #[no_mangle]
 pub extern "C" fn gm_version_marker(state: &mut [u8], buf: &mut [u8]) -> u8
-    ensures { λ r. ⌜ enteredAs r (now (state .exit)) (now (buf .exit)) ≡ entered (versionMarker) (now (state .entry)) (now (buf .entry)) ⌝ }
+    ensures { λ r. ⌜ enteredAs r (now (state .exit)) (now (buf .exit))
+        ≡ entered (callOf gmVersionMarker) (now (state .entry)) (now (buf .entry)) ⌝ }
 {
     if !state_bytes::top_passes(state, buf.len()) {
         return entry_numbers::answered(state_bytes::top_place(state, buf.len()));
@@ -465,7 +499,8 @@ pub extern "C" fn gm_version_marker(state: &mut [u8], buf: &mut [u8]) -> u8
 // An emptying: the used length becomes zero, and no byte of the buffer alters.
 #[no_mangle]
 pub extern "C" fn gm_empty(state: &mut [u8], buf: &[u8]) -> u8
-    ensures { λ r. ⌜ enteredAs r (now (state .exit)) (now (buf .entry)) ≡ entered (emptying) (now (state .entry)) (now (buf .entry)) ⌝ }
+    ensures { λ r. ⌜ enteredAs r (now (state .exit)) (now (buf .entry))
+        ≡ entered (callOf gmEmpty) (now (state .entry)) (now (buf .entry)) ⌝ }
 {
     if !state_bytes::top_passes(state, buf.len()) {
         return entry_numbers::answered(state_bytes::top_place(state, buf.len()));

@@ -12,7 +12,7 @@ use lib.Dec.{ltb, leb, eqb}
 use lib.ListN.{length, take, drop, take-append-drop}
 use lib.Seq.{length-take-le}
 use lib.Ieee.{binary32, binary64}
-use Rattle.ion.specs.Value.{TypeCode, nullCode, boolCode, positiveCode, negativeCode, floatCode, decimalCode, timestampCode, symbolCode, stringCode, clobCode, blobCode, listCode, sexpCode, structCode, annotationCode, code, nullType, sequenceCode, FloatValue, finite, Scalar, null, bool, float, list, sexp, Value, Members, scalar, sequence, struct, noMembers, member, Fields, noFields, field, Item, marker, value}
+use Rattle.ion.specs.Value.{TypeCode, nullCode, boolCode, positiveCode, negativeCode, floatCode, decimalCode, timestampCode, symbolCode, stringCode, clobCode, blobCode, listCode, sexpCode, structCode, annotationCode, highBits, nullType, sequenceCode, FloatValue, finite, Scalar, null, bool, float, list, sexp, Value, Members, scalar, sequence, struct, noMembers, member, Fields, noFields, field, Item, marker, value}
 use Rattle.ion.specs.Chain.{_>>=_, check}
 use Rattle.ion.specs.Fields.{varUInt, VarUInt, uint}
 use Rattle.ion.specs.Scalars.{floatOf, scalarOf}
@@ -66,7 +66,7 @@ pub record Split (b : List ℕ) (x : Shape × List ℕ) : Type 0 where
 record Behind (c : TypeCode) (l : ℕ) (bs body r : List ℕ) : Type 0 where
   tail : List ℕ
   joins : bs ≡ tail ++ (body ++ r)
-  header : Header c (length body) ((code c * 16 + l) ∷ tail)
+  header : Header c (length body) ((highBits c * 16 + l) ∷ tail)
 
 framed-split : (c : TypeCode) (l : ℕ) (bs body r : List ℕ) → l < 15 → framed l bs ≡ some (body, r) → Behind c l bs body r
 unfolding framed lengthOf
@@ -74,7 +74,7 @@ framed-split c l bs body r lt e =
     by-cases (ltb l 14)
     (λ p.
     let q = cut-split l bs body r (rw (p, lengthOf) at e) in
-    record { tail = []; joins = q .0; header = subst (λ (k : ℕ). Header c (length body) ((code c * 16 + k) ∷ [])) (q .1) (short (subst (λ (k : ℕ). k < 14) (sym (q .1)) (ltb-true _ _ p))) })
+    record { tail = []; joins = q .0; header = subst (λ (k : ℕ). Header c (length body) ((highBits c * 16 + k) ∷ [])) (q .1) (short (subst (λ (k : ℕ). k < 14) (sym (q .1)) (ltb-true _ _ p))) })
     (λ p.
     let m = bind-some (varUInt bs) (λ n. cut (n .0) (n .1)) (body, r) (rw (p, lengthOf) at e) in
     let v = varUInt-split bs (m .0 .0) (m .0 .1) (m .1) in
@@ -83,7 +83,7 @@ framed-split c l bs body r lt e =
     record {
       tail = v .0;
       joins = v .1 ∙ ap (λ (y : List ℕ). v .0 ++ y) (q .0);
-      header = subst (λ (k : ℕ). Header c (length body) ((code c * 16 + k) ∷ v .0)) (sym d) (long (v .2 ∙ ap (λ (k : ℕ). some (k, [])) (sym (q .1))));
+      header = subst (λ (k : ℕ). Header c (length body) ((highBits c * 16 + k) ∷ v .0)) (sym d) (long (v .2 ∙ ap (λ (k : ℕ). some (k, [])) (sym (q .1))));
     })
   where
     fourteen : (k : ℕ) → k < 15 → ltb k 14 ≡ false → k ≡ 14
@@ -113,24 +113,24 @@ shapeOf-sound sexpCode h body sh hd e = subst (Shaped (h ++ body)) (Option·some
 shapeOf-sound structCode h body sh hd e = subst (Shaped (h ++ body)) (Option·some-injective (structShape false body) sh e) (h, refl, hd)
 shapeOf-sound annotationCode h body sh hd e = subst (Shaped (h ++ body)) (Option·some-injective (wrapperShape body) sh e) (h, refl, hd)
 
-plain-sound : (c : TypeCode) (l : ℕ) (bs : List ℕ) (x : Shape × List ℕ) → l < 15 → plain c l bs ≡ some x → Split ((code c * 16 + l) ∷ bs) x
+plain-sound : (c : TypeCode) (l : ℕ) (bs : List ℕ) (x : Shape × List ℕ) → l < 15 → plain c l bs ≡ some x → Split ((highBits c * 16 + l) ∷ bs) x
 unfolding plain
 plain-sound c l bs x lt e =
     let m = bind-some (framed l bs) (λ y. shapeOf c (y .0) >>= λ sh. some (sh, y .1)) x e in
     let n = bind-some (shapeOf c (m .0 .0)) (λ sh. some (sh, m .0 .1)) x (m .2) in
     let b = framed-split c l bs (m .0 .0) (m .0 .1) lt (m .1) in
-    subst (Split ((code c * 16 + l) ∷ bs)) (Option·some-injective _ x (n .2))
+    subst (Split ((highBits c * 16 + l) ∷ bs)) (Option·some-injective _ x (n .2))
     (record {
-      front = ((code c * 16 + l) ∷ b .tail) ++ m .0 .0;
-      joins = ap (λ (y : List ℕ). (code c * 16 + l) ∷ y) (b .joins ∙ sym (append-assoc (b .tail) (m .0 .0) (m .0 .1)));
-      shaped = shapeOf-sound c ((code c * 16 + l) ∷ b .tail) (m .0 .0) (n .0) (b .header) (n .1);
+      front = ((highBits c * 16 + l) ∷ b .tail) ++ m .0 .0;
+      joins = ap (λ (y : List ℕ). (highBits c * 16 + l) ∷ y) (b .joins ∙ sym (append-assoc (b .tail) (m .0 .0) (m .0 .1)));
+      shaped = shapeOf-sound c ((highBits c * 16 + l) ∷ b .tail) (m .0 .0) (n .0) (b .header) (n .1);
     })
 
 -- a fixed first byte with nothing behind it
 alone : (b : ℕ) (s : Scalar) (bs : List ℕ) (x : Shape × List ℕ) → ((an : List ℕ) → (b ∷ []) ⟶ bare an (scalar an s)) → _≡_ {A = Option (Shape × List ℕ)} (some (scalarShape s, bs)) (some x) → Split (b ∷ bs) x
 alone b s bs x r e = subst (Split (b ∷ bs)) (Option·some-injective (scalarShape s, bs) x e) (record { front = b ∷ []; joins = refl; shaped = r })
 
-bool-sound : (l : ℕ) (bs : List ℕ) (x : Shape × List ℕ) → boolAt l bs ≡ some x → Split ((code boolCode * 16 + l) ∷ bs) x
+bool-sound : (l : ℕ) (bs : List ℕ) (x : Shape × List ℕ) → boolAt l bs ≡ some x → Split ((highBits boolCode * 16 + l) ∷ bs) x
 unfolding boolAt
 bool-sound l bs x e =
     by-cases (eqb l 0)
@@ -147,7 +147,7 @@ bits-sound b f n bs x r e =
     subst (Split (b ∷ bs)) (Option·some-injective _ x (m .2))
     (record { front = b ∷ m .0 .0; joins = ap (λ (y : List ℕ). b ∷ y) (q .0); shaped = λ an. r (m .0 .0) an (q .1) })
 
-float-sound : (l : ℕ) (bs : List ℕ) (x : Shape × List ℕ) → floatAt l bs ≡ some x → Split ((code floatCode * 16 + l) ∷ bs) x
+float-sound : (l : ℕ) (bs : List ℕ) (x : Shape × List ℕ) → floatAt l bs ≡ some x → Split ((highBits floatCode * 16 + l) ∷ bs) x
 unfolding floatAt
 float-sound l bs x e =
     by-cases (eqb l 0)
@@ -173,14 +173,14 @@ sorted-sound bs x e =
       shaped = (v .0, refl, v .2 ∙ ap (λ (n : ℕ). some (n, [])) (sym (q .1)), subst (λ (n : ℕ). 0 < n) (sym (q .1)) (ltb-true _ _ (c .0)));
     })
 
-struct-sound : (l : ℕ) (bs : List ℕ) (x : Shape × List ℕ) → l < 15 → bodyAt structCode l bs ≡ some x → Split ((code structCode * 16 + l) ∷ bs) x
+struct-sound : (l : ℕ) (bs : List ℕ) (x : Shape × List ℕ) → l < 15 → bodyAt structCode l bs ≡ some x → Split ((highBits structCode * 16 + l) ∷ bs) x
 unfolding bodyAt
 struct-sound l bs x lt e =
     by-cases (eqb l 1)
     (λ p. rw (eqb-true l 1 p) (sorted-sound bs x (rw (p, bodyAt) at e)))
     (λ p. plain-sound structCode l bs x lt (rw (p, bodyAt) at e))
 
-body-sound : (c : TypeCode) (l : ℕ) (bs : List ℕ) (x : Shape × List ℕ) → l < 15 → bodyAt c l bs ≡ some x → Split ((code c * 16 + l) ∷ bs) x
+body-sound : (c : TypeCode) (l : ℕ) (bs : List ℕ) (x : Shape × List ℕ) → l < 15 → bodyAt c l bs ≡ some x → Split ((highBits c * 16 + l) ∷ bs) x
 body-sound nullCode l bs x lt e = plain-sound nullCode l bs x lt (unfold bodyAt in e)
 body-sound boolCode l bs x lt e = bool-sound l bs x (unfold bodyAt in e)
 body-sound positiveCode l bs x lt e = plain-sound positiveCode l bs x lt (unfold bodyAt in e)
@@ -197,13 +197,13 @@ body-sound sexpCode l bs x lt e = plain-sound sexpCode l bs x lt (unfold bodyAt 
 body-sound structCode l bs x lt e = struct-sound l bs x lt e
 body-sound annotationCode l bs x lt e = plain-sound annotationCode l bs x lt (unfold bodyAt in e)
 
-at-sound : (c : TypeCode) (l : ℕ) (bs : List ℕ) (x : Shape × List ℕ) → l < 16 → shapeAt c l bs ≡ some x → Split ((code c * 16 + l) ∷ bs) x
+at-sound : (c : TypeCode) (l : ℕ) (bs : List ℕ) (x : Shape × List ℕ) → l < 16 → shapeAt c l bs ≡ some x → Split ((highBits c * 16 + l) ∷ bs) x
 unfolding shapeAt
 at-sound c l bs x lt e =
     by-cases (eqb l 15)
     (λ p.
     let m = bind-some (nullType c) (λ t. some (scalarShape (null t), bs)) x (rw (p, shapeAt) at e) in
-    rw (eqb-true l 15 p) (alone (code c * 16 + 15) (null (m .0)) bs x (λ an. is-null c (m .1)) (m .2)))
+    rw (eqb-true l 15 p) (alone (highBits c * 16 + 15) (null (m .0)) bs x (λ an. is-null c (m .1)) (m .2)))
     (λ p. body-sound c l bs x (less l lt p) (rw (p, shapeAt) at e))
   where
     less : (k : ℕ) → k < 16 → eqb k 15 ≡ false → k < 15
@@ -214,7 +214,7 @@ unfolding shape
 shape-sound [] x e = absurd (Option·none-ne-some x e)
 shape-sound (b ∷ bs) x e =
     let m = bind-some (codeOf (b / 16)) (λ c. shapeAt c (b % 16) bs) x e in
-    let q : code (m .0) * 16 + b % 16 ≡ b = ap (λ (k : ℕ). k * 16 + b % 16) (find-code (b / 16) allCodes (m .0) (m .1)) ∙ div-add-mod' b 16 in
+    let q : highBits (m .0) * 16 + b % 16 ≡ b = ap (λ (k : ℕ). k * 16 + b % 16) (find-code (b / 16) allCodes (m .0) (m .1)) ∙ div-add-mod' b 16 in
     subst (λ (k : ℕ). Split (k ∷ bs) x) q (at-sound (m .0) (b % 16) bs x (omega arith) (m .2))
 
 -- ---- values

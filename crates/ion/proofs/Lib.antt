@@ -1,7 +1,12 @@
 pub mod Tests
+pub mod Maps
 pub mod Fields
 pub mod Reader
 pub mod Unique
 pub mod Exact
 pub mod Floats
+pub mod Readings
+pub mod FieldExamples
+pub mod TextExamples
+pub mod ScalarExamples
 pub mod Examples

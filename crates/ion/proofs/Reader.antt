@@ -12,7 +12,7 @@ use Rattle.ion.proofs.Tests.{by-cases}
 use lib.ListN.{length, take, drop, length-append}
 use lib.Seq.{take-append-seam, drop-append-seam}
 use lib.Arith.{digits-div, digits-mod}
-use Rattle.ion.specs.Value.{TypeCode, nullCode, boolCode, positiveCode, negativeCode, floatCode, decimalCode, timestampCode, symbolCode, stringCode, clobCode, blobCode, listCode, sexpCode, structCode, annotationCode, code, nullType, FloatValue, finite, Scalar, null, bool, float, SequenceType, list, sexp, Value, scalar, sequence, struct, Members, noMembers, member, Fields, noFields, field, Item, marker, value}
+use Rattle.ion.specs.Value.{TypeCode, nullCode, boolCode, positiveCode, negativeCode, floatCode, decimalCode, timestampCode, symbolCode, stringCode, clobCode, blobCode, listCode, sexpCode, structCode, annotationCode, highBits, nullType, FloatValue, finite, Scalar, null, bool, float, SequenceType, list, sexp, Value, scalar, sequence, struct, Members, noMembers, member, Fields, noFields, field, Item, marker, value}
 use lib.Ieee.{binary32, binary64}
 use Rattle.ion.specs.Chain.{_>>=_, check}
 use Rattle.ion.specs.Fields.{varUInt, uint}
@@ -37,36 +37,36 @@ allCodes =
 
 unfoldable pub findCode : ℕ → List TypeCode → Option TypeCode
 findCode n [] = none
-findCode n (c ∷ cs) = elim (eqb (code c) n) [ true ↦ some c | false ↦ findCode n cs ]
+findCode n (c ∷ cs) = elim (eqb (highBits c) n) [ true ↦ some c | false ↦ findCode n cs ]
 
 abbrev pub codeOf : ℕ → Option TypeCode
 codeOf n = findCode n allCodes
 
-pub find-code : (n : ℕ) (cs : List TypeCode) (c : TypeCode) → findCode n cs ≡ some c → code c ≡ n
+pub find-code : (n : ℕ) (cs : List TypeCode) (c : TypeCode) → findCode n cs ≡ some c → highBits c ≡ n
 unfolding findCode
 find-code n [] c e = absurd (Option·none-ne-some c e)
 find-code n (d ∷ cs) c e =
-    by-cases (eqb (code d) n)
-    (λ p. ap code (sym (Option·some-injective d c (rw (p, findCode) at e))) ∙ eqb-true (code d) n p)
+    by-cases (eqb (highBits d) n)
+    (λ p. ap highBits (sym (Option·some-injective d c (rw (p, findCode) at e))) ∙ eqb-true (highBits d) n p)
     (λ p. find-code n cs c (rw (p, findCode) at e))
 
-pub codeOf-code : (c : TypeCode) → codeOf (code c) ≡ some c
+pub codeOf-highBits : (c : TypeCode) → codeOf (highBits c) ≡ some c
 unfolding findCode
-codeOf-code nullCode = refl
-codeOf-code boolCode = refl
-codeOf-code positiveCode = refl
-codeOf-code negativeCode = refl
-codeOf-code floatCode = refl
-codeOf-code decimalCode = refl
-codeOf-code timestampCode = refl
-codeOf-code symbolCode = refl
-codeOf-code stringCode = refl
-codeOf-code clobCode = refl
-codeOf-code blobCode = refl
-codeOf-code listCode = refl
-codeOf-code sexpCode = refl
-codeOf-code structCode = refl
-codeOf-code annotationCode = refl
+codeOf-highBits nullCode = refl
+codeOf-highBits boolCode = refl
+codeOf-highBits positiveCode = refl
+codeOf-highBits negativeCode = refl
+codeOf-highBits floatCode = refl
+codeOf-highBits decimalCode = refl
+codeOf-highBits timestampCode = refl
+codeOf-highBits symbolCode = refl
+codeOf-highBits stringCode = refl
+codeOf-highBits clobCode = refl
+codeOf-highBits blobCode = refl
+codeOf-highBits listCode = refl
+codeOf-highBits sexpCode = refl
+codeOf-highBits structCode = refl
+codeOf-highBits annotationCode = refl
 
 -- the body of n bytes, and the bytes after it
 unfoldable pub cut : ℕ → List ℕ → Option (List ℕ × List ℕ)
@@ -151,22 +151,22 @@ pub cut-seam : (body r : List ℕ) → cut (length body) (body ++ r) ≡ some (b
 unfolding cut
 cut-seam body r = rw (le-leb (length body) (length (body ++ r)) (simp length-append (omega arith)), cut, take-append-seam, drop-append-seam)
 
-td-code : (c : TypeCode) (l : ℕ) → l < 16 → (code c * 16 + l) / 16 ≡ code c
-td-code c l h = digits-div (code c) h
+td-high : (c : TypeCode) (l : ℕ) → l < 16 → (highBits c * 16 + l) / 16 ≡ highBits c
+td-high c l h = digits-div (highBits c) h
 
-td-low : (c : TypeCode) (l : ℕ) → l < 16 → (code c * 16 + l) % 16 ≡ l
-td-low c l h = digits-mod (code c) h
+td-low : (c : TypeCode) (l : ℕ) → l < 16 → (highBits c * 16 + l) % 16 ≡ l
+td-low c l h = digits-mod (highBits c) h
 
-pub shape-td : (c : TypeCode) (l : ℕ) (bs : List ℕ) → l < 16 → shape ((code c * 16 + l) ∷ bs) ≡ shapeAt c l bs
+pub shape-td : (c : TypeCode) (l : ℕ) (bs : List ℕ) → l < 16 → shape ((highBits c * 16 + l) ∷ bs) ≡ shapeAt c l bs
 unfolding shape
-shape-td c l bs h = rw (td-code c l h, td-low c l h, codeOf-code)
+shape-td c l bs h = rw (td-high c l h, td-low c l h, codeOf-highBits)
 
 -- what a header is, as the function sees it
 pub record Opened (c : TypeCode) (body h : List ℕ) : Type 0 where
   pub low : ℕ
   pub tail : List ℕ
   pub small : low < 15
-  pub is : h ≡ (code c * 16 + low) ∷ tail
+  pub is : h ≡ (highBits c * 16 + low) ∷ tail
   pub frames : (r : List ℕ) → framed low (tail ++ (body ++ r)) ≡ some (body, r)
 
 unfoldable pub opened : {c : TypeCode} {h : List ℕ} (body : List ℕ) → Header c (length body) h → Opened c body h

@@ -9,7 +9,7 @@ use mathlib.Core.List.{List, [], _∷_, _++_, append-assoc, append-nil}
 use mathlib.Core.Option.{Option, none, some, Option·some-injective, Option·none-ne-some}
 use lib.Dec.{ltb}
 use lib.ListN.{length, length-append}
-use Rattle.ion.specs.Value.{IonType, TypeCode, nullCode, boolCode, positiveCode, negativeCode, floatCode, decimalCode, timestampCode, symbolCode, stringCode, clobCode, blobCode, listCode, sexpCode, structCode, annotationCode, code, nullType, sequenceCode, FloatValue, finite, Scalar, null, bool, float, SequenceType, list, sexp, Value, scalar, sequence, struct, Members, noMembers, member, Fields, noFields, field, Item, marker, value}
+use Rattle.ion.specs.Value.{IonType, TypeCode, nullCode, boolCode, positiveCode, negativeCode, floatCode, decimalCode, timestampCode, symbolCode, stringCode, clobCode, blobCode, listCode, sexpCode, structCode, annotationCode, highBits, nullType, sequenceCode, FloatValue, finite, Scalar, null, bool, float, SequenceType, list, sexp, Value, scalar, sequence, struct, Members, noMembers, member, Fields, noFields, field, Item, marker, value}
 use lib.Ieee.{binary32, binary64}
 use Rattle.ion.specs.Fields.{groups, varUInt, VarUInt, uint}
 use Rattle.ion.specs.Scalars.{floatOf, scalarOf}
@@ -205,13 +205,13 @@ complete-sorted an l body fs e pos up ih =
     complete-bare an (0xD1 ∷ (l ++ body)) (struct an fs) (structShape true body) (omega arith) (λ r. shape-sorted l body r e pos) refl
     (λ f le. rw (ih f (omega (arith, length-append l body, varUInt-pos l e)), up))
 
-complete-null : (an : List ℕ) (t : IonType) (c : TypeCode) → nullType c ≡ some t → Result ((code c * 16 + 15) ∷ []) (bare an (scalar an (null t)))
+complete-null : (an : List ℕ) (t : IonType) (c : TypeCode) → nullType c ≡ some t → Result ((highBits c * 16 + 15) ∷ []) (bare an (scalar an (null t)))
 unfolding bareOf ordinary shapeAt
-complete-null an t c e = complete-bare an ((code c * 16 + 15) ∷ []) (scalar an (null t)) (scalarShape (null t)) (omega arith) (λ r. rw (shape-td c 15 r (omega arith), shapeAt, e)) refl (λ f le. refl)
+complete-null an t c e = complete-bare an ((highBits c * 16 + 15) ∷ []) (scalar an (null t)) (scalarShape (null t)) (omega arith) (λ r. rw (shape-td c 15 r (omega arith), shapeAt, e)) refl (λ f le. refl)
 
-complete-float : (an b : List ℕ) (l : ℕ) (x : FloatValue) → l < 15 → ((r : List ℕ) → floatAt l (b ++ r) ≡ some (scalarShape (float x), r)) → Result ((code floatCode * 16 + l) ∷ b) (bare an (scalar an (float x)))
+complete-float : (an b : List ℕ) (l : ℕ) (x : FloatValue) → l < 15 → ((r : List ℕ) → floatAt l (b ++ r) ≡ some (scalarShape (float x), r)) → Result ((highBits floatCode * 16 + l) ∷ b) (bare an (scalar an (float x)))
 unfolding bareOf ordinary bodyAt
-complete-float an b l x lt e = complete-bare an ((code floatCode * 16 + l) ∷ b) (scalar an (float x)) (scalarShape (float x)) (omega arith) (λ r. rw (shape-td floatCode l (b ++ r) (omega arith), shapeAt-body floatCode l (b ++ r) lt, e r)) refl (λ f le. refl)
+complete-float an b l x lt e = complete-bare an ((highBits floatCode * 16 + l) ∷ b) (scalar an (float x)) (scalarShape (float x)) (omega arith) (λ r. rw (shape-td floatCode l (b ++ r) (omega arith), shapeAt-body floatCode l (b ++ r) lt, e r)) refl (λ f le. refl)
 
 bits-seam : (f : List ℕ → FloatValue) (n : ℕ) (b r : List ℕ) → length b ≡ n → bitsAt f n (b ++ r) ≡ some (scalarShape (float (f b)), r)
 unfolding bitsAt
@@ -229,9 +229,9 @@ complete-float64 : (an b : List ℕ) → length b ≡ 8 → Result (0x48 ∷ b) 
 unfolding floatAt
 complete-float64 an b e = complete-float an b 8 (floatOf binary64 (uint b)) (omega arith) (λ r. bits-seam (λ c. floatOf binary64 (uint c)) 8 b r e)
 
-complete-bool : (an : List ℕ) (l : ℕ) (x : Bool) → l < 15 → ((r : List ℕ) → boolAt l r ≡ some (scalarShape (bool x), r)) → Result ((code boolCode * 16 + l) ∷ []) (bare an (scalar an (bool x)))
+complete-bool : (an : List ℕ) (l : ℕ) (x : Bool) → l < 15 → ((r : List ℕ) → boolAt l r ≡ some (scalarShape (bool x), r)) → Result ((highBits boolCode * 16 + l) ∷ []) (bare an (scalar an (bool x)))
 unfolding bareOf ordinary bodyAt
-complete-bool an l x lt e = complete-bare an ((code boolCode * 16 + l) ∷ []) (scalar an (bool x)) (scalarShape (bool x)) (omega arith) (λ r. rw (shape-td boolCode l r (omega arith), shapeAt-body boolCode l r lt, e)) refl (λ f le. refl)
+complete-bool an l x lt e = complete-bare an ((highBits boolCode * 16 + l) ∷ []) (scalar an (bool x)) (scalarShape (bool x)) (omega arith) (λ r. rw (shape-td boolCode l r (omega arith), shapeAt-body boolCode l r lt, e)) refl (λ f le. refl)
 
 value-bare : (f : ℕ) (sh : Shape) → ordinary sh ≡ true → valueOf (λ c. readMembers f c) (λ c. readFields f c) sh ≡ bareOf (λ c. readMembers f c) (λ c. readFields f c) [] sh
 unfolding valueOf ordinary

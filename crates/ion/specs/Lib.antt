@@ -5,3 +5,4 @@ pub mod Text
 pub mod Calendar
 pub mod Scalars
 pub mod Grammar
+pub mod Ieee

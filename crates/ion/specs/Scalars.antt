@@ -7,7 +7,10 @@ use mathlib.Core.Option.{Option, none, some}
 use lib.Dec.{ltb, leb, eqb}
 use lib.IntN.{ℤ, pos, negsuc}
 use lib.Ieee.{Float, nan, inf, fin, Format, ofBits, up, down}
-use Rattle.ion.specs.Value.{TypeCode, nullCode, boolCode, positiveCode, negativeCode, floatCode, decimalCode, timestampCode, symbolCode, stringCode, clobCode, blobCode, listCode, sexpCode, structCode, annotationCode, FloatValue, notANumber, infinite, finite, Signed, signed, Fraction, noFraction, fraction, Scalar, int, decimal, timestamp, symbol, string, clob, blob}
+use Rattle.ion.specs.Value.{TypeCode, nullCode, boolCode, positiveCode, negativeCode, floatCode, decimalCode, timestampCode, symbolCode}
+use Rattle.ion.specs.Value.{stringCode, clobCode, blobCode, listCode, sexpCode, structCode, annotationCode}
+use Rattle.ion.specs.Value.{FloatValue, notANumber, infinite, finite, Signed, signed, Fraction, noFraction, fraction}
+use Rattle.ion.specs.Value.{Scalar, int, decimal, timestamp, symbol, string, clob, blob}
 use Rattle.ion.specs.Chain.{_>>=_, check}
 use Rattle.ion.specs.Fields.{uint, intField, varUInts, varInt, number}
 use Rattle.ion.specs.Text.{utf8}

@@ -3,7 +3,7 @@
 -- Assumes nothing.
 use Prim.Native.Nat.{ℕ}
 use mathlib.Core.Bool.{Bool}
-use mathlib.Core.List.{List, [], _∷_}
+use mathlib.Core.List.{List}
 use mathlib.Core.Option.{Option, none, some}
 use lib.IntN.{ℤ}
 
@@ -13,24 +13,26 @@ pub data IonType : Type 0 where
 
 -- The type codes of a type descriptor ("Typed Value Formats"): ints have one for each sign. Code 15 is reserved.
 pub data TypeCode : Type 0 where
-  nullCode boolCode positiveCode negativeCode floatCode decimalCode timestampCode symbolCode stringCode clobCode blobCode listCode sexpCode structCode annotationCode : TypeCode
+  nullCode boolCode positiveCode negativeCode floatCode decimalCode timestampCode symbolCode : TypeCode
+  stringCode clobCode blobCode listCode sexpCode structCode annotationCode : TypeCode
 
-abbrev pub code : TypeCode → ℕ
-code nullCode = 0
-code boolCode = 1
-code positiveCode = 2
-code negativeCode = 3
-code floatCode = 4
-code decimalCode = 5
-code timestampCode = 6
-code symbolCode = 7
-code stringCode = 8
-code clobCode = 9
-code blobCode = 10
-code listCode = 11
-code sexpCode = 12
-code structCode = 13
-code annotationCode = 14
+-- The number that the high four bits of a type descriptor hold.
+abbrev pub highBits : TypeCode → ℕ
+highBits nullCode = 0
+highBits boolCode = 1
+highBits positiveCode = 2
+highBits negativeCode = 3
+highBits floatCode = 4
+highBits decimalCode = 5
+highBits timestampCode = 6
+highBits symbolCode = 7
+highBits stringCode = 8
+highBits clobCode = 9
+highBits blobCode = 10
+highBits listCode = 11
+highBits sexpCode = 12
+highBits structCode = 13
+highBits annotationCode = 14
 
 -- The type of a null with this code: both int codes have a null.int, an annotation has none.
 abbrev pub nullType : TypeCode → Option IonType
@@ -108,24 +110,3 @@ pub data Item (S : Type 0) : Type 0 where
 
 abbrev pub Value : Type 0
 Value = Tree Scalar
-
--- ---- the same tree over other leaves
-
-unfoldable mutual
-  pub mapTree : {S T : Type 0} → (S → T) → Tree S → Tree T
-  mapTree f (scalar an s) = scalar an (f s)
-  mapTree f (sequence an k vs) = sequence an k (mapMembers f vs)
-  mapTree f (struct an fs) = struct an (mapFields f fs)
-
-  pub mapMembers : {S T : Type 0} → (S → T) → Members S → Members T
-  mapMembers f noMembers = noMembers
-  mapMembers f (member v vs) = member (mapTree f v) (mapMembers f vs)
-
-  pub mapFields : {S T : Type 0} → (S → T) → Fields S → Fields T
-  mapFields f noFields = noFields
-  mapFields f (field k v fs) = field k (mapTree f v) (mapFields f fs)
-
-unfoldable pub mapItems : {S T : Type 0} → (S → T) → List (Item S) → List (Item T)
-mapItems f [] = []
-mapItems f (marker ∷ is) = marker ∷ mapItems f is
-mapItems f (value t ∷ is) = value (mapTree f t) ∷ mapItems f is

@@ -2,7 +2,7 @@
 -- Assumes nothing.
 use Prim.Native.Nat.{ℕ, _≤_}
 use native.Mathlib.Omega.{arith}
-use mathlib.Core.Path.{_≡_, refl}
+use mathlib.Core.Path.{_≡_, refl, _∙_, ap}
 use mathlib.Core.Bool.{Bool, true, false, _&&_}
 use mathlib.Core.List.{List, [], _∷_, _++_, append-assoc, append-nil}
 use lib.Dec.{ltb}
@@ -12,16 +12,17 @@ use Rattle.ion.specs.Grammar.{Reads}
 use Rattle.ion.proofs.Unique.{reads-unique}
 use Rattle.encoding.specs.Headers.{markerBytes}
 use Rattle.encoding.specs.Argument.{Argument}
-use Rattle.encoding.specs.Stream.{streamBytes, WritableItems}
+use Rattle.encoding.specs.Stream.{streamBytes}
+use Rattle.encoding.proofs.Writable.{WritableItems}
 use Rattle.encoding.proofs.Stream.{streamBytes-reads}
 use Rattle.machine.specs.Call.{Call, TypedCall, AllTyped}
 use Rattle.machine.specs.Machine.{Config, openContainers, isOpen, effect, longestBuffer, checks, Verdict, accepted, refused, verdict, isAccepted, ifAccepted, after, startVerdict, started, splice, taken}
-use Rattle.machine.specs.Model.{Model, modelStep, startedModel}
-use Rattle.machine.specs.Demands.{afterAll, isEmptying, partOf, flushed, joined, modelAfter, spelled, written, Demand2, Demand3}
-use Rattle.machine.proofs.Invariant.{WritableOf}
+use Rattle.machine.specs.Model.{Open, Model, modelStep, startedModel}
+use Rattle.machine.specs.Demands.{isEmptying, partOf, flushed, joined, modelAfter, spelled, written, Demand2, Demand3}
+use Rattle.machine.proofs.Invariant.{containersOf, WritableOf}
 use Rattle.machine.proofs.Splice.{take-splice, length-splice}
 use Rattle.machine.proofs.Steps.{none-failing, Invariant, taken-whole, accepted-keeps, accepted-writable}
-use Rattle.machine.proofs.Meaning.{spelled-is}
+use Rattle.machine.proofs.Meaning.{spelled-is, stack-is}
 
 abbrev stepArguments : Call → Config → Model Argument → Model Argument
 stepArguments c w x = modelStep (λ a. a) c (isAccepted (verdict c w)) x
@@ -52,13 +53,17 @@ call-writable done w x c inv t o = by-verdict (verdict c w) refl
 
 -- ---- a list of calls
 
-none-left : (w : Config) → w .state .depth ≡ 0 → isOpen (openContainers (w .state)) ≡ false
-none-left w e = rw e
+-- with no container open by the model none is open by the state
+none-left : (done : List ℕ) (w : Config) (x : Model Argument) → Invariant done w x → x .stack ≡ [] → isOpen (openContainers (w .state)) ≡ false
+none-left done w x inv e = ap isOpen (inv .layout .placed) ∙ ap (λ (st : List (Open Argument)). isOpen (containersOf (inv .layout .base) st)) e
 
-joined-is : (cs : List Call) (done : List ℕ) (w : Config) (x : Model Argument) → Invariant done w x → afterAll cs w .state .depth ≡ 0 → done ++ joined cs w ≡ streamBytes ((modelAfter (λ a. a) cs w x) .items)
-unfolding joined modelAfter afterAll
-joined-is [] done w x inv e = taken-whole done w x inv (none-left w e)
-joined-is (c ∷ cs) done w x inv e = rw (← (append-assoc done (flushed c w) (joined cs (after c w)))) (joined-is cs (done ++ flushed c w) (after c w) (stepArguments c w x) (call-keeps done w x c inv) e)
+joined-is : (cs : List Call) (done : List ℕ) (w : Config) (x : Model Argument) → Invariant done w x → modelAfter (λ a. a) cs w x .stack ≡ []
+    → done ++ joined cs w ≡ streamBytes (modelAfter (λ a. a) cs w x .items)
+unfolding joined modelAfter
+joined-is [] done w x inv e = taken-whole done w x inv (none-left done w x inv e)
+joined-is (c ∷ cs) done w x inv e =
+    rw (← (append-assoc done (flushed c w) (joined cs (after c w))))
+    (joined-is cs (done ++ flushed c w) (after c w) (stepArguments c w x) (call-keeps done w x c inv) e)
 
 all-writable : (cs : List Call) (done : List ℕ) (w : Config) (x : Model Argument) → Invariant done w x → AllTyped cs → WritableOf x → WritableItems ((modelAfter (λ a. a) cs w x) .items)
 unfolding modelAfter
@@ -92,7 +97,7 @@ start-keeps b e =
 -- ---- the demands
 
 pub demand2 : Demand2
-demand2 cs b r = joined-is cs [] (started b) startedModel (start-keeps b (r .starts)) (r .ends)
+demand2 cs b r = joined-is cs [] (started b) startedModel (start-keeps b (r .starts)) (stack-is cs b (r .ends))
 
 pub demand3 : Demand3
 demand3 cs b r t =

@@ -22,7 +22,7 @@ use Rattle.machine.specs.Machine.{Config, closedBytes, splice, container
 use Rattle.machine.specs.Demands.{joined}
 
 -- the answers to a list of calls
-verdicts : List Call → Config → List Verdict
+unfoldable pub verdicts : List Call → Config → List Verdict
 verdicts [] w = []
 verdicts (c ∷ cs) w = verdict c w ∷ verdicts cs (after c w)
 

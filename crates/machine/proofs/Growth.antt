@@ -6,7 +6,8 @@ use mathlib.Core.List.{List, [], _∷_, _++_, append-assoc, append-nil}
 use Rattle.ion.specs.Value.{Tree, Members, noMembers, member, Fields, noFields, field, Item}
 use Rattle.encoding.specs.Fields.{varUIntBytes}
 use Rattle.encoding.specs.Argument.{Argument}
-use Rattle.encoding.specs.Stream.{treeBytes, membersBytes, fieldsBytes, itemBytes, streamBytes, Writable, WritableMembers, WritableFields, WritableItem, WritableItems}
+use Rattle.encoding.specs.Stream.{treeBytes, membersBytes, fieldsBytes, itemBytes, streamBytes}
+use Rattle.encoding.proofs.Writable.{Writable, WritableMembers, WritableFields, WritableItem, WritableItems}
 use Rattle.machine.specs.Model.{addMember, addField}
 
 pub membersBytes-add : (vs : Members Argument) (t : Tree Argument) → membersBytes (addMember vs t) ≡ membersBytes vs ++ treeBytes t

@@ -13,7 +13,8 @@ use Rattle.ion.specs.Value.{list, sexp, Tree, Item, marker, value}
 use Rattle.encoding.specs.Fields.{varUIntBytes, AllU64}
 use Rattle.encoding.specs.Headers.{framedBytes, annotationBytes, annotatedBytes, markerBytes}
 use Rattle.encoding.specs.Argument.{Argument}
-use Rattle.encoding.specs.Stream.{treeBytes, membersBytes, fieldsBytes, streamBytes, Writable, WritableMembers, WritableFields, WritableItems}
+use Rattle.encoding.specs.Stream.{treeBytes, membersBytes, fieldsBytes, streamBytes}
+use Rattle.encoding.proofs.Writable.{Writable, WritableMembers, WritableFields, WritableItems}
 use Rattle.machine.specs.declared.Container.{Container}
 use Rattle.machine.specs.Call.{ContainerType, sequenceType, structType}
 use Rattle.machine.specs.Machine.{isOpen, inStruct, outer, containerCode, reserve, headerPlace, closedBytes, closedInnermost, innermostStart}

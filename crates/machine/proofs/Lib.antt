@@ -5,3 +5,4 @@ pub mod Steps
 pub mod Meaning
 pub mod Demands
 pub mod Examples
+pub mod Instances

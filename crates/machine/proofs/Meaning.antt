@@ -1,16 +1,17 @@
 -- The model over values is the model over arguments, each argument replaced by the value that it names.
 -- Assumes nothing.
 use Prim.Native.Nat.{ℕ}
-use mathlib.Core.Path.{_≡_, refl, ap}
+use mathlib.Core.Path.{_≡_, refl, sym, _∙_, ap}
 use mathlib.Core.Bool.{Bool, true, false}
-use mathlib.Core.List.{List, [], _∷_, _++_}
+use mathlib.Core.List.{List, [], _∷_, _++_, cons≢nil}
 use mathlib.Core.Option.{Option, none, some}
-use Rattle.ion.specs.Value.{Tree, scalar, Members, noMembers, member, Fields, noFields, field, Item, marker, value, mapTree, mapMembers, mapFields, mapItems}
+use Rattle.ion.specs.Value.{Tree, scalar, Members, noMembers, member, Fields, noFields, field, Item, marker, value}
+use Rattle.ion.proofs.Maps.{mapTree, mapMembers, mapFields, mapItems}
 use Rattle.encoding.specs.Argument.{Argument, meaning}
 use Rattle.machine.specs.Call.{sequenceType, structType, Call, write, name, opening, closing, abandonment, versionMarker, taking, emptying}
 use Rattle.machine.specs.Machine.{Config, verdict, isAccepted, after, started}
 use Rattle.machine.specs.Model.{Open, openSequence, openStruct, Model, closed, addMember, addField, add, close, abandon, spell, modelStep, startedModel}
-use Rattle.machine.specs.Demands.{modelAfter, spelled, written}
+use Rattle.machine.specs.Demands.{modelAfter, spelling, spelled, written}
 
 module _ {S T : Type 0} (f : S → T) where
   abbrev mapOpen : Open S → Open T
@@ -20,6 +21,10 @@ module _ {S T : Type 0} (f : S → T) where
   abbrev mapStack : List (Open S) → List (Open T)
   mapStack [] = []
   mapStack (o ∷ st) = mapOpen o ∷ mapStack st
+
+  none-mapped : (st : List (Open S)) → mapStack st ≡ [] → st ≡ []
+  none-mapped [] e = refl
+  none-mapped (o ∷ st) e = absurd (cons≢nil e)
 
   abbrev mapModel : Model S → Model T
   mapModel x = record { items = mapItems f (x .items); stack = mapStack (x .stack); waiting = x .waiting }
@@ -84,7 +89,15 @@ module _ {S T : Type 0} (f : S → T) (g : Argument → S) where
   map-after [] w x = refl
   map-after (c ∷ cs) w x = rw (map-step c (isAccepted (verdict c w)) x) (map-after cs (after c w) (modelStep g c (isAccepted (verdict c w)) x))
 
--- what a list spells is the meaning of what it has written
-pub spelled-is : (cs : List Call) (b : List ℕ) → spelled cs b ≡ mapItems meaning (written cs b)
-unfolding mapItems
-spelled-is cs b = ap (λ x. x .items) (map-after meaning (λ a. a) cs (started b) startedModel)
+module _ (cs : List Call) (b : List ℕ) where
+  spelling-is : spelling cs b ≡ mapModel meaning (modelAfter (λ a. a) cs (started b) startedModel)
+  unfolding mapItems
+  spelling-is = map-after meaning (λ a. a) cs (started b) startedModel
+
+  -- what a list spells is the meaning of what it has written
+  pub spelled-is : spelled cs b ≡ mapItems meaning (written cs b)
+  spelled-is = ap (λ x. x .items) spelling-is
+
+  -- and the same containers are open
+  pub stack-is : spelling cs b .stack ≡ [] → modelAfter (λ a. a) cs (started b) startedModel .stack ≡ []
+  stack-is e = none-mapped meaning (modelAfter (λ a. a) cs (started b) startedModel .stack) (sym (ap (λ x. x .stack) spelling-is) ∙ e)

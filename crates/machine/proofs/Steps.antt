@@ -13,8 +13,9 @@ use Rattle.ion.specs.Value.{scalar, marker}
 use Rattle.ion.proofs.Tests.{by-cases}
 use Rattle.encoding.specs.Fields.{varUIntBytes}
 use Rattle.encoding.specs.Headers.{annotatedBytes, markerBytes}
-use Rattle.encoding.specs.Argument.{Argument, argumentBytes, argumentChecks, NoneHolds}
-use Rattle.encoding.specs.Stream.{treeBytes, streamBytes, Writable}
+use Rattle.encoding.specs.Argument.{Argument, argumentBytes, argumentChecks}
+use Rattle.encoding.specs.Stream.{treeBytes, streamBytes}
+use Rattle.encoding.proofs.Writable.{NoneHolds, Writable}
 use Rattle.machine.specs.Call.{ContainerType, Call, write, name, opening, closing, abandonment, versionMarker, taking, emptying, TypedCall}
 use Rattle.machine.specs.Machine.{Config, openContainers, isOpen, inStruct, closedInnermost, innermostStart, reserve, live, splice, effect, longestBuffer, containerFits, containersFit, fits, lacksName, lines, checks, accepted, refused, firstFailing, isAccepted, finishedLength, taken}
 use Rattle.machine.specs.Model.{Open, Model, abandon, spell}
@@ -212,7 +213,7 @@ abandoned-writable x o = on (x .stack) o
 
 pub accepted-writable : (done : List ℕ) (w : Config) (x : Model Argument) (c : Call) → Invariant done w x → NoneHolds (checks c w) → TypedCall c → WritableOf x → WritableOf (spellArguments c x)
 accepted-writable done w x (write an a) inv h t o = write-writable done w x inv an a h t o
-accepted-writable done w x (name n) inv h t o = record { items = o .items; stack = o .stack; name = t }
+accepted-writable done w x (name n) inv h t o = record { items = o .items; stack = o .stack; name = omega arith }
 accepted-writable done w x (opening an k) inv h t o = opening-writable an k (x .items) (x .stack) (x .waiting) o t
 accepted-writable done w x closing inv h t o = closing-writable done w x inv h o
 accepted-writable done w x abandonment inv h t o = abandoned-writable x o

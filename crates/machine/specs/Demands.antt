@@ -12,11 +12,6 @@ use Rattle.machine.specs.Call.{Call, write, name, opening, closing, aban
 use Rattle.machine.specs.Machine.{Config, accepted, verdict, isAccepted, after, startVerdict, started, taken}
 use Rattle.machine.specs.Model.{Model, modelStep, startedModel}
 
--- Each call is given the state and the buffer as the last one left them.
-unfoldable pub afterAll : List Call → Config → Config
-afterAll [] w = w
-afterAll (c ∷ cs) w = afterAll cs (after c w)
-
 -- ---- the joined finished bytes
 
 abbrev pub isEmptying : Call → Bool
@@ -44,13 +39,18 @@ joined (c ∷ cs) w = flushed c w ++ joined cs (after c w)
 
 -- ---- what was spelled
 
+-- the model after a list of calls, each given the state and the buffer as the last one left them
 unfoldable pub modelAfter : {S : Type 0} → (Argument → S) → List Call → Config → Model S → Model S
 modelAfter f [] w x = x
 modelAfter f (c ∷ cs) w x = modelAfter f cs (after c w) (modelStep f c (isAccepted (verdict c w)) x)
 
+-- what the list spells, with the containers that its accepted calls leave open
+abbrev pub spelling : List Call → List ℕ → Model Scalar
+spelling cs buffer = modelAfter meaning cs (started buffer) startedModel
+
 -- the items as values: what the list spells
 abbrev pub spelled : List Call → List ℕ → List (Item Scalar)
-spelled cs buffer = modelAfter meaning cs (started buffer) startedModel .items
+spelled cs buffer = spelling cs buffer .items
 
 -- the same items with the arguments of the calls for leaves
 abbrev pub written : List Call → List ℕ → List (Item Argument)
@@ -58,10 +58,10 @@ written cs buffer = modelAfter (λ a. a) cs (started buffer) startedModel .items
 
 -- ---- the demands
 
--- An accepted start, and no container open at the end.
+-- An accepted start, and accepted calls that leave no container open.
 pub record Run (cs : List Call) (buffer : List ℕ) : Type 0 where
   pub starts : startVerdict buffer ≡ accepted
-  pub ends : afterAll cs (started buffer) .state .depth ≡ 0
+  pub ends : spelling cs buffer .stack ≡ []
 
 -- The joined bytes are those of what was written.
 abbrev pub Demand2 : Type 0

@@ -13,7 +13,8 @@ use Rattle.ion.specs.Value.{listCode, sexpCode, structCode, annotationCode, lis
 use Rattle.encoding.specs.Fields.{varUIntBytes}
 use Rattle.encoding.specs.Headers.{typeByte, framedBytes, annotationBytes, annotatedBytes, markerBytes}
 use Rattle.encoding.specs.Argument.{argumentBytes, argumentChecks}
-use Rattle.machine.specs.Call.{ContainerType, sequenceType, structType, Call, write, name, opening, closing, abandonment, versionMarker, taking, emptying}
+use Rattle.machine.specs.Call.{ContainerType, sequenceType, structType}
+use Rattle.machine.specs.Call.{Call, write, name, opening, closing, abandonment, versionMarker, taking, emptying}
 
 -- a state, and the buffer that is lent with it
 pub record Config : Type 0 where
@@ -90,26 +91,58 @@ live w = take (w .state .used) (w .buffer)
 unfoldable pub splice : ℕ → ℕ → List ℕ → List ℕ → List ℕ
 splice used p out b = (take p b ++ out) ++ (replicate (used - (p + length out)) 0 ++ drop (max used (p + length out)) b)
 
--- `out` is put at p, with so many containers open after it
-abbrev pub put : Config → ℕ → List ℕ → ℕ → Bool → List Container → Config
-put w p out depth waiting containers = record {
-  state = record { used = p + length out; depth = depth; waiting = waiting; containers = containers };
-  buffer = splice (w .state .used) p out (w .buffer);
+-- What an accepted call that writes, closes or abandons changes: `out` takes the place of the used bytes from `place` on;
+-- how many containers are open then, whether a name waits, and the records.
+pub record Change : Type 0 where
+  pub place : ℕ
+  pub out : List ℕ
+  pub depth : ℕ
+  pub waiting : Bool
+  pub containers : List Container
+
+abbrev pub put : Config → Change → Config
+put w x = record {
+  state = record { used = x .place + length (x .out); depth = x .depth; waiting = x .waiting; containers = x .containers };
+  buffer = splice (w .state .used) (x .place) (x .out) (w .buffer);
 }
 
--- A closing and an abandonment lower the depth and leave the array; an opening sets the record at the depth.
+-- `out` at the end of the used bytes, with the containers as they are
+abbrev pub atEnd : State → List ℕ → Bool → Change
+atEnd s out waits = record { place = s .used; out = out; depth = s .depth; waiting = waits; containers = s .containers }
+
+-- an opening sets the record at the depth
+abbrev pub openingOf : State → List ℕ → ContainerType → Change
+openingOf s an k = record {
+  place = s .used;
+  out = reserve an;
+  depth = s .depth + 1;
+  waiting = false;
+  containers = set (s .containers) (s .depth) (record { start = s .used; header = headerPlace (s .used) an; code = containerCode k });
+}
+
+-- `out` in the place of the innermost container: a closing and an abandonment lower the depth and leave the array
+abbrev pub inPlace : State → List ℕ → Bool → Change
+inPlace s out waits = record {
+  place = innermostStart (openContainers s) (s .used);
+  out = out;
+  depth = s .depth - 1;
+  waiting = waits;
+  containers = s .containers;
+}
+
 -- After an abandonment a name waits again exactly if the container that is then innermost is a struct.
 abbrev pub effect : Call → Config → Config
-effect (write an a) w = put w (w .state .used) (annotatedBytes an (argumentBytes a)) (w .state .depth) false (w .state .containers)
-effect (name n) w = put w (w .state .used) (varUIntBytes n) (w .state .depth) true (w .state .containers)
-effect (opening an k) w =
-    put w (w .state .used) (reserve an) (w .state .depth + 1) false
-    (set (w .state .containers) (w .state .depth) (record { start = w .state .used; header = headerPlace (w .state .used) an; code = containerCode k }))
-effect closing w = put w (innermostStart (openContainers (w .state)) (w .state .used)) (closedInnermost (openContainers (w .state)) (live w)) (w .state .depth - 1) false (w .state .containers)
-effect abandonment w = put w (innermostStart (openContainers (w .state)) (w .state .used)) [] (w .state .depth - 1) (inStruct (outer (openContainers (w .state)))) (w .state .containers)
-effect versionMarker w = put w (w .state .used) markerBytes (w .state .depth) (w .state .waiting) (w .state .containers)
+effect (write an a) w = put w (atEnd (w .state) (annotatedBytes an (argumentBytes a)) false)
+effect (name n) w = put w (atEnd (w .state) (varUIntBytes n) true)
+effect (opening an k) w = put w (openingOf (w .state) an k)
+effect closing w = put w (inPlace (w .state) (closedInnermost (openContainers (w .state)) (live w)) false)
+effect abandonment w = put w (inPlace (w .state) [] (inStruct (outer (openContainers (w .state)))))
+effect versionMarker w = put w (atEnd (w .state) markerBytes (w .state .waiting))
 effect taking w = w
-effect emptying w = record { state = record { used = 0; depth = w .state .depth; waiting = w .state .waiting; containers = w .state .containers }; buffer = w .buffer }
+effect emptying w = record {
+  state = record { used = 0; depth = w .state .depth; waiting = w .state .waiting; containers = w .state .containers };
+  buffer = w .buffer;
+}
 
 -- ---- "Checks by place"
 
@@ -164,6 +197,10 @@ pub data Verdict : Type 0 where
 abbrev pub firstFailing : List (Bool × ℕ) → Verdict
 firstFailing [] = accepted
 firstFailing (x ∷ xs) = elim (x .0) [ true ↦ refused (x .1) | false ↦ firstFailing xs ]
+
+-- the first of the lines 1 to 3 that fails
+unfoldable pub placeVerdict : State → ℕ → Bool → Verdict
+placeVerdict s room misplaced = firstFailing (placeLines s room misplaced)
 
 unfoldable pub verdict : Call → Config → Verdict
 verdict c w = firstFailing (checks c w)

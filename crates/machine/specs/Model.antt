@@ -1,4 +1,4 @@
--- What a list of calls spells: the abstract writer of document 01, which calls it the slate. It is fed each call, its arguments and whether it was accepted.
+-- What a list of calls spells, by an abstract writer, which document 01 calls the slate. It is fed each call, its arguments and whether it was accepted.
 -- Its leaves are what `f` makes of a scalar call's arguments: the value that they name (demand 3), or the arguments themselves (demand 2).
 -- Assumes nothing.
 use Prim.Native.Nat.{ℕ}
@@ -7,14 +7,15 @@ use mathlib.Core.List.{List, [], _∷_, _++_}
 use mathlib.Core.Option.{Option, none, some}
 use Rattle.ion.specs.Value.{SequenceType, Tree, scalar, sequence, struct, Members, noMembers, member, Fields, noFields, field, Item, marker, value}
 use Rattle.encoding.specs.Argument.{Argument}
-use Rattle.machine.specs.Call.{ContainerType, sequenceType, structType, Call, write, name, opening, closing, abandonment, versionMarker, taking, emptying}
+use Rattle.machine.specs.Call.{ContainerType, sequenceType, structType}
+use Rattle.machine.specs.Call.{Call, write, name, opening, closing, abandonment, versionMarker, taking, emptying}
 
 -- an open container: its annotations, the name set aside with it, and its members so far
 pub data Open (S : Type 0) : Type 0 where
   openSequence : List ℕ → Option ℕ → SequenceType → Members S → Open S
   openStruct : List ℕ → Option ℕ → Fields S → Open S
 
--- the items, the open containers, innermost first, and at most one waiting name
+-- Document 01's slate: the items, the open containers, innermost first, and at most one waiting name.
 pub record Model (S : Type 0) : Type 0 where
   pub items : List (Item S)
   pub stack : List (Open S)

@@ -3,7 +3,8 @@
 use Prim.Native.Nat.{ℕ}
 use mathlib.Core.List.{List}
 use Rattle.machine.specs.declared.Refusal.{Refusal}
-use Rattle.machine.specs.declared.Refusal.the-variants.{BufferTooLong, StateUnfit, Misplaced, TooDeep, NegativeZero, NotUtf8, BadTimestamp, DecimalTooLong, TimestampTooLong, NoRoom}
+use Rattle.machine.specs.declared.Refusal.the-variants.{BufferTooLong, StateUnfit, Misplaced, TooDeep, NegativeZero}
+use Rattle.machine.specs.declared.Refusal.the-variants.{NotUtf8, BadTimestamp, DecimalTooLong, TimestampTooLong, NoRoom}
 use Rattle.machine.specs.declared.Answer.{Answer}
 use Rattle.machine.specs.declared.Answer.the-variants.{Accepted, Refused}
 use Rattle.machine.specs.declared.State.{State}

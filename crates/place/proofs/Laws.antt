@@ -1,4 +1,4 @@
--- Tests that say the same, the open containers one by one, and the four answers of a check by place.
+-- Tests that say the same, the open containers one by one, and what a fitting state is.
 -- Assumes nothing.
 use Prim.Native.Nat.{ℕ, zero, suc, _-_, _≤_, _<_}
 use native.Mathlib.Omega.{arith}
@@ -13,7 +13,6 @@ use Rattle.ion.proofs.Tests.{by-cases, both}
 use Rattle.machine.specs.declared.Container.{Container}
 use Rattle.machine.specs.declared.State.{State}
 use Rattle.machine.specs.Machine.{noContainer, innermostFirst, openContainers, isOpen, inStruct, containerFits, containersFit, fits}
-use Rattle.place.specs.Place.{judgedLines, placeVerdict}
 
 -- ---- tests
 
@@ -94,10 +93,3 @@ chain-step l i limit h = rw (innermost-step l i h)
 pub chain-none : (l : List Container) (i limit : ℕ) → i ≤ 0 → containersFit limit (innermostFirst l i) ≡ true
 unfolding containersFit
 chain-none l i limit h = rw (innermost-none l i h)
-
--- ---- the answers
-
--- line 3 counts only of a state that fits
-pub judged-place : (s : State) (room : ℕ) (m n : Bool) → (fits s room ≡ true → m ≡ n) → judgedLines room (fits s room) m ≡ placeVerdict s room n
-unfolding judgedLines placeVerdict
-judged-place s room m n h = by-cases (fits s room) (λ p. rw (p, h p)) (λ p. rw p)

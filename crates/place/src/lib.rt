@@ -1,11 +1,11 @@
 // The checks 1 to 3 of the table "Checks by place", by the state and the length of the buffer that is lent with it.
 // They hold for any state that anyone can hand in.
 ghost use mathlib.Core.Path.{_≡_};
-ghost use mathlib.Core.Bool.{not, _||_};
+ghost use mathlib.Core.Bool.{Bool, true, not, _||_};
 ghost use Prim.Native.Nat.{_≤_};
-ghost use Rattle.machine.specs.Machine.{openContainers, isOpen, inStruct, containerFits, fits, lacksName};
+ghost use Rattle.machine.specs.declared.State.{State};
+ghost use Rattle.machine.specs.Machine.{openContainers, isOpen, inStruct, containerFits, fits, lacksName, placeVerdict};
 ghost use Rattle.machine.specs.Numbers.{verdictOf};
-ghost use Rattle.place.specs.Place.{judgedLines, placeVerdict};
 use machine::Answer;
 use machine::Container;
 use machine::Refusal;
@@ -84,9 +84,9 @@ pub fn state_fits(s: State, room: usize) -> bool
     true
 }
 
-// The first of the lines 1 to 3 that fails.
-fn judged(room: usize, fit: bool, misplaced: bool) -> Answer
-    ensures { λ r. ⌜ verdictOf r ≡ judgedLines room fit misplaced ⌝ }
+// The first of the lines 1 to 3 that fails, of a state that `fit` speaks of; line 3 counts only where it fits.
+pub fn judged(room: usize, fit: bool, misplaced: bool) -> Answer
+    ensures { λ r. ⌜ ((s : State) (m : Bool) → fit ≡ fits s room → (fit ≡ true → misplaced ≡ m) → verdictOf r ≡ placeVerdict s room m) ⌝ }
 {
     if LONGEST_BUFFER < room {
         return Answer::Refused(Refusal::BufferTooLong);

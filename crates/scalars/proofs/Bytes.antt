@@ -10,31 +10,17 @@ use lib.IntN.{ℤ, pos, negsuc, natAbs}
 use lib.Signed.{nonNeg}
 use lib.ListN.{length}
 use mir.Val.{boolByte}
+use Rattle.ion.specs.Value.{IonType}
 use Rattle.ion.proofs.Tests.{by-cases}
 use Rattle.encoding.specs.Fields.{uintBytes}
 use Rattle.encoding.specs.Headers.{typeByte, framedBytes}
-use Rattle.encoding.specs.Argument.{Argument, writeNull, writeBool, writeI64, writeInt, writeF32, writeF64, writeDecimal, writeTimestamp, writeSymbol, writeString, writeClob, writeBlob, codeOfSign, float32Bytes, narrows, float64Bytes, argumentBytes, checkedBytes}
+use Rattle.encoding.specs.Argument.{Argument, writeNull, writeBool, writeI64, writeInt, writeF32, writeF64, writeDecimal, writeTimestamp, writeSymbol, writeString, writeClob, writeBlob, codeOfNull, codeOfSign, float32Bytes, narrows, float64Bytes, argumentBytes, checkedBytes}
 use Rattle.fields.proofs.Headers.{header-least, typeByte-high}
 use Rattle.decimal.proofs.Values.{length-framed}
-use Rattle.scalars.specs.declared.IonType.{IonType}
-use Rattle.scalars.specs.declared.IonType.the-variants as type
-use Rattle.scalars.specs.Types.{typeOf, nullByte}
 
-pub null-bytes : (t : IonType) → checkedBytes (writeNull (typeOf t)) ≡ nullByte t ∷ []
+pub null-bytes : (t : IonType) → checkedBytes (writeNull t) ≡ (typeByte (codeOfNull t) + 15) ∷ []
 unfolding checkedBytes argumentBytes
-null-bytes type.Null = refl
-null-bytes type.Bool = refl
-null-bytes type.Int = refl
-null-bytes type.Float = refl
-null-bytes type.Decimal = refl
-null-bytes type.Timestamp = refl
-null-bytes type.Symbol = refl
-null-bytes type.String = refl
-null-bytes type.Clob = refl
-null-bytes type.Blob = refl
-null-bytes type.List = refl
-null-bytes type.Sexp = refl
-null-bytes type.Struct = refl
+null-bytes t = refl
 
 pub bool-bytes : (v : Bool) → checkedBytes (writeBool v) ≡ (0x10 + boolByte v) ∷ []
 unfolding checkedBytes argumentBytes

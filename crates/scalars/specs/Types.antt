@@ -1,6 +1,6 @@
 -- The cases of the enums in the terms of the definition: the Ion type that each names, and the argument of the call that each stands for.
 -- Assumes nothing.
-use Prim.Native.Nat.{ℕ}
+use lib.Ieee.{binary32, binary64, toBits}
 use Rattle.ion.specs.Value.{ionNull, ionBool, ionInt, ionFloat, ionDecimal, ionTimestamp, ionSymbol, ionString, ionClob, ionBlob, ionList, ionSexp, ionStruct}
 use Rattle.ion.specs.Value.{IonType as Named}
 use Rattle.encoding.specs.Argument.{Argument, writeNull, writeBool, writeI64, writeF32, writeF64, writeSymbol}
@@ -24,26 +24,12 @@ typeOf List = ionList
 typeOf Sexp = ionSexp
 typeOf Struct = ionStruct
 
--- the byte of each null, as `write_null` lists them
-abbrev pub nullByte : IonType → ℕ
-nullByte Null = 0x0F
-nullByte Bool = 0x1F
-nullByte Int = 0x2F
-nullByte Float = 0x4F
-nullByte Decimal = 0x5F
-nullByte Timestamp = 0x6F
-nullByte Symbol = 0x7F
-nullByte String = 0x8F
-nullByte Clob = 0x9F
-nullByte Blob = 0xAF
-nullByte List = 0xBF
-nullByte Sexp = 0xCF
-nullByte Struct = 0xDF
-
 abbrev pub scalarArgument : Scalar → Argument
 scalarArgument (scalar.Null t) = writeNull (typeOf t)
 scalarArgument (scalar.Bool x) = writeBool x
 scalarArgument (scalar.I64 z) = writeI64 z
-scalarArgument (scalar.F32 b) = writeF32 b
-scalarArgument (scalar.F64 b) = writeF64 b
+scalarArgument (scalar.F32 v) = writeF32 (toBits binary32 v)
+scalarArgument (scalar.F32Bits b) = writeF32 b
+scalarArgument (scalar.F64 v) = writeF64 (toBits binary64 v)
+scalarArgument (scalar.F64Bits b) = writeF64 b
 scalarArgument (scalar.Symbol n) = writeSymbol n

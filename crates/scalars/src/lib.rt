@@ -3,14 +3,15 @@
 ghost use mathlib.Core.Path.{_≡_};
 ghost use mathlib.Core.Bool.{_&&_};
 ghost use mathlib.Core.List.{List};
-ghost use Prim.Native.Nat.{ℕ, _*_, _/_};
+ghost use Prim.Native.Nat.{ℕ, _*_, _/_, _<_};
 ghost use lib.Dec.{eqb};
 ghost use lib.ListN.{length};
+ghost use Rattle.ion.specs.Value.{highBits};
 ghost use Rattle.ion.specs.Fields.{uint};
 ghost use Rattle.encoding.specs.Headers.{typeByte, framedBytes};
-ghost use Rattle.encoding.specs.Argument.{codeOfSign, checkedBytes, writeNull, writeBool, writeI64, writeInt, writeSymbol};
+ghost use Rattle.encoding.specs.Argument.{codeOfNull, codeOfSign, checkedBytes, writeNull, writeBool, writeI64, writeInt, writeSymbol};
 ghost use Rattle.buffer.specs.Laid.{placed, fitted};
-ghost use Rattle.scalars.specs.Types.{typeOf, nullByte, scalarArgument};
+ghost use Rattle.scalars.specs.Types.{typeOf, scalarArgument};
 
 pub enum IonType {
     Null,
@@ -28,13 +29,15 @@ pub enum IonType {
     Struct,
 }
 
-// The scalars that no check refuses. Floats are given by their bits.
+// The scalars that no check refuses. Floats are given by their value or by their bits.
 pub enum Scalar {
     Null(IonType),
     Bool(bool),
     I64(i64),
-    F32(u32),
-    F64(u64),
+    F32(f32),
+    F32Bits(u32),
+    F64(f64),
+    F64Bits(u64),
     Symbol(u64),
 }
 
@@ -47,32 +50,32 @@ const NEGATIVE: u8 = 0x10;
 
 const SYMBOL: u8 = 0x70;
 
-// The type code, and F. Of the two codes of the ints it is that of zero and above.
-fn null_byte(t: IonType) -> u8
-    ensures { λ r. ⌜ r ≡ nullByte t ⌝ }
+// The type code of a null. Of the two codes of the ints it is that of zero and above.
+fn null_code(t: IonType) -> u8
+    ensures { λ r. ⌜ (r ≡ highBits (codeOfNull (typeOf t))) × (r < 16) ⌝ }
 {
     match t {
-        IonType::Null => 0x0F,
-        IonType::Bool => 0x1F,
-        IonType::Int => 0x2F,
-        IonType::Float => 0x4F,
-        IonType::Decimal => 0x5F,
-        IonType::Timestamp => 0x6F,
-        IonType::Symbol => 0x7F,
-        IonType::String => 0x8F,
-        IonType::Clob => 0x9F,
-        IonType::Blob => 0xAF,
-        IonType::List => 0xBF,
-        IonType::Sexp => 0xCF,
-        IonType::Struct => 0xDF,
+        IonType::Null => 0,
+        IonType::Bool => 1,
+        IonType::Int => 2,
+        IonType::Float => 4,
+        IonType::Decimal => 5,
+        IonType::Timestamp => 6,
+        IonType::Symbol => 7,
+        IonType::String => 8,
+        IonType::Clob => 9,
+        IonType::Blob => 10,
+        IonType::List => 11,
+        IonType::Sexp => 12,
+        IonType::Struct => 13,
     }
 }
 
-// One byte.
+// One byte: the type code, and F.
 pub fn write_null(buf: &mut [u8], at: usize, t: IonType) -> usize
     ensures { λ r. ⌜ _≡_ {A = ℕ × List ℕ} (r, now (buf .exit)) (placed (now (buf .entry)) at (checkedBytes (writeNull (typeOf t)))) ⌝ }
 {
-    buffer::put(buf, at, null_byte(t))
+    buffer::put(buf, at, null_code(t) * 16 + 15)
 }
 
 // 10, and 11 for true.
@@ -185,8 +188,10 @@ pub fn size(value: Scalar, room: usize) -> usize
             fields::uint::encoded_size_of(fields::sign::magnitude(n)),
             room,
         ),
-        Scalar::F32(bits) => fit(floats::f32_size(bits), room),
-        Scalar::F64(bits) => fit(floats::f64_size(bits), room),
+        Scalar::F32(v) => fit(floats::f32_size(v), room),
+        Scalar::F32Bits(bits) => fit(floats::f32_bits_size(bits), room),
+        Scalar::F64(v) => fit(floats::f64_size(v), room),
+        Scalar::F64Bits(bits) => fit(floats::f64_bits_size(bits), room),
         Scalar::Symbol(sid) => framed_size(fields::uint::encoded_size_of(sid), room),
     }
 }
@@ -199,8 +204,10 @@ pub fn write(buf: &mut [u8], at: usize, value: Scalar) -> usize
         Scalar::Null(t) => write_null(buf, at, t),
         Scalar::Bool(b) => write_bool(buf, at, b),
         Scalar::I64(n) => write_i64(buf, at, n),
-        Scalar::F32(bits) => floats::write_f32_bits(buf, at, bits),
-        Scalar::F64(bits) => floats::write_f64_bits(buf, at, bits),
+        Scalar::F32(v) => floats::write_f32(buf, at, v),
+        Scalar::F32Bits(bits) => floats::write_f32_bits(buf, at, bits),
+        Scalar::F64(v) => floats::write_f64(buf, at, v),
+        Scalar::F64Bits(bits) => floats::write_f64_bits(buf, at, bits),
         Scalar::Symbol(sid) => write_symbol(buf, at, sid),
     }
 }

@@ -1,4 +1,4 @@
--- The state that bytes spell, part by part, and the answers of a check by place over them.
+-- The state that bytes spell, part by part, and whether a check by place passes over them.
 -- Assumes nothing.
 use Prim.Native.Nat.{ℕ, zero, suc, _+_, _-_, _*_, _%_, _<_, _≤_}
 use native.Mathlib.Omega.{arith}
@@ -15,10 +15,9 @@ use Rattle.buffer.specs.Laid.{laid}
 use Rattle.buffer.proofs.Laid.{laid-one, laid-snoc, laid-more}
 use Rattle.machine.specs.declared.Container.{Container}
 use Rattle.machine.specs.declared.State.{State}
-use Rattle.machine.specs.Machine.{noContainer, innermostFirst, openContainers, inStruct, outer, containersFit, fits, emptyState, accepted, refused, isAccepted, usedIf, finishedLength}
-use Rattle.place.proofs.Finished.{unfinished-unfit}
+use Rattle.machine.specs.Machine.{noContainer, innermostFirst, openContainers, inStruct, outer, containersFit, fits, placeVerdict, isAccepted}
 use Rattle.place.proofs.Laws.{innermost-step, innermost-none, fits-overused, fits-overopen}
-use Rattle.state_bytes.specs.StateBytes.{four, placeOf, containerAt, containersFrom, stateOf, lentFits, lentPlace, fourBytes, flag, storedHead, storedContainer}
+use Rattle.state_bytes.specs.StateBytes.{four, placeOf, containerAt, containersFrom, unfitState, stateOf, fourBytes, flag, storedHead, storedContainer}
 
 -- ---- the state
 
@@ -29,7 +28,7 @@ pub state-is : (b : List ℕ) → length b ≡ 296 → stateOf b ≡ spelled b
 unfolding stateOf
 state-is b h = rw (eq-eqb (length b) 296 h, stateOf)
 
-pub state-none : (b : List ℕ) → (length b ≡ 296 → ⊥) → stateOf b ≡ emptyState 0
+pub state-none : (b : List ℕ) → (length b ≡ 296 → ⊥) → stateOf b ≡ unfitState
 unfolding stateOf
 state-none b h = rw (ne-eqb (length b) 296 h, stateOf)
 
@@ -57,9 +56,9 @@ container-past b j h = sym (List·getD-eq-default (containersFrom b 0 32) noCont
 pub container-at : (b : List ℕ) (i : ℕ) (c : Container) → length b ≡ 296 → 0 < i → i ≤ 32 → c ≡ containerAt b (placeOf (i - 1)) → c ≡ getD (stateOf b .containers) (i - 1) noContainer
 container-at b i c h p q e = e ∙ (rw (state-is b h) (sym (container-is b (i - 1) (omega arith))))
 
--- each container of the empty state is one of zeros
-pub container-empty : (j : ℕ) → noContainer ≡ getD (emptyState 0 .containers) j noContainer
-container-empty j = of-zeros 32 j
+-- each container of the state that does not fit is one of zeros
+pub container-unfit : (j : ℕ) → noContainer ≡ getD (unfitState .containers) j noContainer
+container-unfit j = of-zeros 32 j
   where
     of-zeros : (n k : ℕ) → noContainer ≡ getD (replicate n noContainer) k noContainer
     of-zeros zero k = refl
@@ -95,17 +94,13 @@ outer-none l n h = rw (innermost-none l n h)
 
 -- ---- whether it fits
 
-pub fits-of : (b : List ℕ) (room : ℕ) (f : Bool) → length b ≡ 296 → f ≡ fits (stateOf b) room → f ≡ lentFits b room
-fits-of b room f h e = rw (eq-eqb (length b) 296 h) e
+-- a slice of another length
+pub unfit : (b : List ℕ) (room : ℕ) → (length b ≡ 296 → ⊥) → false ≡ fits (stateOf b) room
+unfit b room h = rw (state-none b h) (fits-overopen unfitState room (omega arith) (omega arith))
 
-pub fits-lent : (b : List ℕ) (room : ℕ) → lentFits b room ≡ true → fits (stateOf b) room ≡ true
-fits-lent b room e = both {a = eqb (length b) 296} e .1
-
-pub unfit : (b : List ℕ) (room : ℕ) → (length b ≡ 296 → ⊥) → false ≡ lentFits b room
-unfit b room h = rw (ne-eqb (length b) 296 h)
-
-pub readable-both : (b : List ℕ) (d : ℕ) → (eqb (length b) 296 && leb d 32) ≡ true → (length b ≡ 296) × (d ≤ 32)
-readable-both b d e = let h = both {a = eqb (length b) 296} e in (eqb-true (length b) 296 (h .0), leb-true d 32 (h .1))
+-- what can be read has the right length
+pub readable-size : (b : List ℕ) → leb (stateOf b .depth) 32 ≡ true → length b ≡ 296
+readable-size b e = by-cases (eqb (length b) 296) (λ p. eqb-true (length b) 296 p) (λ p. absurd (false≢true (rw (state-none b (eqb-false (length b) 296 p)) at e)))
 
 -- a header that is the start or lies four beyond it
 pub apart : (header start : ℕ) → (not (eqb header start) && ltb header (start + 4)) ≡ false → (eqb header start || leb (start + 4) header) ≡ true
@@ -117,24 +112,6 @@ pub between : (header start : ℕ) → (not (eqb header start) && ltb header (st
 between header start e =
     by-cases (eqb header start) (λ p. let q : false ≡ true = rw p at e in absurd (false≢true q))
     (λ p. let q : ltb header (start + 4) ≡ true = rw p at e in rw (p, lt-leb (start + 4) header (ltb-true header (start + 4) q)))
-
--- ---- the answers
-
-pub lent-long : (b : List ℕ) (room : ℕ) (m : Bool) → 16777215 < room → refused 1 ≡ lentPlace b room m
-unfolding lentPlace
-lent-long b room m h = rw (lt-ltb 16777215 room h)
-
-pub lent-unfit : (b : List ℕ) (room : ℕ) (m : Bool) → room ≤ 16777215 → lentFits b room ≡ false → refused 2 ≡ lentPlace b room m
-unfolding lentPlace
-lent-unfit b room m h f = rw (le-ltb 16777215 room h, f)
-
-pub lent-placed : (b : List ℕ) (room : ℕ) (m : Bool) → room ≤ 16777215 → lentFits b room ≡ true → m ≡ true → refused 3 ≡ lentPlace b room m
-unfolding lentPlace
-lent-placed b room m h f e = rw (le-ltb 16777215 room h, f, e)
-
-pub lent-accepted : (b : List ℕ) (room : ℕ) (m : Bool) → room ≤ 16777215 → lentFits b room ≡ true → m ≡ false → accepted ≡ lentPlace b room m
-unfolding lentPlace
-lent-accepted b room m h f e = rw (le-ltb 16777215 room h, f, e)
 
 -- ---- stores
 
@@ -172,23 +149,6 @@ pub unstored-past : (b : List ℕ) (i : ℕ) (c : Container) → length b ≡ 29
 unfolding storedContainer
 unstored-past b i c h k = rw (eq-eqb (length b) 296 h, le-ltb i 32 k, storedContainer)
 
--- ---- the finished length
-
-empty-finished : (room : ℕ) → 0 ≡ finishedLength (emptyState 0) room
-unfolding finishedLength
-empty-finished room = of-test (leb room 16777215 && (fits (emptyState 0) room && true))
-  where
-    of-test : (t : Bool) → _≡_ {A = ℕ} 0 (usedIf t 0)
-    of-test true = refl
-    of-test false = refl
-
-pub unfinished-lent : (b : List ℕ) (room : ℕ) → lentFits b room ≡ false → 0 ≡ finishedLength (stateOf b) room
-unfolding finishedLength
-unfinished-lent b room e =
-    by-cases (eqb (length b) 296)
-    (λ p. let f : fits (stateOf b) room ≡ false = rw p at e in unfinished-unfit (stateOf b) room f)
-    (λ p. rw (state-none b (λ q. eqb-false (length b) 296 p q)) (unfold finishedLength in (empty-finished room)))
-
 -- ---- whether no line fails
 
 tests : (f w i m : Bool) → ((f && (not w || i)) && not m) ≡ (not ((w && not i) || m) && f)
@@ -197,36 +157,32 @@ tests true false i m = sym (and-true (not m))
 tests true true true m = sym (and-true (not m))
 tests true true false m = refl
 
-module _ (b : List ℕ) (room : ℕ) (m : Bool) where
-  accepted-is : isAccepted (lentPlace b room m) ≡ (leb room 16777215 && (lentFits b room && not m))
-  unfolding lentPlace
+module _ (s : State) (room : ℕ) (m : Bool) where
+  accepted-is : isAccepted (placeVerdict s room m) ≡ (leb room 16777215 && (fits s room && not m))
+  unfolding placeVerdict
   accepted-is =
       by-cases (leb room 16777215)
-      (λ p. rw (p, le-ltb 16777215 room (leb-true room 16777215 p)) (by-cases (lentFits b room) (λ f. rw f (by-cases m (λ q. rw q) (λ q. rw q))) (λ f. rw f)))
+      (λ p. rw (p, le-ltb 16777215 room (leb-true room 16777215 p)) (by-cases (fits s room) (λ f. rw f (by-cases m (λ q. rw q) (λ q. rw q))) (λ f. rw f)))
       (λ p. rw (p, lt-ltb 16777215 room (leb-false room 16777215 p)))
 
-  pub unreadable : (eqb (length b) 296 && leb (stateOf b .depth) 32) ≡ false → false ≡ isAccepted (lentPlace b room m)
-  unreadable e = sym (accepted-is ∙ rw (unfit-by e, and-false (leb room 16777215)))
+  pub unreadable : leb (s .depth) 32 ≡ false → false ≡ isAccepted (placeVerdict s room m)
+  unreadable d = sym (accepted-is ∙ rw (overopen, and-false (leb room 16777215)))
     where
-      unfit-by : (eqb (length b) 296 && leb (stateOf b .depth) 32) ≡ false → lentFits b room ≡ false
-      unfit-by e = by-cases (eqb (length b) 296) (λ p. rw p (overopen (rw p at e))) (λ p. rw p)
-        where
-          overopen : leb (stateOf b .depth) 32 ≡ false → fits (stateOf b) room ≡ false
-          overopen d =
-              by-cases (leb (stateOf b .used) room)
-              (λ u. sym (fits-overopen (stateOf b) room (leb-true (stateOf b .used) room u) (leb-false (stateOf b .depth) 32 d)))
-              (λ u. sym (fits-overused (stateOf b) room (leb-false (stateOf b .used) room u)))
+      overopen : fits s room ≡ false
+      overopen =
+          by-cases (leb (s .used) room)
+          (λ u. sym (fits-overopen s room (leb-true (s .used) room u) (leb-false (s .depth) 32 d)))
+          (λ u. sym (fits-overused s room (leb-false (s .used) room u)))
 
-  -- of a slice that can be read: the lines in the order in which they are asked
-  pub passes-is : (eqb (length b) 296 && leb (stateOf b .depth) 32) ≡ true
-      → isAccepted (lentPlace b room m)
-      ≡ (leb room 16777215 && (leb (stateOf b .used) room && (not ((stateOf b .waiting && not (inStruct (openContainers (stateOf b)))) || m) && containersFit (stateOf b .used) (openContainers (stateOf b)))))
+  -- of a state with no more containers than fit: the lines in the order in which they are asked
+  pub passes-is : leb (s .depth) 32 ≡ true
+      → isAccepted (placeVerdict s room m)
+      ≡ (leb room 16777215 && (leb (s .used) room && (not ((s .waiting && not (inStruct (openContainers s))) || m) && containersFit (s .used) (openContainers s))))
   unfolding fits
-  passes-is e =
-      let h = both {a = eqb (length b) 296} e in
+  passes-is h =
       accepted-is
-      ∙ rw (h .0, h .1)
+      ∙ rw h
       (ap (λ (x : Bool). leb room 16777215 && x)
-      (by-cases (leb (stateOf b .used) room)
-      (λ u. rw u (tests (containersFit (stateOf b .used) (openContainers (stateOf b))) (stateOf b .waiting) (inStruct (openContainers (stateOf b))) m))
+      (by-cases (leb (s .used) room)
+      (λ u. rw u (tests (containersFit (s .used) (openContainers s)) (s .waiting) (inStruct (openContainers s)) m))
       (λ u. rw u)))

@@ -5,12 +5,12 @@ use Prim.Native.Nat.{ℕ, zero, suc, _+_, _-_, _*_, _/_, _%_}
 use mathlib.Core.Bool.{Bool, true, false, not, _&&_}
 use mathlib.Core.List.{List, [], _∷_, _++_}
 use lib.Dec.{ltb, eqb}
-use lib.ListN.{length, getD}
+use lib.ListN.{length, getD, replicate}
 use Rattle.buffer.specs.Laid.{laid}
 use Rattle.machine.specs.declared.State.{State}
 use Rattle.machine.specs.declared.Container.{Container}
 use Rattle.machine.specs.Call.{Call, write, name, opening, closing, abandonment, versionMarker, taking, emptying}
-use Rattle.machine.specs.Machine.{noContainer, fits, longestBuffer, emptyState, Verdict, accepted, refused, firstFailing}
+use Rattle.machine.specs.Machine.{noContainer, Verdict, accepted, refused}
 use Rattle.machine.specs.Numbers.{Outcome, run}
 
 abbrev pub stateSize : ℕ
@@ -33,21 +33,17 @@ unfoldable pub containersFrom : List ℕ → ℕ → ℕ → List Container
 containersFrom b i zero = []
 containersFrom b i (suc n) = containerAt b (placeOf i) ∷ containersFrom b (suc i) n
 
--- a slice of another length spells the empty state, and no call takes it
+-- more containers than a state that fits can have
+abbrev pub unfitState : State
+unfitState = record { used = 0; depth = 33; waiting = false; containers = replicate 32 noContainer }
+
+-- a slice of another length spells a state that does not fit
 unfoldable pub stateOf : List ℕ → State
 stateOf b =
     elim (eqb (length b) stateSize) [
       | true ↦ record { used = four b 0; depth = getD b 4 0; waiting = not (eqb (getD b 5 0) 0); containers = containersFrom b 0 32 }
-      | false ↦ emptyState 0
+      | false ↦ unfitState
     ]
-
--- "State fits", of a slice: it has the right length, and the state that it spells fits
-abbrev pub lentFits : List ℕ → ℕ → Bool
-lentFits b room = eqb (length b) stateSize && fits (stateOf b) room
-
--- the first of the lines 1 to 3 that fails
-unfoldable pub lentPlace : List ℕ → ℕ → Bool → Verdict
-lentPlace b room misplaced = firstFailing ((ltb longestBuffer room, 1) ∷ (not (lentFits b room), 2) ∷ (misplaced, 3) ∷ [])
 
 -- ---- the bytes of a state
 
@@ -78,22 +74,26 @@ abbrev pub numberOf : Verdict → ℕ
 numberOf accepted = 0
 numberOf (refused n) = n
 
--- an opening sets one container; no call alters another
+-- the state slice with used, depth and waiting of s
+abbrev pub storedState : State → List ℕ → List ℕ
+storedState s b = storedHead (s .used) (s .depth) (s .waiting) b
+
+-- What an accepted call that leaves the state s stores: its head, and an opening the container that it opened. A taking stores nothing.
 abbrev pub storedBy : Call → State → List ℕ → List ℕ
-storedBy (write an a) s b = b
-storedBy (name n) s b = b
-storedBy (opening an k) s b = storedContainer (s .depth - 1) (getD (s .containers) (s .depth - 1) noContainer) b
-storedBy closing s b = b
-storedBy abandonment s b = b
-storedBy versionMarker s b = b
+storedBy (write an a) s b = storedState s b
+storedBy (name n) s b = storedState s b
+storedBy (opening an k) s b = storedState s (storedContainer (s .depth - 1) (getD (s .containers) (s .depth - 1) noContainer) b)
+storedBy closing s b = storedState s b
+storedBy abandonment s b = storedState s b
+storedBy versionMarker s b = storedState s b
 storedBy taking s b = b
-storedBy emptying s b = b
+storedBy emptying s b = storedState s b
 
 abbrev pub storedIf : Verdict → Call → State → List ℕ → List ℕ
-storedIf accepted c s b = storedHead (s .used) (s .depth) (s .waiting) (storedBy c s b)
+storedIf accepted c s b = storedBy c s b
 storedIf (refused n) c s b = b
 
--- What an entry point answers, and leaves in the state slice and in the buffer: 1, then 2 for a slice of another length, then as the machine does.
+-- What an entry point answers, and leaves in the state slice and in the buffer: what the machine does on the state that the slice spells.
 pub record Entered : Type 0 where
   pub number : ℕ
   pub state : List ℕ
@@ -103,8 +103,4 @@ abbrev pub enteredBy : Call → List ℕ → Outcome → Entered
 enteredBy c st o = record { number = numberOf (o .verdict); state = storedIf (o .verdict) c (o .state) st; buffer = o .buffer }
 
 unfoldable pub entered : Call → List ℕ → List ℕ → Entered
-entered c st b =
-    elim (ltb longestBuffer (length b)) [
-      | true ↦ record { number = 1; state = st; buffer = b }
-      | false ↦ elim (eqb (length st) stateSize) [ true ↦ enteredBy c st (run c (stateOf st) b) | false ↦ record { number = 2; state = st; buffer = b } ]
-    ]
+entered c st b = enteredBy c st (run c (stateOf st) b)

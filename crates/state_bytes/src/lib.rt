@@ -3,21 +3,24 @@ ghost use mathlib.Core.Path.{_≡_};
 ghost use mathlib.Core.Bool.{not, _&&_, _||_};
 ghost use mathlib.Core.List.{[], _∷_};
 ghost use Prim.Native.Nat.{_+_, _-_, _*_, _^_, _≤_, _<_};
-ghost use lib.Dec.{eqb, leb};
+ghost use lib.Dec.{leb};
 ghost use lib.ListN.{length, getD};
 ghost use Rattle.buffer.specs.Laid.{laid};
-ghost use Rattle.machine.specs.Machine.{noContainer, innermostFirst, openContainers, isOpen, inStruct, outer, containerFits, containersFit, longestBuffer, lacksName, isAccepted, finishedLength};
+ghost use Rattle.machine.specs.Machine.{noContainer, innermostFirst, openContainers, isOpen, inStruct, outer, containerFits, containersFit};
+ghost use Rattle.machine.specs.Machine.{longestBuffer, fits, lacksName, placeVerdict, isAccepted, finishedLength};
 ghost use Rattle.machine.specs.Numbers.{verdictOf};
-ghost use Rattle.state_bytes.specs.StateBytes.{stateSize, four, placeOf, containerAt, stateOf, lentFits, lentPlace, fourBytes, storedHead, storedContainer};
+ghost use Rattle.state_bytes.specs.StateBytes.{four, placeOf, containerAt, stateOf, fourBytes, storedHead, storedContainer};
 use machine::Answer;
 use machine::Container;
-use machine::Refusal;
 
 const STATE_SIZE: usize = 296;
 
 const LONGEST_BUFFER: usize = 16_777_215;
 
 const MOST_OPEN: usize = 32;
+
+// More containers than a state that fits can have.
+const UNFIT_DEPTH: usize = 33;
 
 const LIST: u8 = 0xB0;
 
@@ -60,12 +63,12 @@ pub fn used(st: &[u8]) -> usize
     get_four(st, 0)
 }
 
-// How many containers are open.
+// How many containers are open; of a slice of another length, more than a state that fits can have.
 pub fn depth(st: &[u8]) -> usize
     ensures { λ r. ⌜ r ≡ stateOf (now (st .entry)) .depth ⌝ }
 {
     if st.len() != STATE_SIZE {
-        return 0;
+        return UNFIT_DEPTH;
     }
     wide(st[4])
 }
@@ -158,9 +161,9 @@ fn containers_fit(st: &[u8], used: usize, depth: usize) -> bool
     true
 }
 
-// Whether the slice spells a state, and it fits.
+// Whether the state that the slice spells fits.
 pub fn fits(st: &[u8], room: usize) -> bool
-    ensures { λ r. ⌜ r ≡ lentFits (now (st .entry)) room ⌝ }
+    ensures { λ r. ⌜ r ≡ fits (stateOf (now (st .entry))) room ⌝ }
 {
     if st.len() != STATE_SIZE {
         return false;
@@ -181,23 +184,14 @@ pub fn fits(st: &[u8], room: usize) -> bool
 
 // The first of the lines 1 to 3 that fails.
 fn judged(st: &[u8], room: usize, misplaced: bool) -> Answer
-    ensures { λ r. ⌜ verdictOf r ≡ lentPlace (now (st .entry)) room misplaced ⌝ }
+    ensures { λ r. ⌜ verdictOf r ≡ placeVerdict (stateOf (now (st .entry))) room misplaced ⌝ }
 {
-    if LONGEST_BUFFER < room {
-        return Answer::Refused(Refusal::BufferTooLong);
-    }
-    if !fits(st, room) {
-        return Answer::Refused(Refusal::StateUnfit);
-    }
-    if misplaced {
-        return Answer::Refused(Refusal::Misplaced);
-    }
-    Answer::Accepted
+    place::judged(room, fits(st, room), misplaced)
 }
 
 // Where a scalar or an opening may stand: in a struct only behind a name.
 pub fn value_place(st: &[u8], room: usize) -> Answer
-    ensures { λ r. ⌜ verdictOf r ≡ lentPlace (now (st .entry)) room (lacksName (stateOf (now (st .entry)))) ⌝ }
+    ensures { λ r. ⌜ verdictOf r ≡ placeVerdict (stateOf (now (st .entry))) room (lacksName (stateOf (now (st .entry)))) ⌝ }
 {
     let depth = depth(st);
     let misplaced = in_struct(st, depth) & !waiting(st);
@@ -206,7 +200,8 @@ pub fn value_place(st: &[u8], room: usize) -> Answer
 
 // Where a field name may stand: in a struct, with none waiting.
 pub fn name_place(st: &[u8], room: usize) -> Answer
-    ensures { λ r. ⌜ verdictOf r ≡ lentPlace (now (st .entry)) room (not (inStruct (openContainers (stateOf (now (st .entry))))) || stateOf (now (st .entry)) .waiting) ⌝ }
+    ensures { λ r. ⌜ verdictOf r ≡ placeVerdict (stateOf (now (st .entry))) room
+        (not (inStruct (openContainers (stateOf (now (st .entry))))) || stateOf (now (st .entry)) .waiting) ⌝ }
 {
     let depth = depth(st);
     let misplaced = !in_struct(st, depth) | waiting(st);
@@ -215,7 +210,8 @@ pub fn name_place(st: &[u8], room: usize) -> Answer
 
 // Where a closing may stand: in a container, with no name waiting.
 pub fn close_place(st: &[u8], room: usize) -> Answer
-    ensures { λ r. ⌜ verdictOf r ≡ lentPlace (now (st .entry)) room (not (isOpen (openContainers (stateOf (now (st .entry))))) || stateOf (now (st .entry)) .waiting) ⌝ }
+    ensures { λ r. ⌜ verdictOf r ≡ placeVerdict (stateOf (now (st .entry))) room
+        (not (isOpen (openContainers (stateOf (now (st .entry))))) || stateOf (now (st .entry)) .waiting) ⌝ }
 {
     let depth = depth(st);
     let misplaced = (depth == 0) | waiting(st);
@@ -224,7 +220,7 @@ pub fn close_place(st: &[u8], room: usize) -> Answer
 
 // Where an abandonment may stand: in a container.
 pub fn abandon_place(st: &[u8], room: usize) -> Answer
-    ensures { λ r. ⌜ verdictOf r ≡ lentPlace (now (st .entry)) room (not (isOpen (openContainers (stateOf (now (st .entry)))))) ⌝ }
+    ensures { λ r. ⌜ verdictOf r ≡ placeVerdict (stateOf (now (st .entry))) room (not (isOpen (openContainers (stateOf (now (st .entry)))))) ⌝ }
 {
     let depth = depth(st);
     judged(st, room, depth == 0)
@@ -232,7 +228,7 @@ pub fn abandon_place(st: &[u8], room: usize) -> Answer
 
 // Where a version marker or an emptying may stand: outside all containers.
 pub fn top_place(st: &[u8], room: usize) -> Answer
-    ensures { λ r. ⌜ verdictOf r ≡ lentPlace (now (st .entry)) room (isOpen (openContainers (stateOf (now (st .entry))))) ⌝ }
+    ensures { λ r. ⌜ verdictOf r ≡ placeVerdict (stateOf (now (st .entry))) room (isOpen (openContainers (stateOf (now (st .entry))))) ⌝ }
 {
     let depth = depth(st);
     judged(st, room, depth != 0)
@@ -242,7 +238,7 @@ pub fn top_place(st: &[u8], room: usize) -> Answer
 
 // Whether the slice has the length of a state, and its depth is one that fits.
 fn readable(st: &[u8]) -> bool
-    ensures { λ r. ⌜ r ≡ (eqb (length (now (st .entry))) stateSize && leb (stateOf (now (st .entry)) .depth) 32) ⌝ }
+    ensures { λ r. ⌜ r ≡ leb (stateOf (now (st .entry)) .depth) 32 ⌝ }
 {
     if st.len() != STATE_SIZE {
         return false;
@@ -261,7 +257,8 @@ fn innermost_is_struct(st: &[u8], depth: usize) -> bool
 // Whether no line fails; `barred` says that a name waits outside a struct or that line 3 fails.
 fn passes(st: &[u8], room: usize, depth: usize, barred: bool) -> bool
     requires { ⌜ (depth ≤ 32) × (length (now st) ≡ 296) ⌝ }
-    ensures { λ r. ⌜ r ≡ (leb room longestBuffer && (leb (stateOf (now (st .entry)) .used) room && (not barred && containersFit (stateOf (now (st .entry)) .used) (innermostFirst (stateOf (now (st .entry)) .containers) depth)))) ⌝ }
+    ensures { λ r. ⌜ r ≡ (leb room longestBuffer && (leb (stateOf (now (st .entry)) .used) room
+        && (not barred && containersFit (stateOf (now (st .entry)) .used) (innermostFirst (stateOf (now (st .entry)) .containers) depth)))) ⌝ }
 {
     if LONGEST_BUFFER < room {
         return false;
@@ -278,7 +275,7 @@ fn passes(st: &[u8], room: usize, depth: usize, barred: bool) -> bool
 
 // Whether a scalar or an opening may stand here.
 pub fn value_passes(st: &[u8], room: usize) -> bool
-    ensures { λ r. ⌜ r ≡ isAccepted (lentPlace (now (st .entry)) room (lacksName (stateOf (now (st .entry))))) ⌝ }
+    ensures { λ r. ⌜ r ≡ isAccepted (placeVerdict (stateOf (now (st .entry))) room (lacksName (stateOf (now (st .entry))))) ⌝ }
 {
     if !readable(st) {
         return false;
@@ -291,7 +288,8 @@ pub fn value_passes(st: &[u8], room: usize) -> bool
 
 // Whether a field name may stand here.
 pub fn name_passes(st: &[u8], room: usize) -> bool
-    ensures { λ r. ⌜ r ≡ isAccepted (lentPlace (now (st .entry)) room (not (inStruct (openContainers (stateOf (now (st .entry))))) || (stateOf (now (st .entry))) .waiting)) ⌝ }
+    ensures { λ r. ⌜ r ≡ isAccepted (placeVerdict (stateOf (now (st .entry))) room
+        (not (inStruct (openContainers (stateOf (now (st .entry))))) || (stateOf (now (st .entry))) .waiting)) ⌝ }
 {
     if !readable(st) {
         return false;
@@ -304,7 +302,8 @@ pub fn name_passes(st: &[u8], room: usize) -> bool
 
 // Whether a closing may stand here.
 pub fn close_passes(st: &[u8], room: usize) -> bool
-    ensures { λ r. ⌜ r ≡ isAccepted (lentPlace (now (st .entry)) room (not (isOpen (openContainers (stateOf (now (st .entry))))) || (stateOf (now (st .entry))) .waiting)) ⌝ }
+    ensures { λ r. ⌜ r ≡ isAccepted (placeVerdict (stateOf (now (st .entry))) room
+        (not (isOpen (openContainers (stateOf (now (st .entry))))) || (stateOf (now (st .entry))) .waiting)) ⌝ }
 {
     if !readable(st) {
         return false;
@@ -317,7 +316,7 @@ pub fn close_passes(st: &[u8], room: usize) -> bool
 
 // Whether an abandonment may stand here.
 pub fn abandon_passes(st: &[u8], room: usize) -> bool
-    ensures { λ r. ⌜ r ≡ isAccepted (lentPlace (now (st .entry)) room (not (isOpen (openContainers (stateOf (now (st .entry))))))) ⌝ }
+    ensures { λ r. ⌜ r ≡ isAccepted (placeVerdict (stateOf (now (st .entry))) room (not (isOpen (openContainers (stateOf (now (st .entry))))))) ⌝ }
 {
     if !readable(st) {
         return false;
@@ -330,7 +329,7 @@ pub fn abandon_passes(st: &[u8], room: usize) -> bool
 
 // Whether a version marker or an emptying may stand here.
 pub fn top_passes(st: &[u8], room: usize) -> bool
-    ensures { λ r. ⌜ r ≡ isAccepted (lentPlace (now (st .entry)) room (isOpen (openContainers (stateOf (now (st .entry)))))) ⌝ }
+    ensures { λ r. ⌜ r ≡ isAccepted (placeVerdict (stateOf (now (st .entry))) room (isOpen (openContainers (stateOf (now (st .entry)))))) ⌝ }
 {
     if !readable(st) {
         return false;

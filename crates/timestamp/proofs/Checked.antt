@@ -1,10 +1,10 @@
--- What check 7 leaves of a timestamp: the bytes of its UTC fields, of which check 9 refuses none, or nothing.
+-- What check 7 leaves of a timestamp: the bytes of its UTC fields, of which check 9 refuses none, or nothing. How many they are is told by the UTC year.
 -- By the limit of 18 bytes. Assumes nothing.
 use Prim.Native.Nat.{ℕ, _+_, _≤_}
 use native.Mathlib.Omega.{arith}
 use mathlib.Core.Path.{_≡_, refl, sym, _∙_, ap}
 use mathlib.Core.Bool.{Bool, true, false}
-use mathlib.Core.List.{List, []}
+use mathlib.Core.List.{List, [], _∷_}
 use borrow.Author.Tests.{le-ltb}
 use mir.Syntax.{w64}
 use mir.Val.{Fits}
@@ -18,9 +18,18 @@ use Rattle.decimal.proofs.Values.{checkedBytes-refused, checkedBytes-accepted, 
 use Rattle.timestamp.specs.declared.Timestamp.{Timestamp}
 use Rattle.timestamp.specs.Arguments.{offsetMinutes, fractionDigits, fieldsOf, argumentOf}
 use Rattle.timestamp.specs.Utc.{withFields}
-use Rattle.timestamp.specs.Small.{Small, SmallParts, bodySize, valueSize, bodyOf, valueOf}
-use Rattle.timestamp.proofs.Small.{utc-small, utc-body}
-use Rattle.timestamp.proofs.Body.{bodySize-most, small-parts, body-size, body-most}
+use Rattle.timestamp.specs.Small.{Small, bodyOf, valueOf}
+use Rattle.timestamp.proofs.Small.{utc-small, utc-year-small, utc-body}
+use Rattle.timestamp.proofs.Body.{body-length, body-most}
+
+-- header and body
+module _ (t : Timestamp) (h : Small t) (body : ℕ) (q : body ≡ length (bodyOf t)) (header : ℕ) (k : header ≡ length (headerBytes 0 body)) where
+  pub value-size : header + body ≡ length (valueOf t)
+  unfolding valueOf
+  value-size = rw (k, q) (sym (length-framed (typeByte timestampCode) (bodyOf t)))
+
+  pub value-fits : Fits w64 (header + body)
+  value-fits = record { fits = omega (arith, body-most t h, header-most 0 body (omega (arith, body-most t h))) }
 
 module _ (t : Timestamp) where
   abbrev isValid : Bool
@@ -29,42 +38,34 @@ module _ (t : Timestamp) where
   abbrev bodyBytes : List ℕ
   bodyBytes = timestampBody (offsetMinutes (t .offset)) (fieldsOf t) (fractionDigits (t .fraction))
 
-  pub timestampBody-most : isValid ≡ true → length bodyBytes ≤ 18
-  timestampBody-most v = rw (← utc-body t) (body-most (withFields t (utc (offsetMinutes (t .offset)) (fieldsOf t))) (utc-small t v))
+  -- with its UTC fields, and with its UTC year alone
+  abbrev inUtc : Timestamp
+  inUtc = withFields t (utc (offsetMinutes (t .offset)) (fieldsOf t))
 
-  -- u is t with its UTC fields
-  pub accepted : isValid ≡ true → (u : Timestamp) → u ≡ withFields t (utc (offsetMinutes (t .offset)) (fieldsOf t)) → valueOf u ≡ checkedBytes (argumentOf t)
-  unfolding argumentBytes valueOf
-  accepted v u e =
-      ap valueOf e
-      ∙ (ap (framedBytes (typeByte timestampCode)) (utc-body t)
-      ∙ sym (checkedBytes-accepted (argumentOf t) (rw (v, le-ltb 32 (length bodyBytes) (omega (arith, timestampBody-most v))))))
+  abbrev byYear : Timestamp
+  byYear = withFields t (inUtc .year ∷ [])
 
   pub refused : isValid ≡ false → checkedBytes (argumentOf t) ≡ []
   refused v = checkedBytes-refused (argumentOf t) (rw v)
 
-  -- the size by that of the body
-  module _ (y : ℕ) (h : SmallParts t y) (body : ℕ) (q : body ≡ bodySize t y) (header : ℕ) (k : header ≡ length (headerBytes 0 body)) where
-    pub value-size : header + body ≡ valueSize t y
-    unfolding valueSize
-    value-size = rw (k, q)
+  module _ (v : isValid ≡ true) where
+    pub timestampBody-most : length bodyBytes ≤ 18
+    timestampBody-most = rw (← utc-body t) (body-most inUtc (utc-small t v))
 
-    pub value-fits : Fits w64 (header + body)
-    value-fits = record { fits = omega (arith, bodySize-most t y h, header-most 0 body (omega (arith, bodySize-most t y h))) }
+    pub accepted : (u : Timestamp) → u ≡ inUtc → valueOf u ≡ checkedBytes (argumentOf t)
+    unfolding argumentBytes valueOf
+    accepted u e =
+        ap valueOf e
+        ∙ (ap (framedBytes (typeByte timestampCode)) (utc-body t)
+        ∙ sym (checkedBytes-accepted (argumentOf t) (rw (v, le-ltb 32 (length bodyBytes) (omega (arith, timestampBody-most))))))
 
-  pub value-length : Small t → valueSize t (t .year) ≡ length (valueOf t)
-  unfolding valueSize valueOf
-  value-length h = rw (← (body-size t h)) (sym (length-framed (typeByte timestampCode) (bodyOf t)))
+    -- the fields below the year take one byte each, whether local or UTC
+    byYear-body : length (bodyOf byYear) ≡ length (bodyOf inUtc)
+    unfolding withFields
+    byYear-body = body-length byYear (utc-year-small t v) ∙ sym (body-length inUtc (utc-small t v))
 
-module _ (t : Timestamp) (v : isTimestamp (offsetMinutes (t .offset)) (fieldsOf t) (fractionDigits (t .fraction)) ≡ true) where
-  -- with its UTC fields
-  abbrev inUtc : Timestamp
-  inUtc = withFields t (utc (offsetMinutes (t .offset)) (fieldsOf t))
-
-  pub utc-parts : SmallParts t (inUtc .year)
-  unfolding withFields
-  utc-parts = let p = small-parts inUtc (utc-small t v) in record { offset = p .offset; year = p .year; fraction = p .fraction }
-
-  pub accepted-size : valueSize t (inUtc .year) ≡ length (checkedBytes (argumentOf t))
-  unfolding withFields valueSize bodySize
-  accepted-size = value-length inUtc (utc-small t v) ∙ ap length (accepted t v inUtc refl)
+    pub accepted-size : length (valueOf byYear) ≡ length (checkedBytes (argumentOf t))
+    unfolding valueOf
+    accepted-size =
+        length-framed (typeByte timestampCode) (bodyOf byYear)
+        ∙ (rw byYear-body (sym (length-framed (typeByte timestampCode) (bodyOf inUtc))) ∙ ap length (accepted inUtc refl))

@@ -2,7 +2,7 @@ pub mod Signed
 pub mod Calendar
 pub mod Valid
 pub mod Utc
-pub mod Bytes
+pub mod Fields
 pub mod Small
 pub mod Fractions
 pub mod Body

@@ -14,15 +14,16 @@ use lib.IntN.{ℤ}
 use Rattle.ion.specs.Value.{Fraction, noFraction, fraction}
 use Rattle.ion.specs.Calendar.{daysInMonth}
 use Rattle.ion.proofs.Tests.{by-cases, both}
-use Rattle.encoding.specs.Timestamp.{Date, date, dayBefore, dayAfter, nearDay, utcMinutes, fieldsAt, utc, offsetFits, fractionFits, isTimestamp, timestampBody}
+use Rattle.encoding.specs.Timestamp.{Date, date, dayBefore, dayAfter, utcMinutes, utcDay, fieldsAt, utc, offsetFits, fractionFits, isTimestamp, timestampBody}
 use Rattle.timestamp.specs.declared.Precision.{Precision}
 use Rattle.timestamp.specs.declared.Precision.the-variants.{Year, Month, Day, Minute, Second}
 use Rattle.timestamp.specs.declared.Timestamp.{Timestamp}
-use Rattle.timestamp.specs.Arguments.{offsetMinutes, fractionDigits, fieldCount, fieldsBy, fieldsOf}
+use Rattle.timestamp.specs.Arguments.{offsetMinutes, fractionDigits, fieldsBy, fieldsOf}
 use Rattle.timestamp.specs.Utc.{withFields}
 use Rattle.timestamp.specs.Small.{SmallOffset, AllSmall, SmallFields, SmallFraction, Small, bodyOf}
 use Rattle.timestamp.proofs.Calendar.{days-most}
-use Rattle.timestamp.proofs.Valid.{Valid, valid, offset-known}
+use Rattle.timestamp.proofs.Fields.{fieldsBy-year}
+use Rattle.timestamp.proofs.Valid.{fieldCount, Valid, valid, offset-known}
 use Rattle.timestamp.proofs.Utc.{dayBefore-day, dayBefore-month, dayBefore-year, dayAfter-day, dayAfter-month, dayAfter-year}
 
 -- ---- the nearby day
@@ -49,10 +50,11 @@ module _ (y m d : ℕ) (h : SmallDate (date y m d)) where
       (λ q. subst SmallDate (dayAfter-month y m d (ltb-false d (daysInMonth y m) p) (ltb-true m 12 q)) (h .0, omega (arith, ltb-true m 12 q), omega arith))
       (λ q. subst SmallDate (dayAfter-year y m d (ltb-false d (daysInMonth y m) p) (ltb-false m 12 q)) (omega arith, omega arith, omega arith)))
 
-near-small : (k y m d : ℕ) → y ≤ 9999 → SmallDate (date y m d) → SmallDate (nearDay k y m d)
-near-small zero y m d e h = before-small y m d h
-near-small (suc zero) y m d e h = h
-near-small (suc (suc k)) y m d e h = after-small y m d h e
+utcDay-small : (t y m d : ℕ) → y ≤ 9999 → SmallDate (date y m d) → SmallDate (utcDay t y m d)
+utcDay-small t y m d e h =
+    by-cases (ltb t 1440)
+    (λ p. rw p (before-small y m d h))
+    (λ p. by-cases (ltb t 2880) (λ q. rw (p, q) h) (λ q. rw (p, q) (after-small y m d h e)))
 
 fieldsAt-small : (x : Date) (n : ℕ) (r : List ℕ) → SmallDate x → AllSmall r → SmallFields (fieldsAt x n r)
 fieldsAt-small (date y m d) n r h k = (h .0, (h .1, (h .2, (omega arith, (omega arith, k)))))
@@ -72,9 +74,9 @@ module _ (y m d h i s : ℕ) (x : Fraction) where
       let t = v .time (omega arith) in
       (omega (arith, v .year .1), (omega (arith, v .month (omega arith) .1), (omega (arith, v .day (omega arith) .1, days-most y m), (omega (arith, t .0), (omega (arith, t .1), (omega (arith, v .second (omega arith)), tt))))))
 
-  near-date : (p : Precision) (o : Option ℤ) (k : ℕ) → 5 ≤ fieldCount p → Valid p y m d h i s o x → SmallDate (nearDay k y m d)
-  near-date p o k five v =
-      near-small k y m d (v .year .1)
+  utc-date : (p : Precision) (o : Option ℤ) (t : ℕ) → 5 ≤ fieldCount p → Valid p y m d h i s o x → SmallDate (utcDay t y m d)
+  utc-date p o t five v =
+      utcDay-small t y m d (v .year .1)
       (omega (arith, v .year .1), omega (arith, v .month (omega arith) .1), omega (arith, v .day (omega arith) .1, days-most y m))
 
   utc-fields-small : (p : Precision) (o : Option ℤ) → Valid p y m d h i s o x → SmallFields (utc o (fieldsBy p y m d h i s))
@@ -83,9 +85,11 @@ module _ (y m d h i s : ℕ) (x : Fraction) where
   utc-fields-small Month (some z) v = local-small Month (some z) v
   utc-fields-small Day (some z) v = local-small Day (some z) v
   utc-fields-small Minute (some z) v =
-      fieldsAt-small (nearDay (utcMinutes z h i / 1440) y m d) (utcMinutes z h i) [] (near-date Minute (some z) (utcMinutes z h i / 1440) (omega arith) v) tt
+      let t = utcMinutes z h i in
+      fieldsAt-small (utcDay t y m d) t [] (utc-date Minute (some z) t (omega arith) v) tt
   utc-fields-small Second (some z) v =
-      fieldsAt-small (nearDay (utcMinutes z h i / 1440) y m d) (utcMinutes z h i) (s ∷ []) (near-date Second (some z) (utcMinutes z h i / 1440) (omega arith) v) (omega (arith, v .second (omega arith)), tt)
+      let t = utcMinutes z h i in
+      fieldsAt-small (utcDay t y m d) t (s ∷ []) (utc-date Second (some z) t (omega arith) v) (omega (arith, v .second (omega arith)), tt)
 
   offset-small : (p : Precision) (o : Option ℤ) → offsetFits o (fieldsBy p y m d h i s) ≡ true → SmallOffset o
   offset-small p none e = tt
@@ -99,6 +103,17 @@ fraction-small (fraction k c) fs e =
     let most : k ≤ 18 = leb-true k 18 (b .0) in
     let below : 10 ^ k ≤ 10 ^ 18 = pow-le-pow-right {n = 10} (omega arith) most in
     (leb-true 1 k (a .0), omega arith, omega (arith, ltb-true c (10 ^ k) (b .1)))
+
+-- another year in the place of the first field
+year-in : (y m d h i s : ℕ) (p : Precision) (y′ : ℕ) → SmallFields (fieldsBy p y m d h i s) → y′ < 16384 → SmallFields (fieldsBy p y′ m d h i s)
+year-in y m d h i s Year y′ k l = (l, k .1)
+year-in y m d h i s Month y′ k l = (l, k .1)
+year-in y m d h i s Day y′ k l = (l, k .1)
+year-in y m d h i s Minute y′ k l = (l, k .1)
+year-in y m d h i s Second y′ k l = (l, k .1)
+
+year-of : (t : Timestamp) → SmallFields (fieldsOf t) → t .year < 16384
+year-of t k = fieldsBy-year (t .year) (t .month) (t .day) (t .hour) (t .minute) (t .second) (t .precision) k
 
 -- ---- in the place of the local ones
 
@@ -132,8 +147,8 @@ module _ (t : Timestamp) where
   fieldsWith-utc Year (some z) = refl
   fieldsWith-utc Month (some z) = refl
   fieldsWith-utc Day (some z) = refl
-  fieldsWith-utc Minute (some z) = let n = utcMinutes z (t .hour) (t .minute) in minute-with (nearDay (n / 1440) (t .year) (t .month) (t .day)) n
-  fieldsWith-utc Second (some z) = let n = utcMinutes z (t .hour) (t .minute) in second-with (nearDay (n / 1440) (t .year) (t .month) (t .day)) n (t .second)
+  fieldsWith-utc Minute (some z) = let n = utcMinutes z (t .hour) (t .minute) in minute-with (utcDay n (t .year) (t .month) (t .day)) n
+  fieldsWith-utc Second (some z) = let n = utcMinutes z (t .hour) (t .minute) in second-with (utcDay n (t .year) (t .month) (t .day)) n (t .second)
 
   pub utc-small : isTimestamp (offsetMinutes (t .offset)) (fieldsOf t) (fractionDigits (t .fraction)) ≡ true → Small (withFields t (utc (offsetMinutes (t .offset)) (fieldsOf t)))
   unfolding withFields
@@ -145,6 +160,23 @@ module _ (t : Timestamp) where
         offset = offset-small (t .year) (t .month) (t .day) (t .hour) (t .minute) (t .second) x (t .precision) o (v .offset);
         fields = rw (fieldsWith-utc (t .precision) o) (utc-fields-small (t .year) (t .month) (t .day) (t .hour) (t .minute) (t .second) x (t .precision) o v);
         fraction = fraction-small x (fieldsOf t) (v .fraction);
+      }
+
+  -- with the UTC year alone
+  pub utc-year-small : isTimestamp (offsetMinutes (t .offset)) (fieldsOf t) (fractionDigits (t .fraction)) ≡ true →
+      Small (withFields t (withFields t (utc (offsetMinutes (t .offset)) (fieldsOf t)) .year ∷ []))
+  unfolding withFields
+  utc-year-small e =
+      let o = offsetMinutes (t .offset) in
+      let x = fractionDigits (t .fraction) in
+      let v = valid (t .precision) (t .year) (t .month) (t .day) (t .hour) (t .minute) (t .second) o x e in
+      let l = local-small (t .year) (t .month) (t .day) (t .hour) (t .minute) (t .second) x (t .precision) o v in
+      let y = withFields t (utc o (fieldsOf t)) in
+      let u = utc-small e in
+      record {
+        offset = u .offset;
+        fields = year-in (t .year) (t .month) (t .day) (t .hour) (t .minute) (t .second) (t .precision) (y .year) l (year-of y (u .fields));
+        fraction = u .fraction;
       }
 
   pub utc-body : bodyOf (withFields t (utc (offsetMinutes (t .offset)) (fieldsOf t))) ≡ timestampBody (offsetMinutes (t .offset)) (fieldsOf t) (fractionDigits (t .fraction))

@@ -1,6 +1,6 @@
 -- Local minus offset: the nearby day, the minutes, and the fields that they make.
 -- By the cases of each definition. Assumes nothing.
-use Prim.Native.Nat.{ℕ, zero, suc, _+_, _-_, _*_, _/_, _≤_, _<_}
+use Prim.Native.Nat.{ℕ, _+_, _-_, _*_, _≤_, _<_}
 use native.Mathlib.Omega.{arith}
 use mathlib.Core.Path.{_≡_, refl, sym, _∙_, ap, subst}
 use mathlib.Core.Bool.{true, false, false≢true}
@@ -12,16 +12,16 @@ use lib.Signed.{ltZ}
 use Rattle.ion.specs.Value.{signed}
 use Rattle.ion.specs.Calendar.{daysInMonth}
 use Rattle.encoding.specs.Fields.{signedOf}
-use Rattle.encoding.specs.Timestamp.{Date, date, dayBefore, dayAfter, nearDay, utcMinutes, fieldsAt, utcFields, utc, isTimestamp}
+use Rattle.encoding.specs.Timestamp.{Date, date, dayBefore, dayAfter, utcMinutes, utcDay, fieldsAt, utcFields, utc, isTimestamp}
 use Rattle.fields.proofs.Signs.{below-zero, signedOf-is}
 use Rattle.timestamp.specs.declared.Precision.{Precision}
 use Rattle.timestamp.specs.declared.Precision.the-variants.{Year, Month, Day, Minute, Second}
 use Rattle.timestamp.specs.declared.Offset.{Offset}
 use Rattle.timestamp.specs.declared.Offset.the-variants.{Unknown, Minutes}
 use Rattle.timestamp.specs.declared.Timestamp.{Timestamp}
-use Rattle.timestamp.specs.Arguments.{offsetMinutes, fractionDigits, fieldCount, fieldsBy, fieldsOf}
+use Rattle.timestamp.specs.Arguments.{offsetMinutes, fractionDigits, fieldsBy, fieldsOf}
 use Rattle.timestamp.specs.Utc.{withFields, utcOf}
-use Rattle.timestamp.proofs.Valid.{Valid, valid, offset-known}
+use Rattle.timestamp.proofs.Valid.{fieldCount, Valid, valid, offset-known}
 
 pub utcMinutes-west : (z : ℤ) (h i : ℕ) → ltZ z (pos 0) ≡ true → 1440 + (h * 60 + i) + natAbs z ≡ utcMinutes z h i
 utcMinutes-west (pos n) h i e = absurd (omega (arith, ltb-true n 0 e))
@@ -59,10 +59,14 @@ pub dayAfter-year : (y m d : ℕ) → daysInMonth y m ≤ d → 12 ≤ m → dat
 unfolding dayAfter
 dayAfter-year y m d h k = rw (le-ltb d (daysInMonth y m) h, le-ltb m 12 k, dayAfter)
 
-pub nearDay-after : (k y m d : ℕ) → (k ≡ 0 → ⊥) → (k ≡ 1 → ⊥) → dayAfter y m d ≡ nearDay k y m d
-nearDay-after zero y m d f g = absurd (f refl)
-nearDay-after (suc zero) y m d f g = absurd (g refl)
-nearDay-after (suc (suc k)) y m d f g = refl
+pub utcDay-before : (t y m d : ℕ) → t < 1440 → dayBefore y m d ≡ utcDay t y m d
+utcDay-before t y m d h = rw (lt-ltb t 1440 h)
+
+pub utcDay-same : (t y m d : ℕ) → 1440 ≤ t → t < 2880 → date y m d ≡ utcDay t y m d
+utcDay-same t y m d h k = rw (le-ltb t 1440 h, lt-ltb t 2880 k)
+
+pub utcDay-after : (t y m d : ℕ) → 2880 ≤ t → dayAfter y m d ≡ utcDay t y m d
+utcDay-after t y m d h = rw (le-ltb t 1440 (omega arith), le-ltb t 2880 h)
 
 -- the second stays
 withFields-second : (t : Timestamp) (x : Date) (n : ℕ) → withFields t (fieldsAt x n []) ≡ withFields t (fieldsAt x n (t .second ∷ []))
@@ -76,7 +80,7 @@ utc-at-minute t Year z h = absurd (omega arith)
 utc-at-minute t Month z h = absurd (omega arith)
 utc-at-minute t Day z h = absurd (omega arith)
 utc-at-minute t Minute z h = refl
-utc-at-minute t Second z h = withFields-second t (nearDay (utcMinutes z (t .hour) (t .minute) / 1440) (t .year) (t .month) (t .day)) (utcMinutes z (t .hour) (t .minute))
+utc-at-minute t Second z h = withFields-second t (utcDay (utcMinutes z (t .hour) (t .minute)) (t .year) (t .month) (t .day)) (utcMinutes z (t .hour) (t .minute))
 
 withFields-same : (t : Timestamp) (p : Precision) → t ≡ withFields t (fieldsBy p (t .year) (t .month) (t .day) (t .hour) (t .minute) (t .second))
 unfolding withFields
@@ -110,7 +114,7 @@ module _ (t : Timestamp) where
 
   -- by the day that the minute is of
   pub utc-year-known : (z : ℤ) → t .offset ≡ Minutes z → 5 ≤ fieldCount (t .precision) →
-      (y m d : ℕ) → date y m d ≡ nearDay (utcMinutes z (t .hour) (t .minute) / 1440) (t .year) (t .month) (t .day) → y ≡ withFields t (utc (offsetMinutes (t .offset)) (fieldsOf t)) .year
+      (y m d : ℕ) → date y m d ≡ utcDay (utcMinutes z (t .hour) (t .minute)) (t .year) (t .month) (t .day) → y ≡ withFields t (utc (offsetMinutes (t .offset)) (fieldsOf t)) .year
   unfolding withFields
   utc-year-known z e h y m d q =
       let s : y ≡ withFields t (utcFields (utcMinutes z (t .hour) (t .minute)) (t .year) (t .month) (t .day) []) .year = rw (← q) in

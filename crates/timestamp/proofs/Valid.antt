@@ -17,7 +17,15 @@ use Rattle.ion.proofs.Tests.{both}
 use Rattle.encoding.specs.Timestamp.{offsetFits, fractionFits, isTimestamp}
 use Rattle.timestamp.specs.declared.Precision.{Precision}
 use Rattle.timestamp.specs.declared.Precision.the-variants.{Year, Month, Day, Minute, Second}
-use Rattle.timestamp.specs.Arguments.{fieldCount, fieldsBy}
+use Rattle.timestamp.specs.Arguments.{fieldsBy}
+
+-- how many fields count
+abbrev pub fieldCount : Precision → ℕ
+fieldCount Year = 1
+fieldCount Month = 2
+fieldCount Day = 3
+fieldCount Minute = 5
+fieldCount Second = 6
 
 pub length-fieldsBy : (p : Precision) (y m d h i s : ℕ) → length (fieldsBy p y m d h i s) ≡ fieldCount p
 length-fieldsBy Year y m d h i s = refl

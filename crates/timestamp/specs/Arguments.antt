@@ -23,14 +23,7 @@ abbrev pub fractionDigits : Fraction → IonFraction
 fractionDigits None = noFraction
 fractionDigits (Digits k c) = fraction k c
 
--- how many fields there are, from the year down
-abbrev pub fieldCount : Precision → ℕ
-fieldCount Year = 1
-fieldCount Month = 2
-fieldCount Day = 3
-fieldCount Minute = 5
-fieldCount Second = 6
-
+-- the fields that count, from the year down
 abbrev pub fieldsBy : Precision → ℕ → ℕ → ℕ → ℕ → ℕ → ℕ → List ℕ
 fieldsBy Year y m d h i s = y ∷ []
 fieldsBy Month y m d h i s = y ∷ m ∷ []

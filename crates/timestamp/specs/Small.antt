@@ -1,16 +1,15 @@
 -- How small the numbers of a timestamp are once check 7 is passed and its fields are UTC, and the bytes that they then take.
 -- Assumes nothing.
-use Prim.Native.Nat.{ℕ, _+_, _-_, _%_, _^_, _≤_, _<_}
-use mathlib.Core.List.{List, [], _∷_, _++_, map}
+use Prim.Native.Nat.{ℕ, _^_, _≤_, _<_}
+use mathlib.Core.List.{List, [], _∷_, _++_}
 use mathlib.Core.Option.{Option, none, some}
-use lib.ListN.{length}
 use lib.IntN.{ℤ, natAbs}
 use Rattle.ion.specs.Value.{timestampCode, Fraction, noFraction, fraction}
-use Rattle.encoding.specs.Fields.{varUIntBytes, varUIntsBytes}
-use Rattle.encoding.specs.Headers.{typeByte, headerBytes, framedBytes}
+use Rattle.encoding.specs.Fields.{varUIntsBytes}
+use Rattle.encoding.specs.Headers.{typeByte, framedBytes}
 use Rattle.encoding.specs.Timestamp.{offsetBytes, fractionBytes}
 use Rattle.timestamp.specs.declared.Timestamp.{Timestamp}
-use Rattle.timestamp.specs.Arguments.{offsetMinutes, fractionDigits, fieldCount, fieldsOf}
+use Rattle.timestamp.specs.Arguments.{offsetMinutes, fractionDigits, fieldsOf}
 
 -- two bytes hold the offset
 abbrev pub SmallOffset : Option ℤ → Type 0
@@ -21,10 +20,6 @@ SmallOffset (some z) = natAbs z < 8192
 abbrev pub AllSmall : List ℕ → Type 0
 AllSmall [] = Unit {0}
 AllSmall (n ∷ ns) = (n < 128) × AllSmall ns
-
--- the lowest seven bits of each, and the end flag
-abbrev pub endBytes : List ℕ → List ℕ
-endBytes ns = map (λ (n : ℕ). 0x80 + n % 128) ns
 
 -- two bytes hold the year
 abbrev pub SmallFields : List ℕ → Type 0
@@ -40,21 +35,6 @@ pub record Small (t : Timestamp) : Type 0 where
   pub offset : SmallOffset (offsetMinutes (t .offset))
   pub fields : SmallFields (fieldsOf t)
   pub fraction : SmallFraction (fractionDigits (t .fraction))
-
--- the parts that are of more than one byte, by their UTC year
-pub record SmallParts (t : Timestamp) (y : ℕ) : Type 0 where
-  pub offset : SmallOffset (offsetMinutes (t .offset))
-  pub year : y < 16384
-  pub fraction : SmallFraction (fractionDigits (t .fraction))
-
--- the bytes of the body by its UTC year: each other field is one byte
-unfoldable pub bodySize : Timestamp → ℕ → ℕ
-bodySize t y =
-    length (offsetBytes (offsetMinutes (t .offset))) + (length (varUIntBytes y) + (fieldCount (t .precision) - 1) + length (fractionBytes (fractionDigits (t .fraction))))
-
--- header and body
-unfoldable pub valueSize : Timestamp → ℕ → ℕ
-valueSize t y = length (headerBytes 0 (bodySize t y)) + bodySize t y
 
 -- the body of a timestamp whose fields are UTC
 unfoldable pub bodyOf : Timestamp → List ℕ

@@ -2,20 +2,19 @@
 // A field is 32 bits wide and never cut: a year of 70000 is a bad year.
 ghost use mathlib.Core.Path.{_≡_};
 ghost use mathlib.Core.Bool.{true, cond, _&&_};
-ghost use mathlib.Core.List.{List, [], _∷_};
-ghost use Prim.Native.Nat.{ℕ, _+_, _^_, _≤_, _<_};
+ghost use mathlib.Core.List.{List, []};
+ghost use Prim.Native.Nat.{ℕ, _+_, _%_, _^_, _≤_, _<_};
 ghost use lib.Dec.{ltb, leb};
-ghost use lib.ListN.{length, take};
+ghost use lib.ListN.{length};
 ghost use lib.IntN.{natAbs};
 ghost use Rattle.ion.specs.Calendar.{isLeapYear, daysInMonth, isMonth};
-ghost use Rattle.ion.specs.Value.{signed};
 ghost use Rattle.buffer.specs.Laid.{placed, fitted};
-ghost use Rattle.encoding.specs.Fields.{varUIntBytes, signBit, varIntBytes};
+ghost use Rattle.encoding.specs.Fields.{varUIntBytes, varUIntsBytes};
 ghost use Rattle.encoding.specs.Argument.{checkedBytes};
-ghost use Rattle.encoding.specs.Timestamp.{offsetBytes, fractionBytes, dayBefore, dayAfter, nearDay, utcMinutes, utcFields, utc, offsetFits, fractionFits, isTimestamp};
-ghost use Rattle.timestamp.specs.Arguments.{offsetMinutes, fractionDigits, fieldCount, fieldsOf, argumentOf};
+ghost use Rattle.encoding.specs.Timestamp.{offsetBytes, fractionBytes, dayBefore, dayAfter, utcMinutes, utcDay, utcFields, utc, offsetFits, fractionFits, isTimestamp};
+ghost use Rattle.timestamp.specs.Arguments.{offsetMinutes, fractionDigits, fieldsBy, fieldsOf, argumentOf};
 ghost use Rattle.timestamp.specs.Utc.{dateOf, withFields, utcOf};
-ghost use Rattle.timestamp.specs.Small.{SmallOffset, SmallFraction, SmallParts, Small, endBytes, bodySize, valueSize, bodyOf, valueOf};
+ghost use Rattle.timestamp.specs.Small.{SmallOffset, SmallFields, SmallFraction, Small, bodyOf, valueOf};
 
 // The last field that counts; those below it mean nothing. With a minute there is an hour.
 pub enum Precision {
@@ -98,7 +97,7 @@ fn is_day(year: u32, month: u32, day: u32) -> bool
 
 // How many fields count, from the year down.
 fn field_count(precision: Precision) -> u32
-    ensures { λ r. ⌜ r ≡ fieldCount precision ⌝ }
+    ensures { λ r. ⌜ ((y m d h i s : ℕ) → r ≡ length (fieldsBy precision y m d h i s)) ⌝ }
 {
     match precision {
         Precision::Year => 1,
@@ -194,6 +193,9 @@ pub fn is_valid(t: Timestamp) -> bool
 // Year, month, day.
 struct Date(u32, u32, u32);
 
+// The minutes of a day.
+const DAY: u32 = 1440;
+
 fn day_before(year: u32, month: u32, day: u32) -> Date
     requires { ⌜ 1 ≤ year ⌝ }
     ensures { λ r. ⌜ dateOf r ≡ dayBefore year month day ⌝ }
@@ -220,24 +222,12 @@ fn day_after(year: u32, month: u32, day: u32) -> Date
     Date(year + 1, 1, 1)
 }
 
-// 0 for the day before, 1 for the day itself, 2 for the day after.
-fn near_day(which: u32, year: u32, month: u32, day: u32) -> Date
-    requires { ⌜ (1 ≤ year) × (year ≤ 9999) ⌝ }
-    ensures { λ r. ⌜ dateOf r ≡ nearDay which year month day ⌝ }
-{
-    match which {
-        0 => day_before(year, month, day),
-        1 => Date(year, month, day),
-        _ => day_after(year, month, day),
-    }
-}
-
 // In minutes from the start of the day before.
 fn utc_minutes(offset: i32, hour: u32, minute: u32) -> u32
     requires { ⌜ (natAbs offset ≤ 1439) × (hour < 24) × (minute < 60) ⌝ }
     ensures { λ r. ⌜ r ≡ utcMinutes offset hour minute ⌝ }
 {
-    let local = 1440 + (hour * 60 + minute);
+    let local = DAY + (hour * 60 + minute);
     let distance = offset_magnitude(offset);
     if offset < 0 {
         return local + distance;
@@ -245,12 +235,26 @@ fn utc_minutes(offset: i32, hour: u32, minute: u32) -> u32
     local - distance
 }
 
-// The fields of the minute that is so many minutes behind the start of the day before.
+// The day of the minute that is so many minutes behind the start of the day before.
+fn utc_day(minutes: u32, year: u32, month: u32, day: u32) -> Date
+    requires { ⌜ (1 ≤ year) × (year ≤ 9999) ⌝ }
+    ensures { λ r. ⌜ dateOf r ≡ utcDay minutes year month day ⌝ }
+{
+    if minutes < DAY {
+        return day_before(year, month, day);
+    }
+    if minutes < 2 * DAY {
+        return Date(year, month, day);
+    }
+    day_after(year, month, day)
+}
+
+// The fields of that minute.
 fn at_minute(t: Timestamp, minutes: u32) -> Timestamp
     requires { ⌜ (1 ≤ t .year) × (t .year ≤ 9999) ⌝ }
     ensures { λ r. ⌜ r ≡ withFields t (utcFields minutes (t .year) (t .month) (t .day) []) ⌝ }
 {
-    let day = near_day(minutes / 1440, t.year, t.month, t.day);
+    let day = utc_day(minutes, t.year, t.month, t.day);
     let precision = t.precision;
     let offset = t.offset;
     let fraction = t.fraction;
@@ -259,8 +263,8 @@ fn at_minute(t: Timestamp, minutes: u32) -> Timestamp
         year: day.0,
         month: day.1,
         day: day.2,
-        hour: minutes % 1440 / 60,
-        minute: minutes % 1440 % 60,
+        hour: minutes % DAY / 60,
+        minute: minutes % DAY % 60,
         second: t.second,
         offset,
         fraction,
@@ -288,8 +292,8 @@ fn utc_year(t: Timestamp) -> u32
     match offset {
         Offset::Unknown => t.year,
         Offset::Minutes(minutes) => {
-            let day = near_day(
-                utc_minutes(minutes, t.hour, t.minute) / 1440,
+            let day = utc_day(
+                utc_minutes(minutes, t.hour, t.minute),
                 t.year,
                 t.month,
                 t.day,
@@ -313,46 +317,20 @@ pub fn to_utc(t: Timestamp) -> Timestamp
 
 const TYPE_CODE: u8 = 0x60;
 
-const END_FLAG: u8 = 0x80;
-
-// In the first byte of a VarInt.
-const SIGN: u8 = 0x40;
-
-fn put_two(buf: &mut [u8], at: usize, first: u8, second: u8) -> usize
-    ensures { λ r. ⌜ _≡_ {A = ℕ × List ℕ} (r, now (buf .exit)) (placed (now (buf .entry)) at (first ∷ second ∷ [])) ⌝ }
+// Of an offset that two bytes hold. The remainder lets the compiler see that they do.
+fn small_magnitude(minutes: i32) -> u64
+    requires { ⌜ natAbs minutes < 8192 ⌝ }
+    ensures { λ r. ⌜ r ≡ natAbs minutes ⌝ }
 {
-    if !buffer::has_room(buf.len(), at, 2) {
-        return 0;
-    }
-    buf[at] = first;
-    buf[at + 1] = second;
-    2
+    (offset_magnitude(minutes) % 8192) as u64
 }
 
-fn sign_bit(negative: bool) -> u8
-    ensures { λ r. ⌜ (r ≡ signBit negative) × (r ≤ 64) ⌝ }
+// Of a year that two bytes hold, likewise.
+fn small_year(year: u32) -> u64
+    requires { ⌜ year < 16384 ⌝ }
+    ensures { λ r. ⌜ r ≡ year ⌝ }
 {
-    if negative {
-        return SIGN;
-    }
-    0
-}
-
-// A VarInt below 8192: one byte below 64, else two.
-fn put_var_int(buf: &mut [u8], at: usize, negative: bool, magnitude: u32) -> usize
-    requires { ⌜ magnitude < 8192 ⌝ }
-    ensures { λ r. ⌜ _≡_ {A = ℕ × List ℕ} (r, now (buf .exit)) (placed (now (buf .entry)) at (varIntBytes (signed negative magnitude))) ⌝ }
-{
-    let sign = sign_bit(negative);
-    if magnitude < 64 {
-        return buffer::put(buf, at, END_FLAG + sign + magnitude as u8);
-    }
-    put_two(
-        buf,
-        at,
-        sign + (magnitude / 128) as u8,
-        END_FLAG + (magnitude % 128) as u8,
-    )
+    (year % 16384) as u64
 }
 
 // The offset as a VarInt. Unknown is negative zero.
@@ -361,60 +339,49 @@ fn put_offset(buf: &mut [u8], at: usize, offset: Offset) -> usize
     ensures { λ r. ⌜ _≡_ {A = ℕ × List ℕ} (r, now (buf .exit)) (placed (now (buf .entry)) at (offsetBytes (offsetMinutes offset))) ⌝ }
 {
     match offset {
-        Offset::Unknown => put_var_int(buf, at, true, 0),
-        Offset::Minutes(minutes) => put_var_int(buf, at, minutes < 0, offset_magnitude(minutes)),
+        Offset::Unknown => fields::var_int::write(buf, at, true, 0),
+        Offset::Minutes(minutes) => {
+            fields::var_int::write(buf, at, minutes < 0, small_magnitude(minutes))
+        }
     }
 }
 
-// The year as a VarUInt: one byte below 128, else two.
-fn put_year(buf: &mut [u8], at: usize, year: u32) -> usize
-    requires { ⌜ year < 16384 ⌝ }
-    ensures { λ r. ⌜ _≡_ {A = ℕ × List ℕ} (r, now (buf .exit)) (placed (now (buf .entry)) at (varUIntBytes year)) ⌝ }
+// One byte holds each field below the year; the remainder lets the compiler see that it does.
+fn put_small(buf: &mut [u8], at: usize, value: u32) -> usize
+    ensures { λ r. ⌜ _≡_ {A = ℕ × List ℕ} (r, now (buf .exit)) (placed (now (buf .entry)) at (varUIntBytes (value % 128))) ⌝ }
 {
-    if year < 128 {
-        return buffer::put(buf, at, END_FLAG + year as u8);
-    }
-    put_two(buf, at, (year / 128) as u8, END_FLAG + (year % 128) as u8)
+    fields::var_uint::write(buf, at, (value % 128) as u64)
 }
 
-// The first `count` fields below the year as VarUInts: a byte each.
-fn put_small(
-    buf: &mut [u8],
-    at: usize,
-    count: usize,
-    month: u32,
-    day: u32,
-    hour: u32,
-    minute: u32,
-    second: u32,
-) -> usize
-    requires { ⌜ (count ≤ 5) × (at + count ≤ length (now buf)) ⌝ }
-    ensures { λ r. ⌜ _≡_ {A = ℕ × List ℕ} (r, now (buf .exit)) (placed (now (buf .entry)) at (take count (endBytes (month ∷ day ∷ hour ∷ minute ∷ second ∷ [])))) ⌝ }
+// The fields as VarUInts, as far as the precision goes. Those below the year take one byte each, and there is room for them.
+fn put_fields(buf: &mut [u8], at: usize, t: Timestamp) -> usize
+    requires { ⌜ SmallFields (fieldsOf t) × (at + length (varUIntsBytes (fieldsOf t)) ≤ length (now buf)) ⌝ }
+    ensures { λ r. ⌜ _≡_ {A = ℕ × List ℕ} (r, now (buf .exit)) (placed (now (buf .entry)) at (varUIntsBytes (fieldsOf t))) ⌝ }
 {
-    if count < 1 {
-        return 0;
+    let precision = t.precision;
+    let year = fields::var_uint::write(buf, at, small_year(t.year));
+    let below = at + year;
+    if let Precision::Year = precision {
+        return year;
     }
-    buf[at] = END_FLAG + (month % 128) as u8;
-    if count < 2 {
-        return 1;
+    put_small(buf, below, t.month);
+    if let Precision::Month = precision {
+        return year + 1;
     }
-    buf[at + 1] = END_FLAG + (day % 128) as u8;
-    if count < 3 {
-        return 2;
+    put_small(buf, below + 1, t.day);
+    if let Precision::Day = precision {
+        return year + 2;
     }
-    buf[at + 2] = END_FLAG + (hour % 128) as u8;
-    if count < 4 {
-        return 3;
+    put_small(buf, below + 2, t.hour);
+    put_small(buf, below + 3, t.minute);
+    if let Precision::Minute = precision {
+        return year + 4;
     }
-    buf[at + 3] = END_FLAG + (minute % 128) as u8;
-    if count < 5 {
-        return 4;
-    }
-    buf[at + 4] = END_FLAG + (second % 128) as u8;
-    5
+    put_small(buf, below + 4, t.second);
+    year + 5
 }
 
-// A decimal's body: the exponent, below zero, in one byte, then the coefficient as an Int.
+// A decimal's body: the exponent, below zero, which one byte holds, then the coefficient as an Int.
 fn put_fraction(buf: &mut [u8], at: usize, fraction: Fraction) -> usize
     requires { ⌜ SmallFraction (fractionDigits fraction) × (at + length (fractionBytes (fractionDigits fraction)) ≤ length (now buf)) ⌝ }
     ensures { λ r. ⌜ _≡_ {A = ℕ × List ℕ} (r, now (buf .exit)) (placed (now (buf .entry)) at (fractionBytes (fractionDigits fraction))) ⌝ }
@@ -422,8 +389,8 @@ fn put_fraction(buf: &mut [u8], at: usize, fraction: Fraction) -> usize
     match fraction {
         Fraction::None => 0,
         Fraction::Digits(digits, coefficient) => {
-            let exponent = buffer::put(buf, at, END_FLAG + SIGN + digits as u8);
-            exponent + fields::int::write_u64(buf, at + exponent, coefficient)
+            fields::var_int::write(buf, at, true, (digits % 64) as u64);
+            1 + fields::int::write_u64(buf, at + 1, coefficient)
         }
     }
 }
@@ -433,16 +400,9 @@ fn offset_size(offset: Offset) -> usize
     ensures { λ r. ⌜ r ≡ length (offsetBytes (offsetMinutes offset)) ⌝ }
 {
     match offset {
-        Offset::Unknown => 1,
-        Offset::Minutes(minutes) => (64 <= offset_magnitude(minutes)) as usize + 1,
+        Offset::Unknown => fields::var_int::encoded_size_of(0),
+        Offset::Minutes(minutes) => fields::var_int::encoded_size_of(small_magnitude(minutes)),
     }
-}
-
-fn year_size(year: u32) -> usize
-    requires { ⌜ year < 16384 ⌝ }
-    ensures { λ r. ⌜ r ≡ length (varUIntBytes year) ⌝ }
-{
-    (128 <= year) as usize + 1
 }
 
 fn fraction_size(fraction: Fraction) -> usize
@@ -455,16 +415,18 @@ fn fraction_size(fraction: Fraction) -> usize
     }
 }
 
-// The size of the body by the UTC year; the other fields count by their number alone.
-fn body_size(t: Timestamp, year: u32) -> usize
-    requires { ⌜ SmallParts t year ⌝ }
-    ensures { λ r. ⌜ r ≡ bodySize t year ⌝ }
+// The fields below the year count by their number alone.
+fn body_size(t: Timestamp) -> usize
+    requires { ⌜ Small t ⌝ }
+    ensures { λ r. ⌜ r ≡ length (bodyOf t) ⌝ }
 {
     let precision = t.precision;
     let offset = t.offset;
     let fraction = t.fraction;
     offset_size(offset)
-        + (year_size(year) + (field_count(precision) as usize - 1) + fraction_size(fraction))
+        + (fields::var_uint::encoded_size_of(small_year(t.year))
+            + (field_count(precision) as usize - 1)
+            + fraction_size(fraction))
 }
 
 // Offset, UTC fields, fraction.
@@ -472,32 +434,19 @@ fn put_body(buf: &mut [u8], at: usize, t: Timestamp) -> usize
     requires { ⌜ Small t × (at + length (bodyOf t) ≤ length (now buf)) ⌝ }
     ensures { λ r. ⌜ _≡_ {A = ℕ × List ℕ} (r, now (buf .exit)) (placed (now (buf .entry)) at (bodyOf t)) ⌝ }
 {
-    let precision = t.precision;
     let offset = t.offset;
     let fraction = t.fraction;
-    let count = field_count(precision) as usize - 1;
     let one = put_offset(buf, at, offset);
-    let two = one + put_year(buf, at + one, t.year);
-    let three = two
-        + put_small(
-            buf,
-            at + two,
-            count,
-            t.month,
-            t.day,
-            t.hour,
-            t.minute,
-            t.second,
-        );
-    three + put_fraction(buf, at + three, fraction)
+    let two = one + put_fields(buf, at + one, t);
+    two + put_fraction(buf, at + two, fraction)
 }
 
 // Header and body.
-fn value_size(t: Timestamp, year: u32) -> usize
-    requires { ⌜ SmallParts t year ⌝ }
-    ensures { λ r. ⌜ r ≡ valueSize t year ⌝ }
+fn value_size(t: Timestamp) -> usize
+    requires { ⌜ Small t ⌝ }
+    ensures { λ r. ⌜ r ≡ length (valueOf t) ⌝ }
 {
-    let body = body_size(t, year);
+    let body = body_size(t);
     fields::header::encoded_size_of(body) + body
 }
 
@@ -505,7 +454,7 @@ fn put_value(buf: &mut [u8], at: usize, t: Timestamp) -> usize
     requires { ⌜ Small t ⌝ }
     ensures { λ r. ⌜ _≡_ {A = ℕ × List ℕ} (r, now (buf .exit)) (placed (now (buf .entry)) at (valueOf t)) ⌝ }
 {
-    let body = body_size(t, t.year);
+    let body = body_size(t);
     let size = fields::header::encoded_size_of(body) + body;
     if !buffer::has_room(buf.len(), at, size) {
         return 0;
@@ -515,13 +464,16 @@ fn put_value(buf: &mut [u8], at: usize, t: Timestamp) -> usize
 }
 
 // The bytes that `t` takes, header and body, where they are at most `room`; none where it does not pass check 7.
+// Of the UTC fields only the year can take another count of bytes than the local one.
 pub fn size(t: Timestamp, room: usize) -> usize
     ensures { λ r. ⌜ r ≡ fitted room (checkedBytes (argumentOf t)) ⌝ }
 {
     if !is_valid(t) {
         return 0;
     }
-    let size = value_size(t, utc_year(t));
+    let mut by_year = t;
+    by_year.year = utc_year(t);
+    let size = value_size(by_year);
     if room < size {
         return 0;
     }

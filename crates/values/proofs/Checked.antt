@@ -1,18 +1,15 @@
--- An annotated scalar by its checks: its bytes, that it has some, and that it is its checked bytes where there are no annotations.
+-- An annotated scalar by its checks: its bytes, and that it is its checked bytes where there are no annotations.
 -- By the test of the checks. Assumes nothing.
 use mathlib.Core.Path.{_≡_, refl, sym, _∙_, ap}
 use mathlib.Core.List.{List, []}
 use mathlib.Core.Bool.{true, false}
-use Prim.Native.Nat.{ℕ, _<_}
-use native.Mathlib.Omega.{arith}
+use Prim.Native.Nat.{ℕ}
 use lib.ListN.{length}
 use Rattle.encoding.specs.Headers.{annotatedBytes}
 use Rattle.encoding.specs.Argument.{Argument, argumentBytes, argumentChecks, anyHolds, checkedBytes}
-use Rattle.encoding.proofs.Headers.{annotated-longer}
 use Rattle.buffer.specs.Laid.{placed}
 use Rattle.annotations.specs.Sids.{sidsOf}
 use Rattle.annotations.proofs.Sids.{sids-none}
-use Rattle.scalars.proofs.Bytes.{argument-some}
 use Rattle.values.specs.Values.{annotatedChecked}
 
 module _ (an : List ℕ) (a : Argument) where
@@ -23,10 +20,6 @@ module _ (an : List ℕ) (a : Argument) where
   pub annotated-accepted : anyHolds (argumentChecks a) ≡ false → annotatedChecked an a ≡ annotatedBytes an (argumentBytes a)
   unfolding annotatedChecked
   annotated-accepted e = rw (e, annotatedChecked)
-
-  -- so an answer of 0 says that it was refused or did not fit
-  pub annotated-some : anyHolds (argumentChecks a) ≡ false → 0 < length (annotatedChecked an a)
-  annotated-some e = rw (annotated-accepted e) (omega (arith, annotated-longer an (argumentBytes a), argument-some a))
 
 pub annotated-plain : (a : Argument) → annotatedChecked [] a ≡ checkedBytes a
 unfolding annotatedChecked checkedBytes annotatedBytes

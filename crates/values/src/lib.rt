@@ -6,7 +6,8 @@ ghost use mathlib.Core.List.{List};
 ghost use Prim.Native.Nat.{ℕ, _*_, _/_, _<_};
 ghost use lib.ListN.{length};
 ghost use Rattle.encoding.specs.Headers.{framedBytes, annotatedBytes};
-ghost use Rattle.encoding.specs.Argument.{checkedBytes, writeNull, writeBool, writeI64, writeInt, writeF32, writeF64, writeDecimal, writeSymbol, writeString, writeClob, writeBlob};
+ghost use Rattle.encoding.specs.Argument.{checkedBytes, writeNull, writeBool, writeI64, writeInt, writeF32, writeF64, writeDecimal};
+ghost use Rattle.encoding.specs.Argument.{writeSymbol, writeString, writeClob, writeBlob};
 ghost use Rattle.buffer.specs.Laid.{placed, fitted};
 ghost use Rattle.annotations.specs.Sids.{sidsOf};
 ghost use Rattle.annotations.specs.Prefix.{placedBefore};
@@ -26,7 +27,8 @@ const BLOB: u8 = 0xA0;
 
 // What stands before an annotated value of `size` bytes, where the value fits behind it. A size of 0 is that of no value.
 fn write_wrapper(buf: &mut [u8], at: usize, annotations: &[u8], size: usize) -> usize
-    ensures { λ r. ⌜ _≡_ {A = ℕ × List ℕ} (r, now (buf .exit)) (placedBefore (now (buf .entry)) at (prefixFor (sidsOf (now (annotations .entry))) size) size) ⌝ }
+    ensures { λ r. ⌜ _≡_ {A = ℕ × List ℕ} (r, now (buf .exit))
+        (placedBefore (now (buf .entry)) at (prefixFor (sidsOf (now (annotations .entry))) size) size) ⌝ }
 {
     if size == 0 {
         return 0;
@@ -37,7 +39,8 @@ fn write_wrapper(buf: &mut [u8], at: usize, annotations: &[u8], size: usize) -> 
 // The scalars that no check refuses, with annotations.
 fn annotated(buf: &mut [u8], at: usize, annotations: &[u8], value: Scalar) -> usize
     requires { ⌜ 0 < length (now annotations) ⌝ }
-    ensures { λ r. ⌜ _≡_ {A = ℕ × List ℕ} (r, now (buf .exit)) (placed (now (buf .entry)) at (annotatedChecked (sidsOf (now (annotations .entry))) (scalarArgument value))) ⌝ }
+    ensures { λ r. ⌜ _≡_ {A = ℕ × List ℕ} (r, now (buf .exit))
+        (placed (now (buf .entry)) at (annotatedChecked (sidsOf (now (annotations .entry))) (scalarArgument value))) ⌝ }
 {
     let wrapper = write_wrapper(buf, at, annotations, scalars::size(value, buf.len()));
     if wrapper == 0 {
@@ -46,9 +49,21 @@ fn annotated(buf: &mut [u8], at: usize, annotations: &[u8], value: Scalar) -> us
     wrapper + scalars::write(buf, at + wrapper, value)
 }
 
+// A scalar that no check refuses, by its case.
+pub fn write_scalar(buf: &mut [u8], at: usize, annotations: &[u8], value: Scalar) -> usize
+    ensures { λ r. ⌜ _≡_ {A = ℕ × List ℕ} (r, now (buf .exit))
+        (placed (now (buf .entry)) at (annotatedChecked (sidsOf (now (annotations .entry))) (scalarArgument value))) ⌝ }
+{
+    if annotations.len() == 0 {
+        return scalars::write(buf, at, value);
+    }
+    annotated(buf, at, annotations, value)
+}
+
 // Strings, clobs and blobs; the low four bits of `code` do not count.
 fn write_bytes(buf: &mut [u8], at: usize, annotations: &[u8], code: u8, bytes: &[u8]) -> usize
-    ensures { λ r. ⌜ _≡_ {A = ℕ × List ℕ} (r, now (buf .exit)) (placed (now (buf .entry)) at (annotatedBytes (sidsOf (now (annotations .entry))) (framedBytes (code / 16 * 16) (now (bytes .entry))))) ⌝ }
+    ensures { λ r. ⌜ _≡_ {A = ℕ × List ℕ} (r, now (buf .exit))
+        (placed (now (buf .entry)) at (annotatedBytes (sidsOf (now (annotations .entry))) (framedBytes (code / 16 * 16) (now (bytes .entry))))) ⌝ }
 {
     if annotations.len() == 0 {
         return scalars::write_bytes(buf, at, code, bytes);
@@ -66,7 +81,8 @@ fn write_bytes(buf: &mut [u8], at: usize, annotations: &[u8], code: u8, bytes: &
 }
 
 pub fn write_null(buf: &mut [u8], at: usize, annotations: &[u8], t: IonType) -> usize
-    ensures { λ r. ⌜ _≡_ {A = ℕ × List ℕ} (r, now (buf .exit)) (placed (now (buf .entry)) at (annotatedChecked (sidsOf (now (annotations .entry))) (writeNull (typeOf t)))) ⌝ }
+    ensures { λ r. ⌜ _≡_ {A = ℕ × List ℕ} (r, now (buf .exit))
+        (placed (now (buf .entry)) at (annotatedChecked (sidsOf (now (annotations .entry))) (writeNull (typeOf t)))) ⌝ }
 {
     if annotations.len() == 0 {
         return scalars::write_null(buf, at, t);
@@ -75,7 +91,8 @@ pub fn write_null(buf: &mut [u8], at: usize, annotations: &[u8], t: IonType) -> 
 }
 
 pub fn write_bool(buf: &mut [u8], at: usize, annotations: &[u8], value: bool) -> usize
-    ensures { λ r. ⌜ _≡_ {A = ℕ × List ℕ} (r, now (buf .exit)) (placed (now (buf .entry)) at (annotatedChecked (sidsOf (now (annotations .entry))) (writeBool value))) ⌝ }
+    ensures { λ r. ⌜ _≡_ {A = ℕ × List ℕ} (r, now (buf .exit))
+        (placed (now (buf .entry)) at (annotatedChecked (sidsOf (now (annotations .entry))) (writeBool value))) ⌝ }
 {
     if annotations.len() == 0 {
         return scalars::write_bool(buf, at, value);
@@ -84,7 +101,8 @@ pub fn write_bool(buf: &mut [u8], at: usize, annotations: &[u8], value: bool) ->
 }
 
 pub fn write_i64(buf: &mut [u8], at: usize, annotations: &[u8], value: i64) -> usize
-    ensures { λ r. ⌜ _≡_ {A = ℕ × List ℕ} (r, now (buf .exit)) (placed (now (buf .entry)) at (annotatedChecked (sidsOf (now (annotations .entry))) (writeI64 value))) ⌝ }
+    ensures { λ r. ⌜ _≡_ {A = ℕ × List ℕ} (r, now (buf .exit))
+        (placed (now (buf .entry)) at (annotatedChecked (sidsOf (now (annotations .entry))) (writeI64 value))) ⌝ }
 {
     if annotations.len() == 0 {
         return scalars::write_i64(buf, at, value);
@@ -100,7 +118,8 @@ pub fn write_int(
     negative: bool,
     magnitude: &[u8],
 ) -> usize
-    ensures { λ r. ⌜ _≡_ {A = ℕ × List ℕ} (r, now (buf .exit)) (placed (now (buf .entry)) at (annotatedChecked (sidsOf (now (annotations .entry))) (writeInt negative (now (magnitude .entry))))) ⌝ }
+    ensures { λ r. ⌜ _≡_ {A = ℕ × List ℕ} (r, now (buf .exit))
+        (placed (now (buf .entry)) at (annotatedChecked (sidsOf (now (annotations .entry))) (writeInt negative (now (magnitude .entry))))) ⌝ }
 {
     if annotations.len() == 0 {
         return scalars::write_int(buf, at, negative, magnitude);
@@ -119,22 +138,24 @@ pub fn write_int(
 
 // An f32 by its bits.
 pub fn write_f32(buf: &mut [u8], at: usize, annotations: &[u8], bits: u32) -> usize
-    ensures { λ r. ⌜ _≡_ {A = ℕ × List ℕ} (r, now (buf .exit)) (placed (now (buf .entry)) at (annotatedChecked (sidsOf (now (annotations .entry))) (writeF32 bits))) ⌝ }
+    ensures { λ r. ⌜ _≡_ {A = ℕ × List ℕ} (r, now (buf .exit))
+        (placed (now (buf .entry)) at (annotatedChecked (sidsOf (now (annotations .entry))) (writeF32 bits))) ⌝ }
 {
     if annotations.len() == 0 {
         return floats::write_f32_bits(buf, at, bits);
     }
-    annotated(buf, at, annotations, Scalar::F32(bits))
+    annotated(buf, at, annotations, Scalar::F32Bits(bits))
 }
 
 // An f64 by its bits.
 pub fn write_f64(buf: &mut [u8], at: usize, annotations: &[u8], bits: u64) -> usize
-    ensures { λ r. ⌜ _≡_ {A = ℕ × List ℕ} (r, now (buf .exit)) (placed (now (buf .entry)) at (annotatedChecked (sidsOf (now (annotations .entry))) (writeF64 bits))) ⌝ }
+    ensures { λ r. ⌜ _≡_ {A = ℕ × List ℕ} (r, now (buf .exit))
+        (placed (now (buf .entry)) at (annotatedChecked (sidsOf (now (annotations .entry))) (writeF64 bits))) ⌝ }
 {
     if annotations.len() == 0 {
         return floats::write_f64_bits(buf, at, bits);
     }
-    annotated(buf, at, annotations, Scalar::F64(bits))
+    annotated(buf, at, annotations, Scalar::F64Bits(bits))
 }
 
 // The sign and the big-endian magnitude of the coefficient, and the exponent. A body over 32 bytes is refused.
@@ -146,7 +167,8 @@ pub fn write_decimal(
     coefficient: &[u8],
     exponent: i64,
 ) -> usize
-    ensures { λ r. ⌜ _≡_ {A = ℕ × List ℕ} (r, now (buf .exit)) (placed (now (buf .entry)) at (annotatedChecked (sidsOf (now (annotations .entry))) (writeDecimal negative (now (coefficient .entry)) exponent))) ⌝ }
+    ensures { λ r. ⌜ _≡_ {A = ℕ × List ℕ} (r, now (buf .exit))
+        (placed (now (buf .entry)) at (annotatedChecked (sidsOf (now (annotations .entry))) (writeDecimal negative (now (coefficient .entry)) exponent))) ⌝ }
 {
     if annotations.len() == 0 {
         return decimal::write(buf, at, negative, coefficient, exponent);
@@ -165,7 +187,8 @@ pub fn write_decimal(
 
 // What stands before a timestamp: nothing without annotations, where the value does not fit behind them, or where check 7 refuses it.
 fn timestamp_wrapper(buf: &mut [u8], at: usize, annotations: &[u8], value: Timestamp) -> usize
-    ensures { λ r. ⌜ _≡_ {A = ℕ × List ℕ} (r, now (buf .exit)) (placedWrapper (now (buf .entry)) at (sidsOf (now (annotations .entry))) (fitted (length (now (buf .entry))) (checkedBytes (argumentOf value)))) ⌝ }
+    ensures { λ r. ⌜ _≡_ {A = ℕ × List ℕ} (r, now (buf .exit))
+        (placedWrapper (now (buf .entry)) at (sidsOf (now (annotations .entry))) (fitted (length (now (buf .entry))) (checkedBytes (argumentOf value)))) ⌝ }
 {
     if annotations.len() == 0 {
         return 0;
@@ -175,7 +198,8 @@ fn timestamp_wrapper(buf: &mut [u8], at: usize, annotations: &[u8], value: Times
 
 // Local fields. One that breaks the rules of check 7 is refused.
 pub fn write_timestamp(buf: &mut [u8], at: usize, annotations: &[u8], value: Timestamp) -> usize
-    ensures { λ r. ⌜ _≡_ {A = ℕ × List ℕ} (r, now (buf .exit)) (placed (now (buf .entry)) at (annotatedChecked (sidsOf (now (annotations .entry))) (argumentOf value))) ⌝ }
+    ensures { λ r. ⌜ _≡_ {A = ℕ × List ℕ} (r, now (buf .exit))
+        (placed (now (buf .entry)) at (annotatedChecked (sidsOf (now (annotations .entry))) (argumentOf value))) ⌝ }
 {
     let wrapper = timestamp_wrapper(buf, at, annotations, value);
     if (wrapper == 0) & (annotations.len() != 0) {
@@ -185,7 +209,8 @@ pub fn write_timestamp(buf: &mut [u8], at: usize, annotations: &[u8], value: Tim
 }
 
 pub fn write_symbol(buf: &mut [u8], at: usize, annotations: &[u8], sid: u64) -> usize
-    ensures { λ r. ⌜ _≡_ {A = ℕ × List ℕ} (r, now (buf .exit)) (placed (now (buf .entry)) at (annotatedChecked (sidsOf (now (annotations .entry))) (writeSymbol sid))) ⌝ }
+    ensures { λ r. ⌜ _≡_ {A = ℕ × List ℕ} (r, now (buf .exit))
+        (placed (now (buf .entry)) at (annotatedChecked (sidsOf (now (annotations .entry))) (writeSymbol sid))) ⌝ }
 {
     if annotations.len() == 0 {
         return scalars::write_symbol(buf, at, sid);
@@ -195,7 +220,8 @@ pub fn write_symbol(buf: &mut [u8], at: usize, annotations: &[u8], sid: u64) -> 
 
 // Bytes that are not UTF-8 are refused.
 pub fn write_string(buf: &mut [u8], at: usize, annotations: &[u8], bytes: &[u8]) -> usize
-    ensures { λ r. ⌜ _≡_ {A = ℕ × List ℕ} (r, now (buf .exit)) (placed (now (buf .entry)) at (annotatedChecked (sidsOf (now (annotations .entry))) (writeString (now (bytes .entry))))) ⌝ }
+    ensures { λ r. ⌜ _≡_ {A = ℕ × List ℕ} (r, now (buf .exit))
+        (placed (now (buf .entry)) at (annotatedChecked (sidsOf (now (annotations .entry))) (writeString (now (bytes .entry))))) ⌝ }
 {
     if !text::is_utf8(bytes) {
         return 0;
@@ -204,13 +230,15 @@ pub fn write_string(buf: &mut [u8], at: usize, annotations: &[u8], bytes: &[u8])
 }
 
 pub fn write_clob(buf: &mut [u8], at: usize, annotations: &[u8], bytes: &[u8]) -> usize
-    ensures { λ r. ⌜ _≡_ {A = ℕ × List ℕ} (r, now (buf .exit)) (placed (now (buf .entry)) at (annotatedChecked (sidsOf (now (annotations .entry))) (writeClob (now (bytes .entry))))) ⌝ }
+    ensures { λ r. ⌜ _≡_ {A = ℕ × List ℕ} (r, now (buf .exit))
+        (placed (now (buf .entry)) at (annotatedChecked (sidsOf (now (annotations .entry))) (writeClob (now (bytes .entry))))) ⌝ }
 {
     write_bytes(buf, at, annotations, CLOB, bytes)
 }
 
 pub fn write_blob(buf: &mut [u8], at: usize, annotations: &[u8], bytes: &[u8]) -> usize
-    ensures { λ r. ⌜ _≡_ {A = ℕ × List ℕ} (r, now (buf .exit)) (placed (now (buf .entry)) at (annotatedChecked (sidsOf (now (annotations .entry))) (writeBlob (now (bytes .entry))))) ⌝ }
+    ensures { λ r. ⌜ _≡_ {A = ℕ × List ℕ} (r, now (buf .exit))
+        (placed (now (buf .entry)) at (annotatedChecked (sidsOf (now (annotations .entry))) (writeBlob (now (bytes .entry))))) ⌝ }
 {
     write_bytes(buf, at, annotations, BLOB, bytes)
 }

@@ -18,14 +18,13 @@ use Rattle.machine.specs.declared.Container.{Container}
 use Rattle.machine.specs.Call.{ContainerType, opening, closing, abandonment}
 use Rattle.machine.specs.Machine.{Config, noContainer, innermostFirst, openContainers, isOpen, inStruct, reserve, headerPlace, containerCode, closedBytes, splice, put, effect, containerFits, containersFit, fits, checks, accepted, refused, firstFailing, isAccepted}
 use Rattle.machine.specs.Numbers.{run}
-use Rattle.place.specs.Place.{placeVerdict}
+use Rattle.machine.specs.Machine.{placeVerdict}
 use Rattle.place.proofs.Laws.{innermost-step, fits-used, chain-step}
 use Rattle.buffer.specs.Laid.{placed}
 use Rattle.containers.proofs.Closed.{fit, closedOn-fits, abandonedOn-fits}
 use Rattle.containers.specs.Containers.{spliced, closedOn, abandonedOn}
-use Rattle.writer.specs.Ended.{openedState}
 use Rattle.writer.proofs.Run.{outcome, config, run-refused, run-accepted, past-place, placed-some, end-refused, end-accepted}
-use Rattle.writer.proofs.Scalars.{framed-least}
+use Rattle.scalars.proofs.Bytes.{framed-some}
 
 -- ---- what a place that is accepted says
 
@@ -89,9 +88,22 @@ header-last : (used : ℕ) (an : List ℕ) → headerPlace used an ≡ used + (l
 header-last used [] = omega arith
 header-last used (a ∷ an) = let q : length (annotationBytes (a ∷ an) ++ (0 ∷ 0 ∷ [])) ≡ length (annotationBytes (a ∷ an)) + 2 = length-append (annotationBytes (a ∷ an)) (0 ∷ 0 ∷ []) in rw q (omega arith)
 
+-- the lines behind the place
+abbrev pub openingLines : List ℕ → State → List ℕ → List (Bool × ℕ)
+openingLines an s b = (leb 32 (s .depth), 4) ∷ (ltb (length b) (s .used + length (reserve an)), 10) ∷ []
+
+-- the state behind an opening that has put n bytes
+abbrev pub openedState : State → ℕ → ℕ → State
+openedState s n code = record {
+  used = s .used + n;
+  depth = s .depth + 1;
+  waiting = false;
+  containers = set (s .containers) (s .depth) (record { start = s .used; header = s .used + (n - 2); code = code });
+}
+
 module _ (an : List ℕ) (k : ContainerType) (s : State) (b : List ℕ) (n : ℕ) (l : List ℕ)
     (e : _≡_ {A = ℕ × List ℕ} (n, l) (placed b (s .used) (reserve an)))
-    (past : firstFailing (checks (opening an k) (config s b)) ≡ firstFailing ((leb 32 (s .depth), 4) ∷ (ltb (length b) (s .used + length (reserve an)), 10) ∷ []))
+    (past : firstFailing (checks (opening an k) (config s b)) ≡ firstFailing (openingLines an s b))
     (d : s .depth < 32) where
   shallow : firstFailing (checks (opening an k) (config s b)) ≡ firstFailing ((ltb (length b) (s .used + length (reserve an)), 10) ∷ [])
   shallow = past ∙ rw (lt-leb 32 (s .depth) d)
@@ -100,7 +112,6 @@ module _ (an : List ℕ) (k : ContainerType) (s : State) (b : List ℕ) (n : ℕ
   opening-refused z = end-refused (opening an k) s b (reserve an) n l e shallow z (omega (arith, reserve-least an))
 
   pub opening-accepted : (n ≡ 0 → ⊥) → outcome accepted (openedState s n (containerCode k)) l ≡ run (opening an k) s b
-  unfolding openedState
   opening-accepted h =
       let w = placed-some b (s .used) (reserve an) n l e h in
       let q : s .used + (n - 2) ≡ headerPlace (s .used) an = ap (λ (x : ℕ). s .used + (x - 2)) (w .1) ∙ sym (header-last (s .used) an) in
@@ -108,7 +119,7 @@ module _ (an : List ℕ) (k : ContainerType) (s : State) (b : List ℕ) (n : ℕ
       ∙ end-accepted (opening an k) s b (reserve an) n l e shallow (s .depth + 1) false _ refl h
 
 pub opening-deep : (an : List ℕ) (k : ContainerType) (s : State) (b : List ℕ)
-    → firstFailing (checks (opening an k) (config s b)) ≡ firstFailing ((leb 32 (s .depth), 4) ∷ (ltb (length b) (s .used + length (reserve an)), 10) ∷ [])
+    → firstFailing (checks (opening an k) (config s b)) ≡ firstFailing (openingLines an s b)
     → 32 ≤ s .depth → outcome (refused 4) s b ≡ run (opening an k) s b
 opening-deep an k s b past d = sym (run-refused (opening an k) s b 4 (past ∙ rw (le-leb 32 (s .depth) d)))
 
@@ -118,8 +129,8 @@ closed-least : (c : Container) (live : List ℕ) → 0 < length (closedBytes c l
 unfolding closedBytes
 closed-least c live =
     by-cases (eqb (c .header) (c .start))
-    (λ p. rw (p, closedBytes) (framed-least (c .code) (drop (c .header + 2) live)))
-    (λ p. rw (p, closedBytes) (framed-least (typeByte annotationCode) (slice (c .start + 2) (c .header) live ++ framedBytes (c .code) (drop (c .header + 2) live))))
+    (λ p. rw (p, closedBytes) (framed-some (c .code) (drop (c .header + 2) live)))
+    (λ p. rw (p, closedBytes) (framed-some (typeByte annotationCode) (slice (c .start + 2) (c .header) live ++ framedBytes (c .code) (drop (c .header + 2) live))))
 
 module _ (s : State) (b : List ℕ) (n : ℕ) (l : List ℕ) (place : placeVerdict s (length b) (not (isOpen (openContainers s)) || s .waiting) ≡ accepted) (e : _≡_ {A = ℕ × List ℕ} (n, l) (closedOn (innermost s) (s .used) b)) where
   closing-fits : fits s (length b) ≡ true
@@ -135,7 +146,7 @@ module _ (s : State) (b : List ℕ) (n : ℕ) (l : List ℕ) (place : placeVerdi
   closing-checks =
       past-place closing s b (not (isOpen (openContainers s)) || s .waiting) ((ltb (length b) (innermost s .start + length out), 10) ∷ []) (rw (open-first s (length b) closing-fits closing-open)) place
 
-  closing-effect : effect closing (config s b) ≡ put (config s b) (innermost s .start) out (s .depth - 1) false (s .containers)
+  closing-effect : effect closing (config s b) ≡ put (config s b) (record { place = innermost s .start; out = out; depth = s .depth - 1; waiting = false; containers = s .containers })
   closing-effect = rw (open-first s (length b) closing-fits closing-open)
 
   closing-spliced : _≡_ {A = ℕ × List ℕ} (n, l) (spliced (s .used) (innermost s .start) out b)
@@ -176,7 +187,7 @@ abandonment-run s b r l waits place e w =
     let q : _≡_ {A = Bool × List ℕ} (r, l) (true, splice (s .used) (innermost s .start) [] b) = e ∙ abandonedOn-fits (s .used) (innermost s .start) b (rw (le-leb (innermost s .start) (s .used) i, le-leb (s .used) (length b) u)) in
     let v : firstFailing (checks abandonment (config s b)) ≡ accepted =
     past-place abandonment s b (not (isOpen (openContainers s))) ((ltb (length b) (innermost s .start + 0), 10) ∷ []) (rw k) place ∙ rw (le-ltb (length b) (innermost s .start + 0) (omega (arith, u, i))) in
-    let z : effect abandonment (config s b) ≡ put (config s b) (innermost s .start) [] (s .depth - 1) waits (s .containers) = rw (w, k) in
+    let z : effect abandonment (config s b) ≡ put (config s b) (record { place = innermost s .start; out = []; depth = s .depth - 1; waiting = waits; containers = s .containers }) = rw (w, k) in
     let y : innermost s .start ≡ innermost s .start + 0 = omega arith in
     ap (outcome accepted (record { used = innermost s .start; depth = s .depth - 1; waiting = waits; containers = s .containers })) (ap (λ (x : Bool × List ℕ). x .1) q)
     ∙ ap (λ (x : ℕ). outcome accepted (record { used = x; depth = s .depth - 1; waiting = waits; containers = s .containers }) (splice (s .used) (innermost s .start) [] b)) y

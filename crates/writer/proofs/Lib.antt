@@ -2,3 +2,4 @@ pub mod Containers
 pub mod Run
 pub mod Scalars
 pub mod Started
+pub mod Values

@@ -1,29 +1,29 @@
 -- What the machine answers and leaves, by how far a call gets: refused by place, refused by its own lines, or accepted.
 -- Assumes nothing.
-use Prim.Native.Nat.{ℕ, _+_, _-_, _<_, _≤_, max}
+use Prim.Native.Nat.{ℕ, _+_, _<_, _≤_}
 use native.Mathlib.Omega.{arith}
 use mathlib.Core.Path.{_≡_, refl, sym, _∙_, ap}
 use mathlib.Core.Bool.{Bool, true, false, false≢true}
-use mathlib.Core.List.{List, [], _∷_, _++_, append-assoc}
+use mathlib.Core.List.{List, [], _∷_, _++_}
 use lib.Dec.{ltb, eqb}
-use lib.ListN.{length, take, drop}
-use borrow.Author.Tests.{le-ltb, lt-ltb, eq-eqb, ne-eqb, eqb-true, eqb-false}
+use lib.ListN.{length}
+use borrow.Author.Tests.{le-ltb, lt-ltb, eqb-true, eqb-false}
 use Rattle.ion.proofs.Tests.{by-cases}
 use Rattle.encoding.specs.Argument.{Argument, argumentChecks, anyHolds}
 use mathlib.Core.Logic.{⊎-elim}
 use Rattle.buffer.specs.Laid.{laid, placed}
 use Rattle.buffer.proofs.Laid.{placed-or}
+use Rattle.containers.proofs.Splice.{splice-end}
 use Rattle.machine.specs.declared.State.{State}
 use Rattle.machine.specs.declared.Container.{Container}
 use Rattle.machine.specs.Call.{Call}
-use Rattle.machine.specs.Machine.{Config, splice, put, effect, placeLines, checks, Verdict, accepted, refused, firstFailing, isAccepted, verdict}
+use Rattle.machine.specs.Machine.{Config, put, atEnd, effect, placeLines, checks, Verdict, accepted, refused, firstFailing, placeVerdict, isAccepted, verdict}
 use Rattle.machine.specs.declared.Refusal.{Refusal}
 use Rattle.machine.specs.declared.Refusal.the-variants.{NoRoom}
-use Rattle.writer.specs.Ended.{endedBy}
+use Rattle.machine.specs.declared.Written.{Written}
 use Rattle.machine.specs.declared.Answer.{Answer}
 use Rattle.machine.specs.declared.Answer.the-variants.{Accepted, Refused}
 use Rattle.machine.specs.Numbers.{number, verdictOf, Outcome, outcomeOf, run}
-use Rattle.place.specs.Place.{placeVerdict}
 use Rattle.writer.specs.Refused.{ownRefusal}
 
 -- ---- the first failing line of two lists
@@ -54,6 +54,10 @@ run-accepted c s b e = rw e
 
 -- ---- refused by place
 
+-- the line 10, for a call that has no other behind its place
+abbrev pub roomLine : Call → State → List ℕ → List (Bool × ℕ)
+roomLine c s b = (ltb (length b) (effect c (config s b) .state .used), 10) ∷ []
+
 pub run-misplaced : (c : Call) (s : State) (b : List ℕ) (m : Bool) (rest : List (Bool × ℕ)) (n : ℕ) → checks c (config s b) ≡ placeLines s (length b) m ++ rest → placeVerdict s (length b) m ≡ refused n → run c s b ≡ outcome (refused n) s b
 unfolding placeVerdict
 run-misplaced c s b m rest n q e = run-refused c s b n (rw q (first-of-left (placeLines s (length b) m) rest n e))
@@ -61,15 +65,6 @@ run-misplaced c s b m rest n q e = run-refused c s b n (rw q (first-of-left (pla
 pub past-place : (c : Call) (s : State) (b : List ℕ) (m : Bool) (rest : List (Bool × ℕ)) → checks c (config s b) ≡ placeLines s (length b) m ++ rest → placeVerdict s (length b) m ≡ accepted → firstFailing (checks c (config s b)) ≡ firstFailing rest
 unfolding placeVerdict
 past-place c s b m rest q e = rw q (first-of-right (placeLines s (length b) m) rest e)
-
--- ---- what is put at the end of the used bytes
-
-pub splice-end : (used : ℕ) (out b : List ℕ) → splice used used out b ≡ laid b used out
-unfolding splice laid
-splice-end used out b =
-    let z : used - (used + length out) ≡ 0 = omega arith in
-    let m : max used (used + length out) ≡ used + length out = omega arith in
-    rw (z, m) (append-assoc (take used b) out (drop (used + length out) b))
 
 -- ---- a scalar's own lines
 
@@ -135,28 +130,40 @@ module _ (c : Call) (s : State) (b out : List ℕ) (n : ℕ) (l : List ℕ) (e :
       let w = placed-none b (s .used) out n l e z pos in
       ap (λ (x : List ℕ). outcome (refused 10) s x) (w .1) ∙ sym (run-refused c s b 10 (past ∙ rw (lt-ltb (length b) (s .used + length out) (w .0))))
 
-  pub end-accepted : (d : ℕ) (waits : Bool) (cs : List Container) → effect c (config s b) ≡ put (config s b) (s .used) out d waits cs → (n ≡ 0 → ⊥)
+  pub end-accepted : (d : ℕ) (waits : Bool) (cs : List Container) → effect c (config s b) ≡ put (config s b) (record { place = s .used; out = out; depth = d; waiting = waits; containers = cs }) → (n ≡ 0 → ⊥)
       → outcome accepted (record { used = s .used + n; depth = d; waiting = waits; containers = cs }) l ≡ run c s b
   end-accepted d waits cs f h =
       let w = placed-some b (s .used) out n l e h in
       rw (w .1, w .2, ← (splice-end (s .used) out b))
       (sym (run-accepted c s b (past ∙ rw (le-ltb (length b) (s .used + length out) (w .0))) ∙ ap (λ (y : Config). outcome accepted (y .state) (y .buffer)) f))
 
--- ---- what `ended` answers
+-- ---- a call that could put n bytes at the end of the used ones, or none
 
-pub ended-none : (s : State) (n : ℕ) (waits : Bool) (why : Refusal) → n ≡ 0 → record { answer = Refused why; state = s } ≡ endedBy s n waits why
-unfolding endedBy
-ended-none s n waits why z = rw (eq-eqb n 0 z, endedBy)
+abbrev pub grown : State → ℕ → Bool → State
+grown s n waits = record { used = s .used + n; depth = s .depth; waiting = waits; containers = s .containers }
 
-pub ended-some : (s : State) (n : ℕ) (waits : Bool) (why : Refusal) → (n ≡ 0 → ⊥)
-    → record { answer = Accepted; state = record { used = s .used + n; depth = s .depth; waiting = waits; containers = s .containers } } ≡ endedBy s n waits why
-unfolding endedBy
-ended-some s n waits why z = rw (ne-eqb n 0 z, endedBy)
+-- what it leaves, l being the buffer after it: `why` is why it could put none
+pub record Ends (c : Call) (s : State) (b : List ℕ) (n : ℕ) (l : List ℕ) (waits : Bool) (why : Refusal) : Type 0 where
+  pub none : n ≡ 0 → outcome (refused (number why)) s l ≡ run c s b
+  pub some : (n ≡ 0 → ⊥) → outcome accepted (grown s n waits) l ≡ run c s b
 
 -- bytes that are never none, with no check of their own but 10
-pub end-run : (c : Call) (s : State) (b out : List ℕ) (n : ℕ) (l : List ℕ) (waits : Bool) → _≡_ {A = ℕ × List ℕ} (n, l) (placed b (s .used) out) → firstFailing (checks c (config s b)) ≡ firstFailing ((ltb (length b) (s .used + length out), 10) ∷ [])
-    → 0 < length out → effect c (config s b) ≡ put (config s b) (s .used) out (s .depth) waits (s .containers) → outcomeOf (endedBy s n waits NoRoom) l ≡ run c s b
-end-run c s b out n l waits e past pos f =
+pub end-run : (c : Call) (s : State) (b out : List ℕ) (n : ℕ) (l : List ℕ) (waits : Bool) → _≡_ {A = ℕ × List ℕ} (n, l) (placed b (s .used) out)
+    → firstFailing (checks c (config s b)) ≡ firstFailing ((ltb (length b) (s .used + length out), 10) ∷ [])
+    → 0 < length out → effect c (config s b) ≡ put (config s b) (atEnd s out waits) → Ends c s b n l waits NoRoom
+end-run c s b out n l waits e past pos f = record {
+  none = λ z. end-refused c s b out n l e past z pos;
+  some = λ h. end-accepted c s b out n l e past (s .depth) waits (s .containers) f h;
+}
+
+-- what `ended` says of its answer
+abbrev pub Ended : Written → State → ℕ → Bool → Refusal → Type 0
+Ended r s n waits why =
+    (n ≡ 0 → r ≡ record { answer = Refused why; state = s }) × ((n ≡ 0 → ⊥) → r ≡ record { answer = Accepted; state = grown s n waits })
+
+pub ended-run : (r : Written) (c : Call) (s : State) (b : List ℕ) (n : ℕ) (l : List ℕ) (waits : Bool) (why : Refusal)
+    → Ended r s n waits why → Ends c s b n l waits why → outcomeOf r l ≡ run c s b
+ended-run r c s b n l waits why e h =
     by-cases (eqb n 0)
-    (λ p. rw (← (ended-none s n waits NoRoom (eqb-true n 0 p))) (end-refused c s b out n l e past (eqb-true n 0 p) pos))
-    (λ p. rw (← (ended-some s n waits NoRoom (eqb-false n 0 p))) (end-accepted c s b out n l e past (s .depth) waits (s .containers) f (eqb-false n 0 p)))
+    (λ p. let z = eqb-true n 0 p in ap (λ (x : Written). outcomeOf x l) (e .0 z) ∙ h .none z)
+    (λ p. let z = eqb-false n 0 p in ap (λ (x : Written). outcomeOf x l) (e .1 z) ∙ h .some z)

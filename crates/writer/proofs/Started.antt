@@ -15,7 +15,8 @@ use Rattle.machine.specs.declared.State.{State}
 use Rattle.machine.specs.Machine.{accepted, refused, emptyState, startVerdict, fits, isOpen, openContainers, finishedLength}
 use Rattle.place.proofs.Laws.{fits-used}
 use Rattle.writer.specs.Start.{startRun}
-use Rattle.writer.proofs.Run.{outcome, splice-end, placed-none, placed-some}
+use Rattle.containers.proofs.Splice.{splice-end}
+use Rattle.writer.proofs.Run.{outcome, placed-none, placed-some}
 
 pub start-long : (b : List ℕ) → 16777215 < length b → outcome (refused 1) (emptyState 0) b ≡ startRun b
 unfolding startRun startVerdict

@@ -1,4 +1,3 @@
-pub mod Ended
 pub mod Kinds
 pub mod Refused
 pub mod Start

@@ -1,6 +1,5 @@
 -- Why a scalar that may stand where it stands is not written: the first of its own checks that fails, or 10.
 -- Assumes nothing.
-use Prim.Native.Nat.{ℕ}
 use mathlib.Core.Bool.{true}
 use mathlib.Core.List.{[], _∷_, _++_}
 use Rattle.encoding.specs.Argument.{Argument, argumentChecks}

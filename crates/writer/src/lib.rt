@@ -1,18 +1,21 @@
-// The writer: its calls over a state by value and a lent buffer. Each call checks its place, hands the work on numbers to a leaf, and answers with the next state.
+// The writer: its calls over a state by value and a lent buffer.
+// Each call checks its place, hands the work on numbers to a leaf, and answers with the next state.
 ghost use mathlib.Core.Path.{_≡_};
-ghost use Prim.Native.Nat.{_+_, _<_, _≤_, _^_};
+ghost use mathlib.Core.Bool.{false};
+ghost use Prim.Native.Nat.{_+_, _-_, _<_, _≤_, _^_};
 ghost use lib.Ieee.{binary32, binary64, toBits};
-ghost use lib.ListN.{take, length};
-ghost use Rattle.encoding.specs.Argument.{writeNull, writeBool, writeI64, writeInt, writeF32, writeF64, writeDecimal, writeSymbol, writeString, writeClob, writeBlob};
+ghost use lib.ListN.{length, set};
+ghost use Rattle.encoding.specs.Argument.{writeNull, writeBool, writeI64, writeInt, writeF32, writeF64, writeDecimal};
+ghost use Rattle.encoding.specs.Argument.{writeSymbol, writeString, writeClob, writeBlob};
 ghost use Rattle.machine.specs.Machine.{innermostFirst, inStruct, containerCode, refused, emptyState, finishedLength};
 ghost use Rattle.machine.specs.Numbers.{number, outcomeOf, run};
+ghost use Rattle.machine.specs.declared.Answer.the-variants.{Accepted, Refused};
 ghost use Rattle.machine.specs.Call.{write, name, opening, closing, abandonment, versionMarker, emptying};
 ghost use Rattle.annotations.specs.Sids.{sidsOf};
-ghost use Rattle.scalars.specs.Types.{typeOf};
+ghost use Rattle.scalars.specs.Types.{typeOf, scalarArgument};
 ghost use Rattle.timestamp.specs.Arguments.{argumentOf};
 ghost use Rattle.writer.specs.Refused.{ownRefusal};
 ghost use Rattle.writer.specs.Kinds.{kindOf};
-ghost use Rattle.writer.specs.Ended.{endedBy, openedState};
 ghost use Rattle.writer.specs.Start.{startRun, takenFrom};
 use machine::Answer;
 use machine::Container;
@@ -20,6 +23,7 @@ use machine::Refusal;
 use machine::State;
 use machine::Written;
 use scalars::IonType;
+use scalars::Scalar;
 use timestamp::Timestamp;
 
 pub enum ContainerType {
@@ -41,7 +45,11 @@ const MARKER: [u8; 4] = [0xE0, 0x01, 0x00, 0xEA];
 // The answer of a call that has put `put` bytes at the end of the used ones, or none for the reason `why`.
 fn ended(s: State, put: usize, waiting: bool, why: Refusal) -> Written
     requires { ⌜ ((put ≡ 0 → ⊥) → s .used + put < 2 ^ 64) ⌝ }
-    ensures { λ r. ⌜ r ≡ endedBy s put waiting why ⌝ }
+    ensures { λ r. ⌜ (put ≡ 0 → r ≡ record { answer = Refused why; state = s })
+        × ((put ≡ 0 → ⊥) → r ≡ record {
+          answer = Accepted;
+          state = record { used = s .used + put; depth = s .depth; waiting = waiting; containers = s .containers };
+        }) ⌝ }
 {
     if put == 0 {
         return Written {
@@ -136,9 +144,9 @@ pub fn string_refusal(bytes: &[u8]) -> Refusal
     Refusal::NotUtf8
 }
 
-// A null of each type.
-pub fn write_null(s: State, buf: &mut [u8], annotations: &[u8], t: IonType) -> Written
-    ensures { λ r. ⌜ outcomeOf r (now (buf .exit)) ≡ run (write (sidsOf (now (annotations .entry))) (writeNull (typeOf t))) s (now (buf .entry)) ⌝ }
+// A scalar that no check of its own refuses.
+fn write_scalar(s: State, buf: &mut [u8], annotations: &[u8], value: Scalar) -> Written
+    ensures { λ r. ⌜ outcomeOf r (now (buf .exit)) ≡ run (write (sidsOf (now (annotations .entry))) (scalarArgument value)) s (now (buf .entry)) ⌝ }
 {
     let place = place::value_place(s, buf.len());
     let Answer::Accepted = place else {
@@ -147,38 +155,29 @@ pub fn write_null(s: State, buf: &mut [u8], annotations: &[u8], t: IonType) -> W
             state: s,
         };
     };
-    let put = values::write_null(buf, s.used, annotations, t);
+    let put = values::write_scalar(buf, s.used, annotations, value);
     ended(s, put, false, Refusal::NoRoom)
+}
+
+// A null of each type.
+pub fn write_null(s: State, buf: &mut [u8], annotations: &[u8], t: IonType) -> Written
+    ensures { λ r. ⌜ outcomeOf r (now (buf .exit)) ≡ run (write (sidsOf (now (annotations .entry))) (writeNull (typeOf t))) s (now (buf .entry)) ⌝ }
+{
+    write_scalar(s, buf, annotations, Scalar::Null(t))
 }
 
 // 10 or 11.
 pub fn write_bool(s: State, buf: &mut [u8], annotations: &[u8], value: bool) -> Written
     ensures { λ r. ⌜ outcomeOf r (now (buf .exit)) ≡ run (write (sidsOf (now (annotations .entry))) (writeBool value)) s (now (buf .entry)) ⌝ }
 {
-    let place = place::value_place(s, buf.len());
-    let Answer::Accepted = place else {
-        return Written {
-            answer: place,
-            state: s,
-        };
-    };
-    let put = values::write_bool(buf, s.used, annotations, value);
-    ended(s, put, false, Refusal::NoRoom)
+    write_scalar(s, buf, annotations, Scalar::Bool(value))
 }
 
 // An int of 64 bits with its sign.
 pub fn write_i64(s: State, buf: &mut [u8], annotations: &[u8], value: i64) -> Written
     ensures { λ r. ⌜ outcomeOf r (now (buf .exit)) ≡ run (write (sidsOf (now (annotations .entry))) (writeI64 value)) s (now (buf .entry)) ⌝ }
 {
-    let place = place::value_place(s, buf.len());
-    let Answer::Accepted = place else {
-        return Written {
-            answer: place,
-            state: s,
-        };
-    };
-    let put = values::write_i64(buf, s.used, annotations, value);
-    ended(s, put, false, Refusal::NoRoom)
+    write_scalar(s, buf, annotations, Scalar::I64(value))
 }
 
 // An int of any size: its sign, and its magnitude from the highest byte on.
@@ -189,7 +188,8 @@ pub fn write_int(
     negative: bool,
     magnitude: &[u8],
 ) -> Written
-    ensures { λ r. ⌜ outcomeOf r (now (buf .exit)) ≡ run (write (sidsOf (now (annotations .entry))) (writeInt negative (now (magnitude .entry)))) s (now (buf .entry)) ⌝ }
+    ensures { λ r. ⌜ outcomeOf r (now (buf .exit))
+        ≡ run (write (sidsOf (now (annotations .entry))) (writeInt negative (now (magnitude .entry)))) s (now (buf .entry)) ⌝ }
 {
     let place = place::value_place(s, buf.len());
     let Answer::Accepted = place else {
@@ -212,46 +212,28 @@ pub fn write_int(
 pub fn write_f32_bits(s: State, buf: &mut [u8], annotations: &[u8], bits: u32) -> Written
     ensures { λ r. ⌜ outcomeOf r (now (buf .exit)) ≡ run (write (sidsOf (now (annotations .entry))) (writeF32 bits)) s (now (buf .entry)) ⌝ }
 {
-    let place = place::value_place(s, buf.len());
-    let Answer::Accepted = place else {
-        return Written {
-            answer: place,
-            state: s,
-        };
-    };
-    let put = values::write_f32(buf, s.used, annotations, bits);
-    ended(s, put, false, Refusal::NoRoom)
+    write_scalar(s, buf, annotations, Scalar::F32Bits(bits))
 }
 
 // A float by the bits of binary64, in four bytes where binary32 holds it; a NaN keeps its own.
 pub fn write_f64_bits(s: State, buf: &mut [u8], annotations: &[u8], bits: u64) -> Written
     ensures { λ r. ⌜ outcomeOf r (now (buf .exit)) ≡ run (write (sidsOf (now (annotations .entry))) (writeF64 bits)) s (now (buf .entry)) ⌝ }
 {
-    let place = place::value_place(s, buf.len());
-    let Answer::Accepted = place else {
-        return Written {
-            answer: place,
-            state: s,
-        };
-    };
-    let put = values::write_f64(buf, s.used, annotations, bits);
-    ended(s, put, false, Refusal::NoRoom)
+    write_scalar(s, buf, annotations, Scalar::F64Bits(bits))
 }
 
 // A float by its value; a NaN has the bits 7FC00000.
 pub fn write_f32(s: State, buf: &mut [u8], annotations: &[u8], value: f32) -> Written
     ensures { λ r. ⌜ outcomeOf r (now (buf .exit)) ≡ run (write (sidsOf (now (annotations .entry))) (writeF32 (toBits binary32 value))) s (now (buf .entry)) ⌝ }
 {
-    let bits = floats::bits_of_f32(value);
-    write_f32_bits(s, buf, annotations, bits)
+    write_scalar(s, buf, annotations, Scalar::F32(value))
 }
 
 // A float by its value; a NaN has the bits 7FF8000000000000.
 pub fn write_f64(s: State, buf: &mut [u8], annotations: &[u8], value: f64) -> Written
     ensures { λ r. ⌜ outcomeOf r (now (buf .exit)) ≡ run (write (sidsOf (now (annotations .entry))) (writeF64 (toBits binary64 value))) s (now (buf .entry)) ⌝ }
 {
-    let bits = floats::bits_of_f64(value);
-    write_f64_bits(s, buf, annotations, bits)
+    write_scalar(s, buf, annotations, Scalar::F64(value))
 }
 
 // A decimal: sign, coefficient from the highest byte on, exponent.
@@ -263,7 +245,8 @@ pub fn write_decimal(
     coefficient: &[u8],
     exponent: i64,
 ) -> Written
-    ensures { λ r. ⌜ outcomeOf r (now (buf .exit)) ≡ run (write (sidsOf (now (annotations .entry))) (writeDecimal negative (now (coefficient .entry)) exponent)) s (now (buf .entry)) ⌝ }
+    ensures { λ r. ⌜ outcomeOf r (now (buf .exit))
+        ≡ run (write (sidsOf (now (annotations .entry))) (writeDecimal negative (now (coefficient .entry)) exponent)) s (now (buf .entry)) ⌝ }
 {
     let place = place::value_place(s, buf.len());
     let Answer::Accepted = place else {
@@ -307,15 +290,7 @@ pub fn write_timestamp(s: State, buf: &mut [u8], annotations: &[u8], value: Time
 pub fn write_symbol(s: State, buf: &mut [u8], annotations: &[u8], sid: u64) -> Written
     ensures { λ r. ⌜ outcomeOf r (now (buf .exit)) ≡ run (write (sidsOf (now (annotations .entry))) (writeSymbol sid)) s (now (buf .entry)) ⌝ }
 {
-    let place = place::value_place(s, buf.len());
-    let Answer::Accepted = place else {
-        return Written {
-            answer: place,
-            state: s,
-        };
-    };
-    let put = values::write_symbol(buf, s.used, annotations, sid);
-    ended(s, put, false, Refusal::NoRoom)
+    write_scalar(s, buf, annotations, Scalar::Symbol(sid))
 }
 
 // A string, in UTF-8.
@@ -398,7 +373,12 @@ pub fn type_code(kind: ContainerType) -> u8
 // The state behind an opening that has put `put` bytes, its header's reserve last.
 fn opened(s: State, put: usize, code: u8) -> State
     requires { ⌜ (s .depth < 32) × (2 ≤ put) × (s .used + put < 2 ^ 64) ⌝ }
-    ensures { λ r. ⌜ r ≡ openedState s put code ⌝ }
+    ensures { λ r. ⌜ r ≡ record {
+      used = s .used + put;
+      depth = s .depth + 1;
+      waiting = false;
+      containers = set (s .containers) (s .depth) (record { start = s .used; header = s .used + (put - 2); code = code });
+    } ⌝ }
 {
     let used = s.used;
     let depth = s.depth;

@@ -1,7 +1,7 @@
 -- `annotations::last_sid` meets its contract. The loop's invariant: `sid` is the number of the bytes from `k` on.
 -- Each turn takes one byte more below them; seven bytes are below 256 ^ 7, so nothing wraps. Assumes nothing.
 use mathlib.Core.Path.{_≡_, refl, _∙_}
-use Prim.Native.Nat.{_+_, _-_, _*_, _^_, _≤_, _<_}
+use Prim.Native.Nat.{_+_, _-_, _^_, _≤_, _<_}
 use native.Mathlib.Omega.{arith}
 use native.Mathlib.Nat.{add-zero}
 use Rattle.annotations.specs.Sids.{leastFirst}

@@ -1,17 +1,17 @@
 -- `containers::close` meets its contract: the plain close and the annotated one put the bytes of the definition.
 -- Assumes nothing.
-use mathlib.Core.Path.{_≡_, refl, sym, _∙_, ap}
+use mathlib.Core.Path.{_≡_, sym, _∙_, ap}
 use mathlib.Core.List.{List}
-use mathlib.Core.Bool.{Bool, true, _&&_, and-eq-true-iff}
+use mathlib.Core.Bool.{true, _&&_, and-eq-true-iff}
 use mathlib.Core.Logic.{⊎-elim}
-use Prim.Native.Nat.{ℕ, _+_, _-_, _≤_}
+use Prim.Native.Nat.{ℕ, _+_, _≤_}
 use native.Mathlib.Omega.{arith}
 use lib.Dec.{leb}
 use lib.ListN.{length, take}
 use borrow.Author.Tests.{not-true, not-false, leb-true}
 use Rattle.containers.specs.Containers.{spliced}
-use Rattle.machine.specs.Machine.{containerFits}
-use Rattle.containers.proofs.Closed.{Fit, fit, closedOn-fits, closedOn-not, closedBytes-plain, closedBytes-wrapped}
+use Rattle.machine.specs.Machine.{closedBytes, containerFits}
+use Rattle.containers.proofs.Closed.{Fit, fit, closedOn-fits, closedOn-not}
 use borrow.Author.Needs.{needs}
 use Rattle.containers.proofs.close.Statement.{statement}
 use Rattle.containers.proofs.close.Tie as tie
@@ -50,11 +50,11 @@ same-length c = search needs
 returns-2 : tie.Need-returns-2
 returns-2 c =
     let d = c .before .before .before .before .before .before in
-    let k = known d in
     let a = d .before .before .before .args in
-    c .before .before .close-plain .ensures
-    ∙ sym (closedOn-fits (a .c) (a .used) (a .buf .now) (k .flag)
-    ∙ ap (λ (out : List ℕ). spliced (a .used) (a .c .start) out (a .buf .now)) (closedBytes-plain (a .c) (a .used) (a .buf .now) (k .known .within) (k .room) (c .before .before .before .before .if2 .taken)))
+    let f = closedOn-fits (a .c) (a .used) (a .buf .now) (known d .flag) in
+    let out : ℕ → List ℕ = λ h. closedBytes (record { start = a .c .start; header = h; code = a .c .code }) (take (a .used) (a .buf .now)) in
+    let e = ap (λ (h : ℕ). spliced (a .used) (a .c .start) (out h) (a .buf .now)) (c .before .before .before .before .if2 .taken) in
+    c .before .before .close-plain .ensures ∙ sym (f ∙ e)
 
 close-annotated-requires : tie.Need-close-annotated-requires
 close-annotated-requires c κs =
@@ -68,11 +68,8 @@ same-length-2 c = search needs
 returns-3 : tie.Need-returns-3
 returns-3 c =
     let d = c .before .before .before .before .before .before in
-    let k = known d in
     let a = d .before .before .before .args in
-    c .before .before .close-annotated .ensures
-    ∙ sym (closedOn-fits (a .c) (a .used) (a .buf .now) (k .flag)
-    ∙ ap (λ (out : List ℕ). spliced (a .used) (a .c .start) out (a .buf .now)) (closedBytes-wrapped (a .c) (a .used) (a .buf .now) (k .known .within) (k .room) (apart (c .before .before .before .before))))
+    c .before .before .close-annotated .ensures ∙ sym (closedOn-fits (a .c) (a .used) (a .buf .now) (known d .flag))
 
 pub close-spec : {M : Type 1} → statement M
 close-spec =

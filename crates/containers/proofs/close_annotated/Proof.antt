@@ -1,11 +1,12 @@
 -- `containers::close_annotated` meets its contract: the parts reach their places, and what is freed becomes zero.
 -- Assumes nothing.
 use mathlib.Core.Path.{_≡_, sym}
-use Prim.Native.Nat.{_+_, _-_, _≤_}
+use Prim.Native.Nat.{ℕ, _+_, _-_, _≤_}
 use native.Mathlib.Omega.{arith}
-use lib.ListN.{length}
+use mathlib.Core.List.{List}
+use lib.ListN.{length, take}
 use Rattle.fields.proofs.Headers.{header-most}
-use Rattle.containers.specs.Containers.{wrapped}
+use Rattle.machine.specs.Machine.{closedBytes}
 use Rattle.containers.proofs.Splice.{spliced-by, spliced-full}
 use Rattle.containers.proofs.Wrapped.{length-wrapped}
 use borrow.Author.Needs.{needs}
@@ -15,10 +16,18 @@ use Rattle.containers.proofs.close_annotated.Tie as tie
 inner-most : (c : tie.After-encoded-size-of) → c .encoded-size-of .result ≤ 11
 inner-most c = let m = header-most 0 (c .before .before .args .used - (c .before .before .args .header + 2)) (omega arith) in omega arith
 
+-- the final bytes
+abbrev final : (c : tie.After-encoded-size-of2) → List ℕ
+final c =
+    let a = c .before .before .before .args in
+    closedBytes (record { start = a .start; header = a .header; code = a .code }) (take (a .used) (a .buf .now))
+
 -- the wrapper as it ends up
 record Known (c : tie.After-encoded-size-of2) : Type 0 where
   most : c .encoded-size-of2 .result ≤ 11
-  whole : let a = c .before .before .before .args in length (wrapped (a .buf .now) (a .start) (a .header) (a .code) (a .used - (a .header + 2))) ≡ c .encoded-size-of2 .result + (a .header - (a .start + 2) + c .before .encoded-size-of .result + (a .used - (a .header + 2)))
+  end : let a = c .before .before .before .args in a .header + 2 + (a .used - (a .header + 2)) ≡ a .used
+  whole : let a = c .before .before .before .args in
+      length (final c) ≡ c .encoded-size-of2 .result + (a .header - (a .start + 2) + c .before .encoded-size-of .result + (a .used - (a .header + 2)))
 
 known : (c : tie.After-encoded-size-of2) → Known c
 known c =
@@ -27,10 +36,11 @@ known c =
     let k = inner-most (c .before) in
     let body = a .used - (a .header + 2) in
     let m = header-most 0 (a .header - (a .start + 2) + i .result + body) (omega arith) in
-    record {
-      most = omega arith;
-      whole = length-wrapped (a .buf .now) (a .start) (a .header) (a .code) body (i .result) (c .encoded-size-of2 .result) (omega arith) (omega arith) (i .ensures) (c .encoded-size-of2 .ensures);
-    }
+    let e : a .header + 2 + body ≡ a .used = omega arith in
+    let w =
+    length-wrapped (a .buf .now) (a .start) (a .header) (a .code) body (i .result) (c .encoded-size-of2 .result) (omega arith) (omega arith) (i .ensures)
+    (c .encoded-size-of2 .ensures) in
+    record { most = omega arith; end = e; whole = rw e at w }
 
 add-body : tie.Need-add-body
 add-body c = search needs
@@ -69,7 +79,7 @@ returns : tie.Need-returns
 returns c =
     let k = known (c .before) in
     let a = c .before .before .before .before .args in
-    sym (spliced-full (a .used) (a .start) (wrapped (a .buf .now) (a .start) (a .header) (a .code) (a .used - (a .header + 2))) (a .buf .now) (omega arith))
+    sym (spliced-full (a .used) (a .start) (final (c .before)) (a .buf .now) (omega arith))
 
 lay-wrapped-requires : tie.Need-lay-wrapped-requires
 lay-wrapped-requires c κs = search needs
@@ -85,7 +95,8 @@ returns-2 c =
     let d = c .before .before .before .before .before .before .before .before .before in
     let k = known d in
     let a = d .before .before .before .args in
-    spliced-by (a .used) (a .start) (wrapped (a .buf .now) (a .start) (a .header) (a .code) (a .used - (a .header + 2))) (a .buf .now) _ (omega arith) (omega arith) (c .before .before .before .before .before .before .lay-wrapped .ensures) (c .before .before .clear .ensures)
+    let l = rw (k .end) at (c .before .before .before .before .before .before .lay-wrapped .ensures) in
+    spliced-by (a .used) (a .start) (final d) (a .buf .now) _ (omega arith) (omega arith) l (c .before .before .clear .ensures)
 
 pub close-annotated-spec : {M : Type 1} → statement M
 close-annotated-spec =

@@ -1,23 +1,32 @@
 -- `containers::close_plain` meets its contract: the body moves to its place, the header goes before it, and what is freed becomes zero.
 -- By the law of two runs side by side and of zeros behind a run. Assumes nothing.
 use mathlib.Core.Path.{_≡_, refl, sym, _∙_, ap}
-use Prim.Native.Nat.{_+_, _-_, _≤_}
+use Prim.Native.Nat.{ℕ, _+_, _-_, _≤_}
 use native.Mathlib.Omega.{arith}
-use lib.ListN.{length}
+use mathlib.Core.List.{List}
+use lib.ListN.{length, take}
 use Rattle.encoding.specs.Headers.{headerBytes, framedBytes}
 use Rattle.buffer.specs.Laid.{laid}
 use Rattle.fields.proofs.Headers.{header-most, length-header}
+use Rattle.machine.specs.Machine.{closedBytes}
+use Rattle.containers.proofs.Closed.{closedBytes-plain}
 use Rattle.containers.proofs.Moves.{part, length-part}
 use Rattle.containers.proofs.Splice.{then-before, framed-is, length-framed, spliced-by, spliced-full}
 use borrow.Author.Needs.{needs}
 use Rattle.containers.proofs.close_plain.Statement.{statement}
 use Rattle.containers.proofs.close_plain.Tie as tie
 
+-- the body as it lies
+abbrev body : (c : tie.After-encoded-size-of) → List ℕ
+body c = let a = c .before .before .args in part (a .buf .now) (a .start + 2) (a .used - (a .start + 2))
+
 -- the header and the body as they end up
 record Known (c : tie.After-encoded-size-of) : Type 0 where
   most : c .encoded-size-of .result ≤ 11
-  body : length (part (c .before .before .args .buf .now) (c .before .before .args .start + 2) (c .before .before .args .used - (c .before .before .args .start + 2))) ≡ c .before .before .args .used - (c .before .before .args .start + 2)
-  whole : length (framedBytes (c .before .before .args .code) (part (c .before .before .args .buf .now) (c .before .before .args .start + 2) (c .before .before .args .used - (c .before .before .args .start + 2)))) ≡ c .encoded-size-of .result + (c .before .before .args .used - (c .before .before .args .start + 2))
+  counted : length (body c) ≡ c .before .before .args .used - (c .before .before .args .start + 2)
+  whole : length (framedBytes (c .before .before .args .code) (body c)) ≡ c .encoded-size-of .result + length (body c)
+  final : let a = c .before .before .args in
+      closedBytes (record { start = a .start; header = a .start; code = a .code }) (take (a .used) (a .buf .now)) ≡ framedBytes (a .code) (body c)
 
 known : (c : tie.After-encoded-size-of) → Known c
 known c =
@@ -27,8 +36,9 @@ known c =
     let e = length-part (a .buf .now) (a .start + 2) n (omega arith) in
     record {
       most = omega arith;
-      body = e;
-      whole = length-framed (a .code) (part (a .buf .now) (a .start + 2) n) ∙ rw (e, c .encoded-size-of .ensures) refl;
+      counted = e;
+      whole = length-framed (a .code) (body c) ∙ rw (e, c .encoded-size-of .ensures) refl;
+      final = closedBytes-plain (record { start = a .start; header = a .start; code = a .code }) (a .used) (a .buf .now) (omega arith) (omega arith) refl;
     }
 
 add-body : tie.Need-add-body
@@ -50,7 +60,7 @@ returns : tie.Need-returns
 returns c =
     let k = known (c .before) in
     let a = c .before .before .before .args in
-    sym (spliced-full (a .used) (a .start) (framedBytes (a .code) (part (a .buf .now) (a .start + 2) (a .used - (a .start + 2)))) (a .buf .now) (omega arith))
+    rw (k .final) (sym (spliced-full (a .used) (a .start) (framedBytes (a .code) (body (c .before))) (a .buf .now) (omega arith)))
 
 add-move-bytes : tie.Need-add-move-bytes
 add-move-bytes c = search needs
@@ -76,12 +86,14 @@ returns-2 c =
     let k = known d in
     let a = d .before .before .args in
     let n = a .used - (a .start + 2) in
-    let B = part (a .buf .now) (a .start + 2) n in
     let q = length-header (a .code) n in
-    spliced-by (a .used) (a .start) (framedBytes (a .code) B) (a .buf .now) (a .start + d .encoded-size-of .result + n) (omega arith) (omega arith)
-    (then-before (a .buf .now) (a .start) (headerBytes (a .code) n) B (a .start + d .encoded-size-of .result) (omega arith) (omega arith) (c .before .before .before .before .before .before .before .before .before .before .move-bytes .ensures) (c .before .before .before .before .before .before .put-header .ensures)
-    ∙ ap (laid (a .buf .now) (a .start)) (sym (framed-is (a .code) n B (k .body))))
-    (c .before .before .clear .ensures)
+    let m = c .before .before .before .before .before .before in
+    let both =
+    then-before (a .buf .now) (a .start) (headerBytes (a .code) n) (body d) (a .start + d .encoded-size-of .result) (omega arith) (omega arith)
+    (m .before .before .before .before .move-bytes .ensures) (m .put-header .ensures) in
+    rw (k .final)
+    (spliced-by (a .used) (a .start) (framedBytes (a .code) (body d)) (a .buf .now) (a .start + d .encoded-size-of .result + n) (omega arith) (omega arith)
+    (both ∙ ap (laid (a .buf .now) (a .start)) (sym (framed-is (a .code) n (body d) (k .counted)))) (c .before .before .clear .ensures))
 
 pub close-plain-spec : {M : Type 1} → statement M
 close-plain-spec =

@@ -1,32 +1,39 @@
--- By what `narrow` answers.
+-- Positive zero has the bits 0; every other value goes by its bits.
 -- Assumes nothing.
-use mathlib.Core.Path.{refl, sym, _∙_}
-use borrow.Author.Needs.{needs}
-use Rattle.encoding.specs.Digits.{lowDigits}
+use mathlib.Core.Path.{refl, sym, _∙_, ap}
+use borrow.Author.Tests.{eqb-true}
 use Rattle.encoding.specs.Fields.{fixedBytes}
-use Rattle.floats.proofs.Bytes.{float64-narrowed, float64-other}
+use Rattle.encoding.specs.Digits.{lowDigits}
+use Rattle.encoding.specs.Argument.{float64Bytes}
+use Prim.Native.Nat.{ℕ}
+use lib.ListN.{length}
+use Rattle.floats.proofs.Bytes.{float64-zero}
+use borrow.Author.Needs.{needs}
 use Rattle.floats.proofs.f64_size.Statement.{statement}
 use Rattle.floats.proofs.f64_size.Tie as tie
 
-narrow-requires : tie.Need-narrow-requires
-narrow-requires c κs = search needs
-
-enum-known-n : tie.Need-enum-known-n
-enum-known-n c = search needs
-
-f32-size-requires : tie.Need-f32-size-requires
-f32-size-requires c κs = search needs
-
-enum-told : tie.Need-enum-told
-enum-told c = search needs
+is-positive-zero-f64-requires : tie.Need-is-positive-zero-f64-requires
+is-positive-zero-f64-requires c κs = search needs
 
 returns : tie.Need-returns
-returns c = let n = c .before .before in rw (float64-narrowed _ _ (sym (n .before .before .narrow .ensures) ∙ n .n .given .1)) (c .f32-size .ensures)
+unfolding fixedBytes lowDigits
+returns c = rw (float64-zero _ (eqb-true _ 0 (sym (c .before .is-positive-zero-f64 .ensures) ∙ c .if1 .taken))) refl
+
+bits-of-f64-requires : tie.Need-bits-of-f64-requires
+bits-of-f64-requires c κs = search needs
+
+f64-bits-size-requires : tie.Need-f64-bits-size-requires
+f64-bits-size-requires c κs = search needs
 
 returns-2 : tie.Need-returns-2
-unfolding fixedBytes lowDigits
-returns-2 c = rw (float64-other _ (sym (c .before .before .narrow .ensures) ∙ c .enum-told .given .1)) refl
+returns-2 c = c .f64-bits-size .ensures ∙ ap (λ (b : ℕ). length (float64Bytes b)) (c .before .bits-of-f64 .ensures)
 
 pub f64-size-spec : {M : Type 1} → statement M
 f64-size-spec =
-    tie.close (tie.spec narrow-requires enum-known-n f32-size-requires enum-told returns returns-2)
+    tie.close
+    (tie.spec
+    is-positive-zero-f64-requires
+    returns
+    bits-of-f64-requires
+    f64-bits-size-requires
+    returns-2)

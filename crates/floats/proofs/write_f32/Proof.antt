@@ -1,16 +1,14 @@
--- A zero with no sign bit has the bits 0; every other value goes by its bits.
+-- Positive zero has the bits 0; every other value goes by its bits.
 -- Assumes nothing.
-use mathlib.Core.Path.{sym, subst}
+use mathlib.Core.Path.{sym, _∙_}
+use borrow.Author.Tests.{eqb-true, eqb-false}
+use Rattle.floats.proofs.Bytes.{float32-zero, float32-other}
 use borrow.Author.Needs.{needs}
-use lib.Dec.{T}
-use lib.Ieee.{binary32}
-use Rattle.floats.proofs.Special.{zero-bits}
-use Rattle.floats.proofs.Bytes.{float32-zero}
 use Rattle.floats.proofs.write_f32.Statement.{statement}
 use Rattle.floats.proofs.write_f32.Tie as tie
 
-bits-of-f32-requires : tie.Need-bits-of-f32-requires
-bits-of-f32-requires c κs = search needs
+is-positive-zero-f32-requires : tie.Need-is-positive-zero-f32-requires
+is-positive-zero-f32-requires c κs = search needs
 
 write-sized-requires : tie.Need-write-sized-requires
 write-sized-requires c κs = search needs
@@ -22,12 +20,16 @@ returns : tie.Need-returns
 returns c =
     let w = c .before .before in
     let t = w .before .before in
-    let b = t .before in
-    let z = zero-bits binary32 (b .before .before .args .v) (b .bits-of-f32 .result) (subst T (sym (b .before .before .good .1 .1 .0 .1)) tt) (b .bits-of-f32 .ensures) (t .if1 .taken) in
-    rw (z, float32-zero) (w .write-sized .ensures)
+    rw (float32-zero _ (eqb-true _ 0 (sym (t .before .is-positive-zero-f32 .ensures) ∙ t .if1 .taken))) (w .write-sized .ensures)
 
-write-f32-bits-requires : tie.Need-write-f32-bits-requires
-write-f32-bits-requires c κs = search needs
+bits-of-f32-requires : tie.Need-bits-of-f32-requires
+bits-of-f32-requires c κs = search needs
+
+cast-write-sized : tie.Need-cast-write-sized
+cast-write-sized c = search needs
+
+write-sized-requires-2 : tie.Need-write-sized-requires-2
+write-sized-requires-2 c κs = search needs
 
 same-length-2 : tie.Need-same-length-2
 same-length-2 c = search needs
@@ -35,16 +37,19 @@ same-length-2 c = search needs
 returns-2 : tie.Need-returns-2
 returns-2 c =
     let w = c .before .before in
-    rw (← w .before .before .before .bits-of-f32 .ensures) (w .write-f32-bits .ensures)
+    let t = w .before .before .before in
+    rw (float32-other _ (eqb-false _ 0 (sym (t .before .is-positive-zero-f32 .ensures) ∙ t .if1 .left)), ← (w .before .bits-of-f32 .ensures)) (w .write-sized2 .ensures)
 
 pub write-f32-spec : {M : Type 1} → statement M
 write-f32-spec =
     tie.close
     (tie.spec
-    bits-of-f32-requires
+    is-positive-zero-f32-requires
     write-sized-requires
     same-length
     returns
-    write-f32-bits-requires
+    bits-of-f32-requires
+    cast-write-sized
+    write-sized-requires-2
     same-length-2
     returns-2)

@@ -12,7 +12,7 @@ same-length : tie.Need-same-length
 same-length c = search needs
 
 returns : tie.Need-returns
-returns c = let w = c .before .before in rw (w .before .before .if1 .taken, float32-zero) (w .write-sized .ensures)
+returns c = let w = c .before .before in rw (float32-zero _ (w .before .before .if1 .taken)) (w .write-sized .ensures)
 
 write-sized-requires-2 : tie.Need-write-sized-requires-2
 write-sized-requires-2 c κs = search needs

@@ -1,16 +1,14 @@
--- A zero with no sign bit has the bits 0; every other value goes by its bits.
+-- Positive zero has the bits 0; every other value goes by its bits.
 -- Assumes nothing.
-use mathlib.Core.Path.{sym, subst}
-use borrow.Author.Needs.{needs}
-use lib.Dec.{T}
-use lib.Ieee.{binary64}
-use Rattle.floats.proofs.Special.{zero-bits}
+use mathlib.Core.Path.{sym, _∙_}
+use borrow.Author.Tests.{eqb-true}
 use Rattle.floats.proofs.Bytes.{float64-zero}
+use borrow.Author.Needs.{needs}
 use Rattle.floats.proofs.write_f64.Statement.{statement}
 use Rattle.floats.proofs.write_f64.Tie as tie
 
-bits-of-f64-requires : tie.Need-bits-of-f64-requires
-bits-of-f64-requires c κs = search needs
+is-positive-zero-f64-requires : tie.Need-is-positive-zero-f64-requires
+is-positive-zero-f64-requires c κs = search needs
 
 write-sized-requires : tie.Need-write-sized-requires
 write-sized-requires c κs = search needs
@@ -22,9 +20,10 @@ returns : tie.Need-returns
 returns c =
     let w = c .before .before in
     let t = w .before .before in
-    let b = t .before in
-    let z = zero-bits binary64 (b .before .before .args .v) (b .bits-of-f64 .result) (subst T (sym (b .before .before .good .1 .1 .0 .1)) tt) (b .bits-of-f64 .ensures) (t .if1 .taken) in
-    rw (z, float64-zero) (w .write-sized .ensures)
+    rw (float64-zero _ (eqb-true _ 0 (sym (t .before .is-positive-zero-f64 .ensures) ∙ t .if1 .taken))) (w .write-sized .ensures)
+
+bits-of-f64-requires : tie.Need-bits-of-f64-requires
+bits-of-f64-requires c κs = search needs
 
 write-f64-bits-requires : tie.Need-write-f64-bits-requires
 write-f64-bits-requires c κs = search needs
@@ -33,18 +32,17 @@ same-length-2 : tie.Need-same-length-2
 same-length-2 c = search needs
 
 returns-2 : tie.Need-returns-2
-returns-2 c =
-    let w = c .before .before in
-    rw (← w .before .before .before .bits-of-f64 .ensures) (w .write-f64-bits .ensures)
+returns-2 c = let w = c .before .before in rw (← (w .before .bits-of-f64 .ensures)) (w .write-f64-bits .ensures)
 
 pub write-f64-spec : {M : Type 1} → statement M
 write-f64-spec =
     tie.close
     (tie.spec
-    bits-of-f64-requires
+    is-positive-zero-f64-requires
     write-sized-requires
     same-length
     returns
+    bits-of-f64-requires
     write-f64-bits-requires
     same-length-2
     returns-2)

@@ -1,8 +1,7 @@
 -- `goatminute::ended` meets its contract: the two cases of the definition.
 -- Assumes nothing.
 use native.Mathlib.Omega.{arith}
-use mathlib.Core.Path.{_∙_}
-use Rattle.goatminute.proofs.Entered.{ended-nothing, ended-bytes}
+use mathlib.Core.Path.{refl, _∙_}
 use borrow.Author.Needs.{needs}
 use Rattle.goatminute.proofs.ended.Statement.{statement}
 use Rattle.goatminute.proofs.ended.Tie as tie
@@ -11,7 +10,7 @@ number-of-requires : tie.Need-number-of-requires
 number-of-requires c κs = search needs
 
 returns : tie.Need-returns
-returns c = let a = c .before .before .before .args in let e = ended-nothing (a .state .now) (a .put) (a .waiting) (a .why) (c .before .if1 .taken) in (c .number-of .ensures ∙ e .0, e .1)
+returns c = (λ z. (c .number-of .ensures, refl), λ h. absurd (h (c .before .if1 .taken)))
 
 used-requires : tie.Need-used-requires
 used-requires c κs = search needs
@@ -30,9 +29,8 @@ same-length c = search needs
 
 returns-2 : tie.Need-returns-2
 returns-2 c =
-    let a = c .before .before .before .before .before .before .before .before .before .before .args in
-    let e = ended-bytes (a .state .now) (a .put) (a .waiting) (a .why) (c .before .before .before .before .before .before .before .before .if1 .left) in
-    (e .0, c .before .before .store .ensures ∙ rw (c .before .before .before .before .before .before .used .ensures, c .before .before .before .before .depth .ensures) (e .1))
+    let d = c .before .before .before .before in
+    (λ z. absurd (d .before .before .before .before .if1 .left z), λ h. (refl, c .before .before .store .ensures ∙ rw (d .before .before .used .ensures, d .depth .ensures)))
 
 pub ended-spec : {M : Type 1} → statement M
 ended-spec =

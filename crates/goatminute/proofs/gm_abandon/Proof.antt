@@ -27,13 +27,17 @@ same-length : tie.Need-same-length
 same-length c = search needs
 
 returns : tie.Need-returns
-returns c = barred-entry (abandonment) (c .before .before .before .before .before .before .before .before .args .state .now) (c .before .before .before .before .before .before .before .before .args .buf .now) (not (isOpen (openContainers (stateOf (c .before .before .before .before .before .before .before .before .args .state .now))))) (roomLine (abandonment) (c .before .before .before .before .before .before .before .before .args .state .now) (c .before .before .before .before .before .before .before .before .args .buf .now)) refl (c .before .abandon-place .result) (c .answered .result) (sym (c .before .before .before .before .abandon-passes .ensures) ∙ not-true _ (c .before .before .before .if1 .taken)) (c .before .abandon-place .ensures) (c .answered .ensures)
+returns c =
+    let a = c .before .before .before .before .before .before .before .before .args in
+    barred-entry (abandonment) (a .state .now) (a .buf .now) (not (isOpen (openContainers (stateOf (a .state .now))))) (roomLine (abandonment) (a .state .now) (a .buf .now)) refl (c .before .abandon-place .result) (c .answered .result) (sym (c .before .before .before .before .abandon-passes .ensures) ∙ not-true _ (c .before .before .before .if1 .taken)) (c .before .abandon-place .ensures) (c .answered .ensures)
 
 depth-requires : tie.Need-depth-requires
 depth-requires c κs = search needs
 
 sub-container : tie.Need-sub-container
-sub-container c = omega (arith, c .before .depth .ensures, abandon-open (c .before .before .before .before .before .before .before .before .args .state .now) (c .before .before .before .before .before .before .before .before .args .buf .now) (sym (c .before .before .before .before .abandon-passes .ensures) ∙ not-false _ (c .before .before .before .if1 .left)))
+sub-container c =
+    let a = c .before .before .before .before .before .before .before .before .args in
+    omega (arith, c .before .depth .ensures, abandon-open (a .state .now) (a .buf .now) (sym (c .before .before .before .before .abandon-passes .ensures) ∙ not-false _ (c .before .before .before .if1 .left)))
 
 container-requires : tie.Need-container-requires
 container-requires c κs = search needs
@@ -48,7 +52,9 @@ abandon-requires : tie.Need-abandon-requires
 abandon-requires c κs = search needs
 
 sub-store : tie.Need-sub-store
-sub-store c = omega (arith, c .before .before .before .before .before .before .before .before .before .before .before .depth .ensures, abandon-open (c .before .before .before .before .before .before .before .before .before .before .before .before .before .before .before .before .before .before .args .state .now) (c .before .before .before .before .before .before .before .before .before .before .before .before .before .before .before .before .before .before .args .buf .now) (sym (c .before .before .before .before .before .before .before .before .before .before .before .before .before .before .abandon-passes .ensures) ∙ not-false _ (c .before .before .before .before .before .before .before .before .before .before .before .before .before .if1 .left)))
+sub-store c =
+    let a = c .before .before .before .before .before .before .before .before .before .before .before .before .before .before .before .before .before .before .args in
+    omega (arith, c .before .before .before .before .before .before .before .before .before .before .before .depth .ensures, abandon-open (a .state .now) (a .buf .now) (sym (c .before .before .before .before .before .before .before .before .before .before .before .before .before .before .abandon-passes .ensures) ∙ not-false _ (c .before .before .before .before .before .before .before .before .before .before .before .before .before .if1 .left)))
 
 store-requires : tie.Need-store-requires
 store-requires c κs = search needs
@@ -60,7 +66,9 @@ same-length-3 : tie.Need-same-length-3
 same-length-3 c = search needs
 
 returns-2 : tie.Need-returns-2
-returns-2 c = rw (c .before .before .store .ensures, c .before .before .before .before .before .before .before .before .before .before .before .before .container .ensures, c .before .before .before .before .before .before .before .before .before .before .before .before .before .before .depth .ensures) (abandon-done (c .before .before .before .before .before .before .before .before .before .before .before .before .before .before .before .before .before .before .before .before .before .args .state .now) (c .before .before .before .before .before .before .before .before .before .before .before .before .before .before .before .before .before .before .before .before .before .args .buf .now) (sym (c .before .before .before .before .before .before .before .before .before .before .before .before .before .before .before .before .before .abandon-passes .ensures) ∙ not-false _ (c .before .before .before .before .before .before .before .before .before .before .before .before .before .before .before .before .if1 .left)) (c .before .before .before .before .before .before .abandon .result) (c .before .before .before .before .before .before .abandon .last .0) (c .before .before .before .before .before .before .before .before .before .before .outer-is-struct .result) (rw (c .before .before .before .before .before .before .before .used .ensures, c .before .before .before .before .before .before .before .before .before .before .before .before .container .ensures, c .before .before .before .before .before .before .before .before .before .before .before .before .before .before .depth .ensures) at (c .before .before .before .before .before .before .abandon .ensures)) (c .before .before .before .before .before .before .before .before .before .before .outer-is-struct .ensures))
+returns-2 c =
+    let a = c .before .before .before .before .before .before .before .before .before .before .before .before .before .before .before .before .before .before .before .before .before .args in
+    rw (c .before .before .store .ensures, c .before .before .before .before .before .before .before .before .before .before .before .before .container .ensures, c .before .before .before .before .before .before .before .before .before .before .before .before .before .before .depth .ensures) (abandon-done (a .state .now) (a .buf .now) (sym (c .before .before .before .before .before .before .before .before .before .before .before .before .before .before .before .before .before .abandon-passes .ensures) ∙ not-false _ (c .before .before .before .before .before .before .before .before .before .before .before .before .before .before .before .before .if1 .left)) (c .before .before .before .before .before .before .abandon .result) (c .before .before .before .before .before .before .abandon .last .0) (c .before .before .before .before .before .before .before .before .before .before .outer-is-struct .result) (rw (c .before .before .before .before .before .before .before .used .ensures, c .before .before .before .before .before .before .before .before .before .before .before .before .container .ensures, c .before .before .before .before .before .before .before .before .before .before .before .before .before .before .depth .ensures) at (c .before .before .before .before .before .before .abandon .ensures)) (c .before .before .before .before .before .before .before .before .before .before .outer-is-struct .ensures))
 
 pub gm-abandon-spec : {M : Type 1} → statement M
 gm-abandon-spec =

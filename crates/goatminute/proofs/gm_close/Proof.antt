@@ -27,13 +27,17 @@ same-length : tie.Need-same-length
 same-length c = search needs
 
 returns : tie.Need-returns
-returns c = barred-entry (closing) (c .before .before .before .before .before .before .before .before .args .state .now) (c .before .before .before .before .before .before .before .before .args .buf .now) (not (isOpen (openContainers (stateOf (c .before .before .before .before .before .before .before .before .args .state .now)))) || (stateOf (c .before .before .before .before .before .before .before .before .args .state .now)) .waiting) (roomLine (closing) (c .before .before .before .before .before .before .before .before .args .state .now) (c .before .before .before .before .before .before .before .before .args .buf .now)) refl (c .before .close-place .result) (c .answered .result) (sym (c .before .before .before .before .close-passes .ensures) ∙ not-true _ (c .before .before .before .if1 .taken)) (c .before .close-place .ensures) (c .answered .ensures)
+returns c =
+    let a = c .before .before .before .before .before .before .before .before .args in
+    barred-entry (closing) (a .state .now) (a .buf .now) (not (isOpen (openContainers (stateOf (a .state .now)))) || (stateOf (a .state .now)) .waiting) (roomLine (closing) (a .state .now) (a .buf .now)) refl (c .before .close-place .result) (c .answered .result) (sym (c .before .before .before .before .close-passes .ensures) ∙ not-true _ (c .before .before .before .if1 .taken)) (c .before .close-place .ensures) (c .answered .ensures)
 
 depth-requires : tie.Need-depth-requires
 depth-requires c κs = search needs
 
 sub-container : tie.Need-sub-container
-sub-container c = omega (arith, c .before .depth .ensures, close-open (c .before .before .before .before .before .before .before .before .args .state .now) (c .before .before .before .before .before .before .before .before .args .buf .now) (sym (c .before .before .before .before .close-passes .ensures) ∙ not-false _ (c .before .before .before .if1 .left)))
+sub-container c =
+    let a = c .before .before .before .before .before .before .before .before .args in
+    omega (arith, c .before .depth .ensures, close-open (a .state .now) (a .buf .now) (sym (c .before .before .before .before .close-passes .ensures) ∙ not-false _ (c .before .before .before .if1 .left)))
 
 container-requires : tie.Need-container-requires
 container-requires c κs = search needs
@@ -54,10 +58,14 @@ same-length-3 : tie.Need-same-length-3
 same-length-3 c = search needs
 
 returns-2 : tie.Need-returns-2
-returns-2 c = rw (c .number-of .ensures) (close-full (c .before .before .before .before .before .before .before .before .before .before .before .before .before .before .before .before .before .args .state .now) (c .before .before .before .before .before .before .before .before .before .before .before .before .before .before .before .before .before .args .buf .now) (sym (c .before .before .before .before .before .before .before .before .before .before .before .before .before .close-passes .ensures) ∙ not-false _ (c .before .before .before .before .before .before .before .before .before .before .before .before .if1 .left)) (c .before .before .before .before .close .result) (c .before .before .before .before .close .last .0) (rw (c .before .before .before .before .before .used .ensures, c .before .before .before .before .before .before .before .before .container .ensures, c .before .before .before .before .before .before .before .before .before .before .depth .ensures) at (c .before .before .before .before .close .ensures)) (c .before .if2 .taken))
+returns-2 c =
+    let a = c .before .before .before .before .before .before .before .before .before .before .before .before .before .before .before .before .before .args in
+    rw (c .number-of .ensures) (close-full (a .state .now) (a .buf .now) (sym (c .before .before .before .before .before .before .before .before .before .before .before .before .before .close-passes .ensures) ∙ not-false _ (c .before .before .before .before .before .before .before .before .before .before .before .before .if1 .left)) (c .before .before .before .before .close .result) (c .before .before .before .before .close .last .0) (rw (c .before .before .before .before .before .used .ensures, c .before .before .before .before .before .before .before .before .container .ensures, c .before .before .before .before .before .before .before .before .before .before .depth .ensures) at (c .before .before .before .before .close .ensures)) (c .before .if2 .taken))
 
 sub-store : tie.Need-sub-store
-sub-store c = omega (arith, c .before .before .before .before .before .before .before .before .before .before .depth .ensures, close-open (c .before .before .before .before .before .before .before .before .before .before .before .before .before .before .before .before .before .args .state .now) (c .before .before .before .before .before .before .before .before .before .before .before .before .before .before .before .before .before .args .buf .now) (sym (c .before .before .before .before .before .before .before .before .before .before .before .before .before .close-passes .ensures) ∙ not-false _ (c .before .before .before .before .before .before .before .before .before .before .before .before .if1 .left)))
+sub-store c =
+    let a = c .before .before .before .before .before .before .before .before .before .before .before .before .before .before .before .before .before .args in
+    omega (arith, c .before .before .before .before .before .before .before .before .before .before .depth .ensures, close-open (a .state .now) (a .buf .now) (sym (c .before .before .before .before .before .before .before .before .before .before .before .before .before .close-passes .ensures) ∙ not-false _ (c .before .before .before .before .before .before .before .before .before .before .before .before .if1 .left)))
 
 store-requires : tie.Need-store-requires
 store-requires c κs = search needs
@@ -69,7 +77,9 @@ same-length-5 : tie.Need-same-length-5
 same-length-5 c = search needs
 
 returns-3 : tie.Need-returns-3
-returns-3 c = rw (c .before .before .store .ensures, c .before .before .before .before .before .before .before .before .before .before .before .before .before .depth .ensures) (close-done (c .before .before .before .before .before .before .before .before .before .before .before .before .before .before .before .before .before .before .before .before .args .state .now) (c .before .before .before .before .before .before .before .before .before .before .before .before .before .before .before .before .before .before .before .before .args .buf .now) (sym (c .before .before .before .before .before .before .before .before .before .before .before .before .before .before .before .before .close-passes .ensures) ∙ not-false _ (c .before .before .before .before .before .before .before .before .before .before .before .before .before .before .before .if1 .left)) (c .before .before .before .before .before .before .before .close .result) (c .before .before .before .before .before .before .before .close .last .0) (rw (c .before .before .before .before .before .before .before .before .used .ensures, c .before .before .before .before .before .before .before .before .before .before .before .container .ensures, c .before .before .before .before .before .before .before .before .before .before .before .before .before .depth .ensures) at (c .before .before .before .before .before .before .before .close .ensures)) (c .before .before .before .before .if2 .left))
+returns-3 c =
+    let a = c .before .before .before .before .before .before .before .before .before .before .before .before .before .before .before .before .before .before .before .before .args in
+    rw (c .before .before .store .ensures, c .before .before .before .before .before .before .before .before .before .before .before .before .before .depth .ensures) (close-done (a .state .now) (a .buf .now) (sym (c .before .before .before .before .before .before .before .before .before .before .before .before .before .before .before .before .close-passes .ensures) ∙ not-false _ (c .before .before .before .before .before .before .before .before .before .before .before .before .before .before .before .if1 .left)) (c .before .before .before .before .before .before .before .close .result) (c .before .before .before .before .before .before .before .close .last .0) (rw (c .before .before .before .before .before .before .before .before .used .ensures, c .before .before .before .before .before .before .before .before .before .before .before .container .ensures, c .before .before .before .before .before .before .before .before .before .before .before .before .before .depth .ensures) at (c .before .before .before .before .before .before .before .close .ensures)) (c .before .before .before .before .if2 .left))
 
 pub gm-close-spec : {M : Type 1} → statement M
 gm-close-spec =

@@ -30,7 +30,9 @@ same-length : tie.Need-same-length
 same-length c = search needs
 
 returns : tie.Need-returns
-returns c = barred-entry (name (c .before .before .before .before .before .before .before .before .args .sid)) (c .before .before .before .before .before .before .before .before .args .state .now) (c .before .before .before .before .before .before .before .before .args .buf .now) (not (inStruct (openContainers (stateOf (c .before .before .before .before .before .before .before .before .args .state .now)))) || (stateOf (c .before .before .before .before .before .before .before .before .args .state .now)) .waiting) (roomLine (name (c .before .before .before .before .before .before .before .before .args .sid)) (c .before .before .before .before .before .before .before .before .args .state .now) (c .before .before .before .before .before .before .before .before .args .buf .now)) refl (c .before .name-place .result) (c .answered .result) (sym (c .before .before .before .before .name-passes .ensures) ∙ not-true _ (c .before .before .before .if1 .taken)) (c .before .name-place .ensures) (c .answered .ensures)
+returns c =
+    let a = c .before .before .before .before .before .before .before .before .args in
+    barred-entry (name (a .sid)) (a .state .now) (a .buf .now) (not (inStruct (openContainers (stateOf (a .state .now)))) || (stateOf (a .state .now)) .waiting) (roomLine (name (a .sid)) (a .state .now) (a .buf .now)) refl (c .before .name-place .result) (c .answered .result) (sym (c .before .before .before .before .name-passes .ensures) ∙ not-true _ (c .before .before .before .if1 .taken)) (c .before .name-place .ensures) (c .answered .ensures)
 
 used-requires : tie.Need-used-requires
 used-requires c κs = search needs
@@ -39,7 +41,9 @@ write-requires : tie.Need-write-requires
 write-requires c κs = search needs
 
 ended-requires : tie.Need-ended-requires
-ended-requires c κs = λ h. omega (arith, put-fits (c .before .before .before .before .before .before .before .before .before .before .before .before .args .buf .now) (stateOf (c .before .before .before .before .before .before .before .before .before .before .before .before .args .state .now) .used) (varUIntBytes (c .before .before .before .before .before .before .before .before .before .before .before .before .args .sid)) (c .before .before .before .write .result) (c .before .before .before .write .last .0) (rw (c .before .before .before .before .used .ensures) at (c .before .before .before .write .ensures)) h)
+ended-requires c κs =
+    let a = c .before .before .before .before .before .before .before .before .before .before .before .before .args in
+    λ h. omega (arith, put-fits (a .buf .now) (stateOf (a .state .now) .used) (varUIntBytes (a .sid)) (c .before .before .before .write .result) (c .before .before .before .write .last .0) (rw (c .before .before .before .before .used .ensures) at (c .before .before .before .write .ensures)) h)
 
 same-length-2 : tie.Need-same-length-2
 same-length-2 c = search needs
@@ -48,7 +52,9 @@ same-length-3 : tie.Need-same-length-3
 same-length-3 c = search needs
 
 returns-2 : tie.Need-returns-2
-returns-2 c = rw (c .before .before .ended .ensures .0, c .before .before .ended .ensures .1) (end-entry (name (c .before .before .before .before .before .before .before .before .before .before .before .before .before .before .before .args .sid)) (c .before .before .before .before .before .before .before .before .before .before .before .before .before .before .before .args .state .now) (c .before .before .before .before .before .before .before .before .before .before .before .before .before .before .before .args .buf .now) (not (inStruct (openContainers (stateOf (c .before .before .before .before .before .before .before .before .before .before .before .before .before .before .before .args .state .now)))) || (stateOf (c .before .before .before .before .before .before .before .before .before .before .before .before .before .before .before .args .state .now)) .waiting) (varUIntBytes (c .before .before .before .before .before .before .before .before .before .before .before .before .before .before .before .args .sid)) true refl (λ s. refl) (varUInt-least (c .before .before .before .before .before .before .before .before .before .before .before .before .before .before .before .args .sid)) refl (sym (c .before .before .before .before .before .before .before .before .before .before .before .name-passes .ensures) ∙ not-false _ (c .before .before .before .before .before .before .before .before .before .before .if1 .left)) (c .before .before .before .before .before .before .write .result) (c .before .before .before .before .before .before .write .last .0) (rw (c .before .before .before .before .before .before .before .used .ensures) at (c .before .before .before .before .before .before .write .ensures)))
+returns-2 c =
+    let a = c .before .before .before .before .before .before .before .before .before .before .before .before .before .before .before .args in
+    end-entry (name (a .sid)) (a .state .now) (a .buf .now) (not (inStruct (openContainers (stateOf (a .state .now)))) || (stateOf (a .state .now)) .waiting) (varUIntBytes (a .sid)) true refl (λ s. refl) (varUInt-least (a .sid)) refl (sym (c .before .before .before .before .before .before .before .before .before .before .before .name-passes .ensures) ∙ not-false _ (c .before .before .before .before .before .before .before .before .before .before .if1 .left)) (c .before .before .before .before .before .before .write .result) (c .before .before .before .before .before .before .write .last .0) (rw (c .before .before .before .before .before .before .before .used .ensures) at (c .before .before .before .before .before .before .write .ensures)) (c .before .before .ended .result) (c .before .before .ended .last .0) (c .before .before .ended .ensures .0) (c .before .before .ended .ensures .1)
 
 pub gm-field-name-spec : {M : Type 1} → statement M
 gm-field-name-spec =

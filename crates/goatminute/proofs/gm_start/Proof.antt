@@ -11,10 +11,14 @@ use Rattle.goatminute.proofs.gm_start.Statement.{statement}
 use Rattle.goatminute.proofs.gm_start.Tie as tie
 
 returns : tie.Need-returns
-returns c = start-short-long (c .before .before .before .before .args .state .now) (c .before .before .before .before .args .buf .now) (c .before .if1 .taken) (omega arith)
+returns c =
+    let a = c .before .before .before .before .args in
+    start-short-long (a .state .now) (a .buf .now) (c .before .if1 .taken) (omega arith)
 
 returns-2 : tie.Need-returns-2
-returns-2 c = start-short (c .before .before .before .before .args .state .now) (c .before .before .before .before .args .buf .now) (c .before .if1 .taken) (omega arith)
+returns-2 c =
+    let a = c .before .before .before .before .args in
+    start-short (a .state .now) (a .buf .now) (c .before .if1 .taken) (omega arith)
 
 clear-requires : tie.Need-clear-requires
 clear-requires c κs = search needs
@@ -23,7 +27,10 @@ same-length : tie.Need-same-length
 same-length c = search needs
 
 returns-3 : tie.Need-returns-3
-returns-3 c = rw (cleared (c .before .before .before .clear .last .0) (c .before .before .before .before .before .before .before .before .args .state .now) (c .before .before .before .before .before .if1 .left) (c .before .before .before .clear .ensures)) (start-entry (c .before .before .before .before .before .before .before .before .args .state .now) (c .before .before .before .before .before .before .before .before .args .buf .now) (c .before .before .before .before .before .if1 .left) (outcome (refused 1) (emptyState 0) (c .before .before .before .before .before .before .before .before .args .buf .now)) (start-long (c .before .before .before .before .before .before .before .before .args .buf .now) (omega arith)))
+returns-3 c =
+    let start = c .before .before .before .before .before .before .before .before in
+    let a = start .args in
+    rw (cleared (c .before .before .before .clear .last .0) (a .state .now) (c .before .before .before .before .before .if1 .left) (c .before .before .before .clear .ensures)) (start-entry (a .state .now) (a .buf .now) (c .before .before .before .before .before .if1 .left) (outcome (refused 1) (emptyState 0) (a .buf .now)) (start-long (a .buf .now) (omega arith)))
 
 slice-aggregate-copy : tie.Need-slice-aggregate-copy
 slice-aggregate-copy c = search needs
@@ -38,7 +45,10 @@ same-length-3 : tie.Need-same-length-3
 same-length-3 c = search needs
 
 returns-4 : tie.Need-returns-4
-returns-4 c = rw (cleared (c .before .before .before .before .before .before .before .before .before .clear .last .0) (c .before .before .before .before .before .before .before .before .before .before .before .before .before .before .args .state .now) (c .before .before .before .before .before .before .before .before .before .before .before .if1 .left) (c .before .before .before .before .before .before .before .before .before .clear .ensures)) (start-entry (c .before .before .before .before .before .before .before .before .before .before .before .before .before .before .args .state .now) (c .before .before .before .before .before .before .before .before .before .before .before .before .before .before .args .buf .now) (c .before .before .before .before .before .before .before .before .before .before .before .if1 .left) (outcome (refused 10) (emptyState 0) (c .before .before .before .copy .last .0)) (start-full (c .before .before .before .before .before .before .before .before .before .before .before .before .before .before .args .buf .now) (omega arith) (c .before .before .before .copy .result) (c .before .before .before .copy .last .0) (c .before .before .before .copy .ensures) (c .if4 .taken)))
+returns-4 c =
+    let start = c .before .before .before .before .before .before .before .before .before .before .before .before .before .before in
+    let a = start .args in
+    rw (cleared (c .before .before .before .before .before .before .before .before .before .clear .last .0) (a .state .now) (c .before .before .before .before .before .before .before .before .before .before .before .if1 .left) (c .before .before .before .before .before .before .before .before .before .clear .ensures)) (start-entry (a .state .now) (a .buf .now) (c .before .before .before .before .before .before .before .before .before .before .before .if1 .left) (outcome (refused 10) (emptyState 0) (c .before .before .before .copy .last .0)) (start-full (a .buf .now) (omega arith) (c .before .before .before .copy .result) (c .before .before .before .copy .last .0) (c .before .before .before .copy .ensures) (c .if4 .taken)))
 
 store-requires : tie.Need-store-requires
 store-requires c κs = search needs
@@ -50,7 +60,10 @@ same-length-5 : tie.Need-same-length-5
 same-length-5 c = search needs
 
 returns-5 : tie.Need-returns-5
-returns-5 c = rw (begun (c .before .before .before .before .before .before .before .before .before .before .before .before .before .clear .last .0) (c .before .before .store .last .0) (c .before .before .before .before .before .before .before .before .before .before .before .before .before .before .before .before .before .before .args .state .now) (c .before .before .before .before .before .before .before .copy .result) (c .before .before .before .before .before .before .before .before .before .before .before .before .before .before .before .if1 .left) (c .before .before .before .before .before .before .before .before .before .before .before .before .before .clear .ensures) (c .before .before .store .ensures), placed-some (c .before .before .before .before .before .before .before .before .before .before .before .before .before .before .before .before .before .before .args .buf .now) 0 markerBytes (c .before .before .before .before .before .before .before .copy .result) (c .before .before .before .before .before .before .before .copy .last .0) (c .before .before .before .before .before .before .before .copy .ensures) (c .before .before .before .before .if4 .left) .1) (start-entry (c .before .before .before .before .before .before .before .before .before .before .before .before .before .before .before .before .before .before .args .state .now) (c .before .before .before .before .before .before .before .before .before .before .before .before .before .before .before .before .before .before .args .buf .now) (c .before .before .before .before .before .before .before .before .before .before .before .before .before .before .before .if1 .left) (outcome accepted (emptyState 4) (c .before .before .before .before .before .before .before .copy .last .0)) (start-put (c .before .before .before .before .before .before .before .before .before .before .before .before .before .before .before .before .before .before .args .buf .now) (omega arith) (c .before .before .before .before .before .before .before .copy .result) (c .before .before .before .before .before .before .before .copy .last .0) (c .before .before .before .before .before .before .before .copy .ensures) (c .before .before .before .before .if4 .left)))
+returns-5 c =
+    let start = c .before .before .before .before .before .before .before .before .before .before .before .before .before .before .before .before .before .before in
+    let a = start .args in
+    rw (begun (c .before .before .before .before .before .before .before .before .before .before .before .before .before .clear .last .0) (c .before .before .store .last .0) (a .state .now) (c .before .before .before .before .before .before .before .copy .result) (c .before .before .before .before .before .before .before .before .before .before .before .before .before .before .before .if1 .left) (c .before .before .before .before .before .before .before .before .before .before .before .before .before .clear .ensures) (c .before .before .store .ensures), placed-some (a .buf .now) 0 markerBytes (c .before .before .before .before .before .before .before .copy .result) (c .before .before .before .before .before .before .before .copy .last .0) (c .before .before .before .before .before .before .before .copy .ensures) (c .before .before .before .before .if4 .left) .1) (start-entry (a .state .now) (a .buf .now) (c .before .before .before .before .before .before .before .before .before .before .before .before .before .before .before .if1 .left) (outcome accepted (emptyState 4) (c .before .before .before .before .before .before .before .copy .last .0)) (start-put (a .buf .now) (omega arith) (c .before .before .before .before .before .before .before .copy .result) (c .before .before .before .before .before .before .before .copy .last .0) (c .before .before .before .before .before .before .before .copy .ensures) (c .before .before .before .before .if4 .left)))
 
 pub gm-start-spec : {M : Type 1} → statement M
 gm-start-spec =

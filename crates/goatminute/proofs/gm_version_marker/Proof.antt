@@ -28,7 +28,9 @@ same-length : tie.Need-same-length
 same-length c = search needs
 
 returns : tie.Need-returns
-returns c = barred-entry (versionMarker) (c .before .before .before .before .before .before .before .before .args .state .now) (c .before .before .before .before .before .before .before .before .args .buf .now) (isOpen (openContainers (stateOf (c .before .before .before .before .before .before .before .before .args .state .now)))) (roomLine (versionMarker) (c .before .before .before .before .before .before .before .before .args .state .now) (c .before .before .before .before .before .before .before .before .args .buf .now)) refl (c .before .top-place .result) (c .answered .result) (sym (c .before .before .before .before .top-passes .ensures) ∙ not-true _ (c .before .before .before .if1 .taken)) (c .before .top-place .ensures) (c .answered .ensures)
+returns c =
+    let a = c .before .before .before .before .before .before .before .before .args in
+    barred-entry (versionMarker) (a .state .now) (a .buf .now) (isOpen (openContainers (stateOf (a .state .now)))) (roomLine (versionMarker) (a .state .now) (a .buf .now)) refl (c .before .top-place .result) (c .answered .result) (sym (c .before .before .before .before .top-passes .ensures) ∙ not-true _ (c .before .before .before .if1 .taken)) (c .before .top-place .ensures) (c .answered .ensures)
 
 used-requires : tie.Need-used-requires
 used-requires c κs = search needs
@@ -43,7 +45,9 @@ waiting-requires : tie.Need-waiting-requires
 waiting-requires c κs = search needs
 
 ended-requires : tie.Need-ended-requires
-ended-requires c κs = λ h. omega (arith, put-fits (c .before .before .before .before .before .before .before .before .before .before .before .before .before .before .before .args .buf .now) (stateOf (c .before .before .before .before .before .before .before .before .before .before .before .before .before .before .before .args .state .now) .used) (markerBytes) (c .before .before .before .before .before .copy .result) (c .before .before .before .before .before .copy .last .0) (rw (c .before .before .before .before .before .before .before .used .ensures) at (c .before .before .before .before .before .copy .ensures)) h)
+ended-requires c κs =
+    let a = c .before .before .before .before .before .before .before .before .before .before .before .before .before .before .before .args in
+    λ h. omega (arith, put-fits (a .buf .now) (stateOf (a .state .now) .used) (markerBytes) (c .before .before .before .before .before .copy .result) (c .before .before .before .before .before .copy .last .0) (rw (c .before .before .before .before .before .before .before .used .ensures) at (c .before .before .before .before .before .copy .ensures)) h)
 
 same-length-2 : tie.Need-same-length-2
 same-length-2 c = search needs
@@ -52,7 +56,9 @@ same-length-3 : tie.Need-same-length-3
 same-length-3 c = search needs
 
 returns-2 : tie.Need-returns-2
-returns-2 c = rw (c .before .before .ended .ensures .0, c .before .before .ended .ensures .1, c .before .before .before .waiting .ensures) (end-entry (versionMarker) (c .before .before .before .before .before .before .before .before .before .before .before .before .before .before .before .before .before .before .args .state .now) (c .before .before .before .before .before .before .before .before .before .before .before .before .before .before .before .before .before .before .args .buf .now) (isOpen (openContainers (stateOf (c .before .before .before .before .before .before .before .before .before .before .before .before .before .before .before .before .before .before .args .state .now)))) (markerBytes) ((stateOf (c .before .before .before .before .before .before .before .before .before .before .before .before .before .before .before .before .before .before .args .state .now)) .waiting) refl (λ s. refl) (omega arith) refl (sym (c .before .before .before .before .before .before .before .before .before .before .before .before .before .before .top-passes .ensures) ∙ not-false _ (c .before .before .before .before .before .before .before .before .before .before .before .before .before .if1 .left)) (c .before .before .before .before .before .before .before .before .copy .result) (c .before .before .before .before .before .before .before .before .copy .last .0) (rw (c .before .before .before .before .before .before .before .before .before .before .used .ensures) at (c .before .before .before .before .before .before .before .before .copy .ensures)))
+returns-2 c =
+    let a = c .before .before .before .before .before .before .before .before .before .before .before .before .before .before .before .before .before .before .args in
+    end-entry (versionMarker) (a .state .now) (a .buf .now) (isOpen (openContainers (stateOf (a .state .now)))) (markerBytes) ((stateOf (a .state .now)) .waiting) refl (λ s. refl) (omega arith) refl (sym (c .before .before .before .before .before .before .before .before .before .before .before .before .before .before .top-passes .ensures) ∙ not-false _ (c .before .before .before .before .before .before .before .before .before .before .before .before .before .if1 .left)) (c .before .before .before .before .before .before .before .before .copy .result) (c .before .before .before .before .before .before .before .before .copy .last .0) (rw (c .before .before .before .before .before .before .before .before .before .before .used .ensures) at (c .before .before .before .before .before .before .before .before .copy .ensures)) (c .before .before .ended .result) (c .before .before .ended .last .0) (c .before .before .ended .ensures .0) (rw (c .before .before .before .waiting .ensures) at (c .before .before .ended .ensures .1))
 
 pub gm-version-marker-spec : {M : Type 1} → statement M
 gm-version-marker-spec =

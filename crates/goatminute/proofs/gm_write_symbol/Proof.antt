@@ -25,7 +25,9 @@ same-length : tie.Need-same-length
 same-length c = search needs
 
 returns : tie.Need-returns
-returns c = value-barred (sidsOf (c .before .before .before .before .before .before .before .before .before .args .annotations .now)) (writeSymbol (c .before .before .before .before .before .before .before .before .before .args .sid)) (c .before .before .before .before .before .before .before .before .before .args .state .now) (c .before .before .before .before .before .before .before .before .before .args .buf .now) (c .before .value-place .result) (c .answered .result) (sym (c .before .before .before .before .value-passes .ensures) ∙ not-true _ (c .before .before .before .if1 .taken)) (c .before .value-place .ensures) (c .answered .ensures)
+returns c =
+    let a = c .before .before .before .before .before .before .before .before .before .args in
+    value-barred (sidsOf (a .annotations .now)) (writeSymbol (a .sid)) (a .state .now) (a .buf .now) (c .before .value-place .result) (c .answered .result) (sym (c .before .before .before .before .value-passes .ensures) ∙ not-true _ (c .before .before .before .if1 .taken)) (c .before .value-place .ensures) (c .answered .ensures)
 
 used-requires : tie.Need-used-requires
 used-requires c κs = search needs
@@ -34,7 +36,9 @@ write-symbol-requires : tie.Need-write-symbol-requires
 write-symbol-requires c κs = search needs
 
 ended-requires : tie.Need-ended-requires
-ended-requires c κs = λ h. omega (arith, value-fits (sidsOf (c .before .before .before .before .before .before .before .before .before .before .before .before .before .args .annotations .now)) (writeSymbol (c .before .before .before .before .before .before .before .before .before .before .before .before .before .args .sid)) (c .before .before .before .before .before .before .before .before .before .before .before .before .before .args .state .now) (c .before .before .before .before .before .before .before .before .before .before .before .before .before .args .buf .now) (sym (c .before .before .before .before .before .before .before .before .value-passes .ensures) ∙ not-false _ (c .before .before .before .before .before .before .before .if1 .left)) (c .before .before .before .write-symbol .result) (c .before .before .before .write-symbol .last .0) (rw (c .before .before .before .before .used .ensures) at (c .before .before .before .write-symbol .ensures)) h)
+ended-requires c κs =
+    let a = c .before .before .before .before .before .before .before .before .before .before .before .before .before .args in
+    λ h. omega (arith, value-fits (sidsOf (a .annotations .now)) (writeSymbol (a .sid)) (a .state .now) (a .buf .now) (sym (c .before .before .before .before .before .before .before .before .value-passes .ensures) ∙ not-false _ (c .before .before .before .before .before .before .before .if1 .left)) (c .before .before .before .write-symbol .result) (c .before .before .before .write-symbol .last .0) (rw (c .before .before .before .before .used .ensures) at (c .before .before .before .write-symbol .ensures)) h)
 
 same-length-2 : tie.Need-same-length-2
 same-length-2 c = search needs
@@ -44,7 +48,9 @@ same-length-3 c = search needs
 
 returns-2 : tie.Need-returns-2
 unfolding ownRefusal
-returns-2 c = rw (c .before .before .ended .ensures .0, c .before .before .ended .ensures .1) (value-ended (sidsOf (c .before .before .before .before .before .before .before .before .before .before .before .before .before .before .before .before .args .annotations .now)) (writeSymbol (c .before .before .before .before .before .before .before .before .before .before .before .before .before .before .before .before .args .sid)) (c .before .before .before .before .before .before .before .before .before .before .before .before .before .before .before .before .args .state .now) (c .before .before .before .before .before .before .before .before .before .before .before .before .before .before .before .before .args .buf .now) (sym (c .before .before .before .before .before .before .before .before .before .before .before .value-passes .ensures) ∙ not-false _ (c .before .before .before .before .before .before .before .before .before .before .if1 .left)) (c .before .before .before .before .before .before .write-symbol .result) (c .before .before .before .before .before .before .write-symbol .last .0) (rw (c .before .before .before .before .before .before .before .used .ensures) at (c .before .before .before .before .before .before .write-symbol .ensures)) NoRoom (λ z. refl))
+returns-2 c =
+    let a = c .before .before .before .before .before .before .before .before .before .before .before .before .before .before .before .before .args in
+    value-ended (sidsOf (a .annotations .now)) (writeSymbol (a .sid)) (a .state .now) (a .buf .now) (sym (c .before .before .before .before .before .before .before .before .before .before .before .value-passes .ensures) ∙ not-false _ (c .before .before .before .before .before .before .before .before .before .before .if1 .left)) (c .before .before .before .before .before .before .write-symbol .result) (c .before .before .before .before .before .before .write-symbol .last .0) (rw (c .before .before .before .before .before .before .before .used .ensures) at (c .before .before .before .before .before .before .write-symbol .ensures)) NoRoom (λ z. refl) (c .before .before .ended .result) (c .before .before .ended .last .0) (c .before .before .ended .ensures .0) (c .before .before .ended .ensures .1)
 
 pub gm-write-symbol-spec : {M : Type 1} → statement M
 gm-write-symbol-spec =

@@ -25,7 +25,10 @@ same-length-2 : tie.Need-same-length-2
 same-length-2 c = search needs
 
 returns : tie.Need-returns
-returns c = rw (← (c .before .before .before .before .before .before .before .before .before .precision-of .ensures), ← (rw (toZ-ofZ w32 (c .before .before .before .before .before .before .before .before .before .before .before .before .before .args .offset) (c .before .before .before .before .before .before .before .before .before .before .before .before .before .fits .offset)) at (c .before .before .before .before .before .before .before .before .offset-of .ensures)), ← (c .before .before .before .before .before .before .before .fraction-of .ensures)) (c .before .before .before .before .write-timestamp .ensures)
+returns c =
+    let start = c .before .before .before .before .before .before .before .before .before .before .before .before .before in
+    let a = start .args in
+    rw (← (c .before .before .before .before .before .before .before .before .before .precision-of .ensures), ← (rw (toZ-ofZ w32 (a .offset) (start .fits .offset)) at (c .before .before .before .before .before .before .before .before .offset-of .ensures)), ← (c .before .before .before .before .before .before .before .fraction-of .ensures)) (c .before .before .before .before .write-timestamp .ensures)
 
 pub gm-write-timestamp-spec : {M : Type 1} → statement M
 gm-write-timestamp-spec =

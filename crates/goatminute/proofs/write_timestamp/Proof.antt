@@ -24,7 +24,9 @@ same-length : tie.Need-same-length
 same-length c = search needs
 
 returns : tie.Need-returns
-returns c = value-barred (sidsOf (c .before .before .before .before .before .before .before .before .before .args .annotations .now)) (argumentOf (c .before .before .before .before .before .before .before .before .before .args .value)) (c .before .before .before .before .before .before .before .before .before .args .state .now) (c .before .before .before .before .before .before .before .before .before .args .buf .now) (c .before .value-place .result) (c .answered .result) (sym (c .before .before .before .before .value-passes .ensures) ∙ not-true _ (c .before .before .before .if1 .taken)) (c .before .value-place .ensures) (c .answered .ensures)
+returns c =
+    let a = c .before .before .before .before .before .before .before .before .before .args in
+    value-barred (sidsOf (a .annotations .now)) (argumentOf (a .value)) (a .state .now) (a .buf .now) (c .before .value-place .result) (c .answered .result) (sym (c .before .before .before .before .value-passes .ensures) ∙ not-true _ (c .before .before .before .if1 .taken)) (c .before .value-place .ensures) (c .answered .ensures)
 
 used-requires : tie.Need-used-requires
 used-requires c κs = search needs
@@ -45,10 +47,14 @@ same-length-3 : tie.Need-same-length-3
 same-length-3 c = search needs
 
 returns-2 : tie.Need-returns-2
-returns-2 c = rw (c .number-of .ensures) (value-refused (sidsOf (c .before .before .before .before .before .before .before .before .before .before .before .before .before .before .before .args .annotations .now)) (argumentOf (c .before .before .before .before .before .before .before .before .before .before .before .before .before .before .before .args .value)) (c .before .before .before .before .before .before .before .before .before .before .before .before .before .before .before .args .state .now) (c .before .before .before .before .before .before .before .before .before .before .before .before .before .before .before .args .buf .now) (sym (c .before .before .before .before .before .before .before .before .before .before .value-passes .ensures) ∙ not-false _ (c .before .before .before .before .before .before .before .before .before .if1 .left)) (c .before .before .before .before .before .write-timestamp .result) (c .before .before .before .before .before .write-timestamp .last .0) (rw (c .before .before .before .before .before .before .used .ensures) at (c .before .before .before .before .before .write-timestamp .ensures)) (c .before .timestamp-refusal .result) (c .before .before .if2 .taken) (c .before .timestamp-refusal .ensures))
+returns-2 c =
+    let a = c .before .before .before .before .before .before .before .before .before .before .before .before .before .before .before .args in
+    rw (c .number-of .ensures) (value-refused (sidsOf (a .annotations .now)) (argumentOf (a .value)) (a .state .now) (a .buf .now) (sym (c .before .before .before .before .before .before .before .before .before .before .value-passes .ensures) ∙ not-false _ (c .before .before .before .before .before .before .before .before .before .if1 .left)) (c .before .before .before .before .before .write-timestamp .result) (c .before .before .before .before .before .write-timestamp .last .0) (rw (c .before .before .before .before .before .before .used .ensures) at (c .before .before .before .before .before .write-timestamp .ensures)) (c .before .timestamp-refusal .result) (c .before .before .if2 .taken) (c .before .timestamp-refusal .ensures))
 
 ended-requires : tie.Need-ended-requires
-ended-requires c κs = λ h. omega (arith, value-fits (sidsOf (c .before .before .before .before .before .before .before .before .before .before .before .before .before .before .args .annotations .now)) (argumentOf (c .before .before .before .before .before .before .before .before .before .before .before .before .before .before .args .value)) (c .before .before .before .before .before .before .before .before .before .before .before .before .before .before .args .state .now) (c .before .before .before .before .before .before .before .before .before .before .before .before .before .before .args .buf .now) (sym (c .before .before .before .before .before .before .before .before .before .value-passes .ensures) ∙ not-false _ (c .before .before .before .before .before .before .before .before .if1 .left)) (c .before .before .before .before .write-timestamp .result) (c .before .before .before .before .write-timestamp .last .0) (rw (c .before .before .before .before .before .used .ensures) at (c .before .before .before .before .write-timestamp .ensures)) h)
+ended-requires c κs =
+    let a = c .before .before .before .before .before .before .before .before .before .before .before .before .before .before .args in
+    λ h. omega (arith, value-fits (sidsOf (a .annotations .now)) (argumentOf (a .value)) (a .state .now) (a .buf .now) (sym (c .before .before .before .before .before .before .before .before .before .value-passes .ensures) ∙ not-false _ (c .before .before .before .before .before .before .before .before .if1 .left)) (c .before .before .before .before .write-timestamp .result) (c .before .before .before .before .write-timestamp .last .0) (rw (c .before .before .before .before .before .used .ensures) at (c .before .before .before .before .write-timestamp .ensures)) h)
 
 same-length-4 : tie.Need-same-length-4
 same-length-4 c = search needs
@@ -57,7 +63,9 @@ same-length-5 : tie.Need-same-length-5
 same-length-5 c = search needs
 
 returns-3 : tie.Need-returns-3
-returns-3 c = rw (c .before .before .ended .ensures .0, c .before .before .ended .ensures .1) (value-ended (sidsOf (c .before .before .before .before .before .before .before .before .before .before .before .before .before .before .before .before .before .args .annotations .now)) (argumentOf (c .before .before .before .before .before .before .before .before .before .before .before .before .before .before .before .before .before .args .value)) (c .before .before .before .before .before .before .before .before .before .before .before .before .before .before .before .before .before .args .state .now) (c .before .before .before .before .before .before .before .before .before .before .before .before .before .before .before .before .before .args .buf .now) (sym (c .before .before .before .before .before .before .before .before .before .before .before .before .value-passes .ensures) ∙ not-false _ (c .before .before .before .before .before .before .before .before .before .before .before .if1 .left)) (c .before .before .before .before .before .before .before .write-timestamp .result) (c .before .before .before .before .before .before .before .write-timestamp .last .0) (rw (c .before .before .before .before .before .before .before .before .used .ensures) at (c .before .before .before .before .before .before .before .write-timestamp .ensures)) NoRoom (λ z. absurd (c .before .before .before .before .if2 .left z)))
+returns-3 c =
+    let a = c .before .before .before .before .before .before .before .before .before .before .before .before .before .before .before .before .before .args in
+    value-ended (sidsOf (a .annotations .now)) (argumentOf (a .value)) (a .state .now) (a .buf .now) (sym (c .before .before .before .before .before .before .before .before .before .before .before .before .value-passes .ensures) ∙ not-false _ (c .before .before .before .before .before .before .before .before .before .before .before .if1 .left)) (c .before .before .before .before .before .before .before .write-timestamp .result) (c .before .before .before .before .before .before .before .write-timestamp .last .0) (rw (c .before .before .before .before .before .before .before .before .used .ensures) at (c .before .before .before .before .before .before .before .write-timestamp .ensures)) NoRoom (λ z. absurd (c .before .before .before .before .if2 .left z)) (c .before .before .ended .result) (c .before .before .ended .last .0) (c .before .before .ended .ensures .0) (c .before .before .ended .ensures .1)
 
 pub write-timestamp-spec : {M : Type 1} → statement M
 write-timestamp-spec =

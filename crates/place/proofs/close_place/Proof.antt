@@ -1,9 +1,9 @@
 -- `place::close_place` meets its contract: a container is open exactly if the depth is not zero.
 -- Assumes nothing.
-use mathlib.Core.Path.{_∙_, ap}
+use mathlib.Core.Path.{ap}
 use mathlib.Core.Bool.{Bool, not, _||_}
 use Rattle.machine.specs.Machine.{openContainers, isOpen}
-use Rattle.place.proofs.Laws.{closed-of, judged-place}
+use Rattle.place.proofs.Laws.{closed-of}
 use borrow.Author.Needs.{needs}
 use Rattle.place.proofs.close_place.Statement.{statement}
 use Rattle.place.proofs.close_place.Tie as tie
@@ -17,7 +17,8 @@ judged-requires c κs = search needs
 returns : tie.Need-returns
 returns c =
     let a = c .before .before .before .before .args in
-    c .judged .ensures ∙ (rw (c .before .state-fits .ensures) (judged-place (a .s) (a .room) _ (not (isOpen (openContainers (a .s))) || a .s .waiting) (λ f. ap (λ (x : Bool). x || a .s .waiting) (closed-of (a .s .containers) (a .s .depth)))))
+    c .judged .ensures (a .s) (not (isOpen (openContainers (a .s))) || a .s .waiting) (c .before .state-fits .ensures)
+    (λ f. ap (λ (x : Bool). x || a .s .waiting) (closed-of (a .s .containers) (a .s .depth)))
 
 pub close-place-spec : {M : Type 1} → statement M
 close-place-spec = tie.close (tie.spec state-fits-requires judged-requires returns)

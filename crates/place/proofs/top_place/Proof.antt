@@ -1,8 +1,7 @@
 -- `place::top_place` meets its contract: a container is open exactly if the depth is not zero.
 -- Assumes nothing.
-use mathlib.Core.Path.{_∙_}
 use Rattle.machine.specs.Machine.{openContainers, isOpen}
-use Rattle.place.proofs.Laws.{open-of, judged-place}
+use Rattle.place.proofs.Laws.{open-of}
 use borrow.Author.Needs.{needs}
 use Rattle.place.proofs.top_place.Statement.{statement}
 use Rattle.place.proofs.top_place.Tie as tie
@@ -16,7 +15,8 @@ judged-requires c κs = search needs
 returns : tie.Need-returns
 returns c =
     let a = c .before .before .before .args in
-    c .judged .ensures ∙ (rw (c .before .state-fits .ensures) (judged-place (a .s) (a .room) _ (isOpen (openContainers (a .s))) (λ f. open-of (a .s .containers) (a .s .depth))))
+    c .judged .ensures (a .s) (isOpen (openContainers (a .s))) (c .before .state-fits .ensures)
+    (λ f. open-of (a .s .containers) (a .s .depth))
 
 pub top-place-spec : {M : Type 1} → statement M
 top-place-spec = tie.close (tie.spec state-fits-requires judged-requires returns)

@@ -4,10 +4,12 @@ use mathlib.Core.Path.{_≡_, sym, _∙_, ap}
 use Prim.Native.Nat.{ℕ}
 use lib.ListN.{length}
 use lib.IntN.{natAbs}
+use lib.Ieee.{binary32, binary64, toBits}
 use mir.Syntax.{w64}
 use mir.Val.{ofZ, toZ}
 use Rattle.encoding.specs.Fields.{uintBytes}
 use Rattle.encoding.specs.Argument.{float32Bytes, float64Bytes}
+use Rattle.scalars.specs.Types.{typeOf}
 use Rattle.scalars.proofs.Bytes.{null-bytes, bool-bytes, i64-bytes, f32-bytes, f64-bytes, symbol-bytes}
 use borrow.Author.Needs.{needs}
 use Rattle.scalars.proofs.size.Statement.{statement}
@@ -53,14 +55,32 @@ fit-requires-3 c κs = search needs
 enum-known-value-3 : tie.Need-enum-known-value-3
 enum-known-value-3 c = search needs
 
-f64-size-requires : tie.Need-f64-size-requires
-f64-size-requires c κs = search needs
+f32-bits-size-requires : tie.Need-f32-bits-size-requires
+f32-bits-size-requires c κs = search needs
 
 fit-requires-4 : tie.Need-fit-requires-4
 fit-requires-4 c κs = search needs
 
 enum-known-value-4 : tie.Need-enum-known-value-4
 enum-known-value-4 c = search needs
+
+f64-size-requires : tie.Need-f64-size-requires
+f64-size-requires c κs = search needs
+
+fit-requires-5 : tie.Need-fit-requires-5
+fit-requires-5 c κs = search needs
+
+enum-known-value-5 : tie.Need-enum-known-value-5
+enum-known-value-5 c = search needs
+
+f64-bits-size-requires : tie.Need-f64-bits-size-requires
+f64-bits-size-requires c κs = search needs
+
+fit-requires-6 : tie.Need-fit-requires-6
+fit-requires-6 c κs = search needs
+
+enum-known-value-6 : tie.Need-enum-known-value-6
+enum-known-value-6 c = search needs
 
 encoded-size-of-requires-2 : tie.Need-encoded-size-of-requires-2
 encoded-size-of-requires-2 c κs = search needs
@@ -69,7 +89,7 @@ framed-size-requires-2 : tie.Need-framed-size-requires-2
 framed-size-requires-2 c κs = search needs
 
 returns : tie.Need-returns
-returns c = let g = c .before .enum-told .given in rw (g .1) (c .fit .ensures _ (ap length (null-bytes (g .0 .0))))
+returns c = let g = c .before .enum-told .given in rw (g .1) (c .fit .ensures _ (ap length (null-bytes (typeOf (g .0 .0)))))
 
 returns-2 : tie.Need-returns-2
 returns-2 c = let g = c .before .enum-told2 .given in rw (g .1) (c .fit2 .ensures _ (ap length (bool-bytes (g .0 .0))))
@@ -79,16 +99,33 @@ returns-3 c =
     let m = c .before .before in
     let g = m .before .before .value .given in
     let n : m .magnitude .result ≡ natAbs (g .0 .0) = m .magnitude .ensures ∙ ap natAbs (kept (m .before)) in
-    rw (g .1, i64-bytes (g .0 .0)) (c .framed-size .ensures _ (uintBytes (natAbs (g .0 .0))) (sym (c .before .encoded-size-of .ensures ∙ ap (λ (k : ℕ). length (uintBytes k)) n)))
+    rw (g .1, i64-bytes (g .0 .0))
+    (c .framed-size .ensures _ (uintBytes (natAbs (g .0 .0))) (sym (c .before .encoded-size-of .ensures ∙ ap (λ (k : ℕ). length (uintBytes k)) n)))
 
 returns-4 : tie.Need-returns-4
-returns-4 c = let g = c .before .before .before .value2 .given in rw (g .1, f32-bytes (g .0 .0)) (c .fit3 .ensures (float32Bytes (g .0 .0)) (sym (c .before .f32-size .ensures)))
+returns-4 c =
+    let g = c .before .before .before .value2 .given in
+    rw (g .1, f32-bytes (toBits binary32 (g .0 .0))) (c .fit3 .ensures (float32Bytes (toBits binary32 (g .0 .0))) (sym (c .before .f32-size .ensures)))
 
 returns-5 : tie.Need-returns-5
-returns-5 c = let g = c .before .before .before .value3 .given in rw (g .1, f64-bytes (g .0 .0)) (c .fit4 .ensures (float64Bytes (g .0 .0)) (sym (c .before .f64-size .ensures)))
+returns-5 c =
+    let g = c .before .before .before .value3 .given in
+    rw (g .1, f32-bytes (g .0 .0)) (c .fit4 .ensures (float32Bytes (g .0 .0)) (sym (c .before .f32-bits-size .ensures)))
 
 returns-6 : tie.Need-returns-6
-returns-6 c = let g = c .before .before .before .value4 .given in rw (g .1, symbol-bytes (g .0 .0)) (c .framed-size2 .ensures 0x70 (uintBytes (g .0 .0)) (sym (c .before .encoded-size-of2 .ensures)))
+returns-6 c =
+    let g = c .before .before .before .value4 .given in
+    rw (g .1, f64-bytes (toBits binary64 (g .0 .0))) (c .fit5 .ensures (float64Bytes (toBits binary64 (g .0 .0))) (sym (c .before .f64-size .ensures)))
+
+returns-7 : tie.Need-returns-7
+returns-7 c =
+    let g = c .before .before .before .value5 .given in
+    rw (g .1, f64-bytes (g .0 .0)) (c .fit6 .ensures (float64Bytes (g .0 .0)) (sym (c .before .f64-bits-size .ensures)))
+
+returns-8 : tie.Need-returns-8
+returns-8 c =
+    let g = c .before .before .before .value6 .given in
+    rw (g .1, symbol-bytes (g .0 .0)) (c .framed-size2 .ensures 0x70 (uintBytes (g .0 .0)) (sym (c .before .encoded-size-of2 .ensures)))
 
 pub size-spec : {M : Type 1} → statement M
 size-spec =
@@ -106,9 +143,15 @@ size-spec =
     f32-size-requires
     fit-requires-3
     enum-known-value-3
-    f64-size-requires
+    f32-bits-size-requires
     fit-requires-4
     enum-known-value-4
+    f64-size-requires
+    fit-requires-5
+    enum-known-value-5
+    f64-bits-size-requires
+    fit-requires-6
+    enum-known-value-6
     encoded-size-of-requires-2
     framed-size-requires-2
     returns
@@ -116,4 +159,6 @@ size-spec =
     returns-3
     returns-4
     returns-5
-    returns-6)
+    returns-6
+    returns-7
+    returns-8)

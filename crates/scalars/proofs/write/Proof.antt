@@ -33,17 +33,29 @@ write-i64-requires c κs = search needs
 enum-known-value-4 : tie.Need-enum-known-value-4
 enum-known-value-4 c = search needs
 
-write-f32-bits-requires : tie.Need-write-f32-bits-requires
-write-f32-bits-requires c κs = search needs
+write-f32-requires : tie.Need-write-f32-requires
+write-f32-requires c κs = search needs
 
 enum-known-value-5 : tie.Need-enum-known-value-5
 enum-known-value-5 c = search needs
 
-write-f64-bits-requires : tie.Need-write-f64-bits-requires
-write-f64-bits-requires c κs = search needs
+write-f32-bits-requires : tie.Need-write-f32-bits-requires
+write-f32-bits-requires c κs = search needs
 
 enum-known-value-6 : tie.Need-enum-known-value-6
 enum-known-value-6 c = search needs
+
+write-f64-requires : tie.Need-write-f64-requires
+write-f64-requires c κs = search needs
+
+enum-known-value-7 : tie.Need-enum-known-value-7
+enum-known-value-7 c = search needs
+
+write-f64-bits-requires : tie.Need-write-f64-bits-requires
+write-f64-bits-requires c κs = search needs
+
+enum-known-value-8 : tie.Need-enum-known-value-8
+enum-known-value-8 c = search needs
 
 write-symbol-requires : tie.Need-write-symbol-requires
 write-symbol-requires c κs = search needs
@@ -70,19 +82,31 @@ same-length-4 : tie.Need-same-length-4
 same-length-4 c = search needs
 
 returns-4 : tie.Need-returns-4
-returns-4 c = let d = c .before .before in rw (d .before .before .before .value4 .given .1, f32-bytes _) (d .write-f32-bits .ensures)
+returns-4 c = let d = c .before .before in rw (d .before .before .before .value4 .given .1, f32-bytes _) (d .write-f32 .ensures)
 
 same-length-5 : tie.Need-same-length-5
 same-length-5 c = search needs
 
 returns-5 : tie.Need-returns-5
-returns-5 c = let d = c .before .before in rw (d .before .before .before .value5 .given .1, f64-bytes _) (d .write-f64-bits .ensures)
+returns-5 c = let d = c .before .before in rw (d .before .before .before .value5 .given .1, f32-bytes _) (d .write-f32-bits .ensures)
 
 same-length-6 : tie.Need-same-length-6
 same-length-6 c = search needs
 
 returns-6 : tie.Need-returns-6
-returns-6 c = let d = c .before .before in rw (d .before .before .before .value6 .given .1) (d .write-symbol .ensures)
+returns-6 c = let d = c .before .before in rw (d .before .before .before .value6 .given .1, f64-bytes _) (d .write-f64 .ensures)
+
+same-length-7 : tie.Need-same-length-7
+same-length-7 c = search needs
+
+returns-7 : tie.Need-returns-7
+returns-7 c = let d = c .before .before in rw (d .before .before .before .value7 .given .1, f64-bytes _) (d .write-f64-bits .ensures)
+
+same-length-8 : tie.Need-same-length-8
+same-length-8 c = search needs
+
+returns-8 : tie.Need-returns-8
+returns-8 c = let d = c .before .before in rw (d .before .before .before .value8 .given .1) (d .write-symbol .ensures)
 
 pub write-spec : {M : Type 1} → statement M
 write-spec =
@@ -95,10 +119,14 @@ write-spec =
     enum-known-value-3
     write-i64-requires
     enum-known-value-4
-    write-f32-bits-requires
+    write-f32-requires
     enum-known-value-5
-    write-f64-bits-requires
+    write-f32-bits-requires
     enum-known-value-6
+    write-f64-requires
+    enum-known-value-7
+    write-f64-bits-requires
+    enum-known-value-8
     write-symbol-requires
     same-length
     returns
@@ -111,4 +139,8 @@ write-spec =
     same-length-5
     returns-5
     same-length-6
-    returns-6)
+    returns-6
+    same-length-7
+    returns-7
+    same-length-8
+    returns-8)

@@ -2,13 +2,13 @@
 -- Assumes nothing.
 use mathlib.Core.Path.{sym, _∙_}
 use native.Mathlib.Omega.{arith}
-use Rattle.state_bytes.proofs.Laws.{state-is, state-none, container-is, container-past, container-empty}
+use Rattle.state_bytes.proofs.Laws.{state-is, state-none, container-is, container-past, container-unfit}
 use borrow.Author.Needs.{needs}
 use Rattle.state_bytes.proofs.container.Statement.{statement}
 use Rattle.state_bytes.proofs.container.Tie as tie
 
 returns : tie.Need-returns
-returns c = let a = c .before .before .args in rw (state-none (a .st .now) (c .if1 .taken)) (container-empty (a .i))
+returns c = let a = c .before .before .args in rw (state-none (a .st .now) (c .if1 .taken)) (container-unfit (a .i))
 
 returns-2 : tie.Need-returns-2
 returns-2 c = let a = c .before .before .before .args in rw (state-is (a .st .now) (c .before .if1 .left)) (container-past (a .st .now) (a .i) (omega arith))

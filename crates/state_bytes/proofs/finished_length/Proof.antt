@@ -4,8 +4,7 @@ use mathlib.Core.Path.{sym, _∙_}
 use native.Mathlib.Omega.{arith}
 use borrow.Author.Tests.{not-true, not-false}
 use Rattle.state_bytes.specs.StateBytes.{stateOf}
-use Rattle.state_bytes.proofs.Laws.{fits-lent, unfinished-lent}
-use Rattle.place.proofs.Finished.{unfinished-long, unfinished-open, finished-all}
+use Rattle.place.proofs.Finished.{unfinished-long, unfinished-unfit, unfinished-open, finished-all}
 use borrow.Author.Needs.{needs}
 use Rattle.state_bytes.proofs.finished_length.Statement.{statement}
 use Rattle.state_bytes.proofs.finished_length.Tie as tie
@@ -17,7 +16,7 @@ fits-requires : tie.Need-fits-requires
 fits-requires c κs = search needs
 
 returns-2 : tie.Need-returns-2
-returns-2 c = let a = c .before .before .before .before .args in unfinished-lent (a .st .now) (a .room) (sym (c .before .fits2 .ensures) ∙ not-true _ (c .if2 .taken))
+returns-2 c = let a = c .before .before .before .before .args in unfinished-unfit (stateOf (a .st .now)) (a .room) (sym (c .before .fits2 .ensures) ∙ not-true _ (c .if2 .taken))
 
 depth-requires : tie.Need-depth-requires
 depth-requires c κs = search needs
@@ -34,7 +33,7 @@ used-requires c κs = search needs
 returns-4 : tie.Need-returns-4
 returns-4 c =
     let a = c .before .before .before .before .before .before .before .before .args in
-    c .used .ensures ∙ finished-all (stateOf (a .st .now)) (a .room) (omega arith) (fits-lent (a .st .now) (a .room) (sym (c .before .before .before .before .before .fits2 .ensures) ∙ not-false _ (c .before .before .before .before .if2 .left))) (rw (c .before .before .before .depth .ensures, c .before .before .waiting .ensures) at (c .before .if3 .left))
+    c .used .ensures ∙ finished-all (stateOf (a .st .now)) (a .room) (omega arith) (sym (c .before .before .before .before .before .fits2 .ensures) ∙ not-false _ (c .before .before .before .before .if2 .left)) (rw (c .before .before .before .depth .ensures, c .before .before .waiting .ensures) at (c .before .if3 .left))
 
 pub finished-length-spec : {M : Type 1} → statement M
 finished-length-spec =

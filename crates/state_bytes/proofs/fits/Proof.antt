@@ -1,11 +1,10 @@
 -- `state_bytes::fits` meets its contract: it asks the lines of the definition one by one, the containers last.
 -- Assumes nothing.
-use mathlib.Core.Bool.{false}
 use mathlib.Core.Path.{sym, _∙_}
 use native.Mathlib.Omega.{arith}
 use Rattle.place.proofs.Laws.{fits-overused, fits-overopen, fits-nameless, fits-containers}
 use Rattle.state_bytes.specs.StateBytes.{stateOf}
-use Rattle.state_bytes.proofs.Laws.{fits-of, unfit}
+use Rattle.state_bytes.proofs.Laws.{unfit}
 use borrow.Author.Needs.{needs}
 use Rattle.state_bytes.proofs.fits.Statement.{statement}
 use Rattle.state_bytes.proofs.fits.Tie as tie
@@ -22,12 +21,12 @@ depth-requires c κs = search needs
 returns-2 : tie.Need-returns-2
 returns-2 c =
     let a = c .before .before .before .before .before .args in
-    fits-of (a .st .now) (a .room) false (c .before .before .before .if1 .left) (fits-overused (stateOf (a .st .now)) (a .room) (omega (arith, c .before .before .used .ensures)))
+    (fits-overused (stateOf (a .st .now)) (a .room) (omega (arith, c .before .before .used .ensures)))
 
 returns-3 : tie.Need-returns-3
 returns-3 c =
     let a = c .before .before .before .before .before .before .args in
-    fits-of (a .st .now) (a .room) false (c .before .before .before .before .if1 .left) (fits-overopen (stateOf (a .st .now)) (a .room) (omega (arith, c .before .before .before .used .ensures)) (omega (arith, c .before .before .depth .ensures)))
+    (fits-overopen (stateOf (a .st .now)) (a .room) (omega (arith, c .before .before .before .used .ensures)) (omega (arith, c .before .before .depth .ensures)))
 
 waiting-requires : tie.Need-waiting-requires
 waiting-requires c κs = search needs
@@ -38,7 +37,6 @@ in-struct-requires c κs = search needs
 returns-4 : tie.Need-returns-4
 returns-4 c =
     let a = c .before .before .before .before .before .before .before .before .before .args in
-    fits-of (a .st .now) (a .room) false (c .before .before .before .before .before .before .before .if1 .left)
     (fits-nameless (stateOf (a .st .now)) (a .room) (omega (arith, c .before .before .before .before .before .before .used .ensures)) (omega (arith, c .before .before .before .before .before .depth .ensures)) (rw (c .before .before .waiting .ensures, c .before .in-struct .ensures, c .before .before .before .before .before .depth .ensures) at (c .if4 .taken)))
 
 containers-fit-requires : tie.Need-containers-fit-requires
@@ -47,7 +45,6 @@ containers-fit-requires c κs = search needs
 returns-5 : tie.Need-returns-5
 returns-5 c =
     let a = c .before .before .before .before .before .before .before .before .before .before .args in
-    fits-of (a .st .now) (a .room) (c .containers-fit .result) (c .before .before .before .before .before .before .before .before .if1 .left)
     (c .containers-fit .ensures
     ∙ (rw (c .before .before .before .before .before .before .before .used .ensures, c .before .before .before .before .before .before .depth .ensures)
     (sym (fits-containers (stateOf (a .st .now)) (a .room) (omega (arith, c .before .before .before .before .before .before .before .used .ensures)) (omega (arith, c .before .before .before .before .before .before .depth .ensures)) (rw (c .before .before .before .waiting .ensures, c .before .before .in-struct .ensures, c .before .before .before .before .before .before .depth .ensures) at (c .before .if4 .left))))))

@@ -2,8 +2,7 @@
 -- Assumes nothing.
 use Prim.Native.Nat.{_≤_, _<_, _^_}
 use native.Mathlib.Omega.{arith}
-use native.Mathlib.Numerals.{add-one}
-use Rattle.timestamp.proofs.Fractions.{fractionBytes-is, coefficient-most}
+use Rattle.timestamp.proofs.Fractions.{fraction-length, coefficient-most}
 use borrow.Author.Needs.{needs}
 use Rattle.timestamp.proofs.fraction_size.Statement.{statement}
 use Rattle.timestamp.proofs.fraction_size.Tie as tie
@@ -29,7 +28,7 @@ returns c = search needs
 returns-2 : tie.Need-returns-2
 returns-2 c =
     let f = c .before .before in
-    rw (c .encoded-size-of-u64 .ensures, f .fraction .given .1, fractionBytes-is (f .fraction .given .0 .0) (f .fraction .given .0 .1 .0) (small f .0) (small f .1)) (add-one _)
+    rw (f .fraction .given .1) (omega (arith, c .encoded-size-of-u64 .ensures, fraction-length (f .fraction .given .0 .0) (f .fraction .given .0 .1 .0) (small f .0) (small f .1)))
 
 pub fraction-size-spec : {M : Type 1} → statement M
 fraction-size-spec =

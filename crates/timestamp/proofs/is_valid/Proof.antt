@@ -1,9 +1,8 @@
 -- `timestamp::is_valid` meets its contract: the tests in field order are the rules of check 7.
 -- Assumes nothing.
 use mathlib.Core.Path.{_≡_, sym, _∙_}
-use lib.ListN.{length}
 use Rattle.timestamp.specs.Arguments.{offsetMinutes, fractionDigits, fieldsOf}
-use Rattle.timestamp.proofs.Valid.{length-fieldsBy, isTimestamp-tests}
+use Rattle.timestamp.proofs.Valid.{fieldCount, length-fieldsBy, isTimestamp-tests}
 use borrow.Author.Needs.{needs}
 use Rattle.timestamp.proofs.is_valid.Statement.{statement}
 use Rattle.timestamp.proofs.is_valid.Tie as tie
@@ -30,9 +29,9 @@ returns : tie.Need-returns
 returns c =
     let d = c .before .before .before .before .before in
     let y = d .before .before in
-    let n = y .before .field-count .ensures in
     let t = y .before .before .args .t in
-    let l : length (fieldsOf t) ≡ y .before .field-count .result = length-fieldsBy (t .precision) (t .year) (t .month) (t .day) (t .hour) (t .minute) (t .second) ∙ sym n in
+    let l = sym (y .before .field-count .ensures (t .year) (t .month) (t .day) (t .hour) (t .minute) (t .second)) in
+    let n : y .before .field-count .result ≡ fieldCount (t .precision) = sym l ∙ length-fieldsBy (t .precision) (t .year) (t .month) (t .day) (t .hour) (t .minute) (t .second) in
     rw (c .fraction-fits .ensures (fieldsOf t) l, c .before .offset-fits .ensures (fieldsOf t) l, d .is-day .ensures, d .before .is-month .ensures, y .is-year .ensures, n)
     (isTimestamp-tests (t .precision) (t .year) (t .month) (t .day) (t .hour) (t .minute) (t .second) (offsetMinutes (t .offset)) (fractionDigits (t .fraction)))
 

@@ -1,54 +1,58 @@
--- `timestamp::offset_size` meets its contract: the magnitude is of one byte or of two.
+-- `timestamp::offset_size` meets its contract: the size of a VarInt is that of its magnitude.
 -- Assumes nothing.
-use mathlib.Core.Path.{_≡_}
+use mathlib.Core.Path.{_≡_, sym, _∙_}
 use mathlib.Core.Bool.{true}
 use Prim.Native.Nat.{_<_}
-use native.Mathlib.Omega.{arith}
-use lib.Dec.{leb}
 use lib.IntN.{pos, natAbs}
 use lib.Signed.{ltZ}
 use mir.Syntax.{w32}
 use mir.Val.{ofZ, toZ}
-use Rattle.timestamp.proofs.Bytes.{varInt-length, boolByte-fits}
+use Rattle.fields.proofs.Sizes.{length-varInt-sign}
 use Rattle.timestamp.proofs.Utc.{signedOf-parts}
 use borrow.Author.Needs.{needs}
 use Rattle.timestamp.proofs.offset_size.Statement.{statement}
 use Rattle.timestamp.proofs.offset_size.Tie as tie
 
+small : (c : tie.After-offset) → natAbs (c .offset .given .0 .0) < 8192
+small c = rw (c .offset .given .1) at (c .before .before .pre)
+
+kept : (c : tie.After-known-told) → toZ w32 (ofZ w32 (c .before .offset .given .0 .0)) ≡ c .before .offset .given .0 .0
+kept c = search needs
+
 enum-told : tie.Need-enum-told
 enum-told c = search needs
+
+encoded-size-of-requires : tie.Need-encoded-size-of-requires
+encoded-size-of-requires c κs = search needs
 
 enum-known-offset : tie.Need-enum-known-offset
 enum-known-offset c = search needs
 
-offset-magnitude-requires : tie.Need-offset-magnitude-requires
-offset-magnitude-requires c κs = search needs
+small-magnitude-requires : tie.Need-small-magnitude-requires
+small-magnitude-requires c κs = rw (kept c) (small (c .before))
 
-cast-result : tie.Need-cast-result
-cast-result c = search needs
-
-add-result : tie.Need-add-result
-add-result c = boolByte-fits (leb 64 (c .offset-magnitude .result))
+encoded-size-of-requires-2 : tie.Need-encoded-size-of-requires-2
+encoded-size-of-requires-2 c κs = search needs
 
 returns : tie.Need-returns
-returns c = rw (c .enum-told .given .1) (varInt-length true 0 (omega arith))
+returns c = rw (c .before .enum-told .given .1) (c .encoded-size-of .ensures ∙ sym (length-varInt-sign true 0))
 
 returns-2 : tie.Need-returns-2
 returns-2 c =
-    let o = c .before .before in
+    let m = c .before in
+    let o = m .before .before in
     let z = o .offset .given .0 .0 in
-    let k : toZ w32 (ofZ w32 z) ≡ z = search needs in
-    let small : natAbs z < 8192 = rw (o .offset .given .1) at (o .before .before .pre) in
-    rw (c .offset-magnitude .ensures, k, o .offset .given .1, ← signedOf-parts z) (varInt-length (ltZ z (pos 0)) (natAbs z) small)
+    rw (o .offset .given .1, ← signedOf-parts z, length-varInt-sign (ltZ z (pos 0)) (natAbs z))
+    (c .encoded-size-of2 .ensures ∙ rw (m .small-magnitude .ensures, kept (m .before)))
 
 pub offset-size-spec : {M : Type 1} → statement M
 offset-size-spec =
     tie.close
     (tie.spec
     enum-told
+    encoded-size-of-requires
     enum-known-offset
-    offset-magnitude-requires
-    cast-result
-    add-result
+    small-magnitude-requires
+    encoded-size-of-requires-2
     returns
     returns-2)

@@ -11,14 +11,10 @@ use Rattle.buffer.specs.Laid.{placed}
 use Rattle.buffer.proofs.Laid.{placed-full, no-room, room}
 use Rattle.decimal.proofs.Values.{body-room, placed-framed, value-count}
 use Rattle.timestamp.specs.Small.{bodyOf, valueOf}
-use Rattle.timestamp.proofs.Body.{small-parts, body-size}
-use Rattle.timestamp.proofs.Checked.{value-size, value-fits, value-length}
+use Rattle.timestamp.proofs.Checked.{value-size, value-fits}
 use borrow.Author.Needs.{needs}
 use Rattle.timestamp.proofs.put_value.Statement.{statement}
 use Rattle.timestamp.proofs.put_value.Tie as tie
-
-body-bytes : (c : tie.After-body-size) → c .body-size .result ≡ length (bodyOf (c .before .before .args .t))
-body-bytes c = let s = c .before .before in c .body-size .ensures ∙ sym (body-size (s .args .t) (s .pre))
 
 within : (c : tie.Else1) → let a = c .before .before .before .before .before .args in a .at + (length (headerBytes 0 (length (bodyOf (a .t)))) + length (bodyOf (a .t))) ≤ length (a .buf .now)
 within c =
@@ -26,13 +22,13 @@ within c =
     let n = r .before in
     let b = n .before in
     let a = b .before .before .args in
-    rw (← (body-bytes b), ← (n .encoded-size-of .ensures))
+    rw (← (b .body-size .ensures), ← (n .encoded-size-of .ensures))
     (room (r .has-room .result) (a .buf .now) (a .at + (n .encoded-size-of .result + b .body-size .result)) (r .has-room .ensures) (c .if1 .left))
 
 header : (c : tie.After-write) →
     let a = c .before .before .before .before .before .before .before .args in
     _≡_ {A = ℕ × List ℕ} (c .write .result, c .write .last .0) (placed (a .buf .now) (a .at) (headerBytes (typeByte timestampCode) (length (bodyOf (a .t)))))
-header c = rw (← (body-bytes (c .before .before .before .before .before))) (c .write .ensures)
+header c = rw (← (c .before .before .before .before .before .body-size .ensures)) (c .write .ensures)
 
 body-behind : (c : tie.After-write) → let a = c .before .before .before .before .before .before .before .args in a .at + c .write .result + length (bodyOf (a .t)) ≤ length (c .write .last .0)
 body-behind c =
@@ -40,7 +36,7 @@ body-behind c =
     body-room (a .buf .now) (a .at) (typeByte timestampCode) (bodyOf (a .t)) (within (c .before .before)) (c .write .result) (c .write .last .0) (header c)
 
 body-size-requires : tie.Need-body-size-requires
-body-size-requires c κs = small-parts (c .before .args .t) (c .before .pre)
+body-size-requires c κs = search needs
 
 encoded-size-of-requires : tie.Need-encoded-size-of-requires
 encoded-size-of-requires c κs = search needs
@@ -49,7 +45,7 @@ add-size : tie.Need-add-size
 add-size c =
     let b = c .before in
     let s = b .before .before in
-    value-fits (s .args .t) (s .args .t .year) (small-parts (s .args .t) (s .pre)) (b .body-size .result) (b .body-size .ensures) (c .encoded-size-of .result) (c .encoded-size-of .ensures)
+    value-fits (s .args .t) (s .pre) (b .body-size .result) (b .body-size .ensures) (c .encoded-size-of .result) (c .encoded-size-of .ensures)
 
 has-room-requires : tie.Need-has-room-requires
 has-room-requires c κs = search needs
@@ -62,7 +58,8 @@ returns c =
     let s = b .before .before in
     let a = s .args in
     let short = no-room (r .has-room .result) (a .buf .now) (a .at + (n .encoded-size-of .result + b .body-size .result)) (r .has-room .ensures) (c .if1 .taken) in
-    sym (placed-full (a .buf .now) (a .at) (valueOf (a .t)) (rw (value-size (a .t) (a .t .year) (small-parts (a .t) (s .pre)) (b .body-size .result) (b .body-size .ensures) (n .encoded-size-of .result) (n .encoded-size-of .ensures), value-length (a .t) (s .pre)) at short))
+    let e = value-size (a .t) (s .pre) (b .body-size .result) (b .body-size .ensures) (n .encoded-size-of .result) (n .encoded-size-of .ensures) in
+    sym (placed-full (a .buf .now) (a .at) (valueOf (a .t)) (rw e at short))
 
 write-requires : tie.Need-write-requires
 write-requires c κs = search needs

@@ -1,14 +1,18 @@
 -- `timestamp::size` meets its contract: none where check 7 refuses, else header and body by the UTC year.
 -- Assumes nothing.
 use mathlib.Core.Path.{_≡_, sym, _∙_, ap}
+use Prim.Native.Nat.{ℕ}
 use mathlib.Core.Bool.{true}
+use mathlib.Core.List.{[], _∷_}
 use borrow.Author.Tests.{not-true, not-false}
 use lib.ListN.{length}
 use Rattle.encoding.specs.Timestamp.{isTimestamp}
 use Rattle.encoding.specs.Argument.{checkedBytes}
 use Rattle.timestamp.specs.Arguments.{offsetMinutes, fractionDigits, fieldsOf, argumentOf}
-use Rattle.timestamp.specs.Small.{valueSize}
-use Rattle.timestamp.proofs.Checked.{refused, utc-parts, accepted-size}
+use Rattle.timestamp.specs.Utc.{withFields}
+use Rattle.timestamp.specs.Small.{valueOf}
+use Rattle.timestamp.proofs.Small.{utc-year-small}
+use Rattle.timestamp.proofs.Checked.{refused, accepted-size}
 use Rattle.decimal.proofs.Values.{fitted-fits, fitted-full, fitted-nil}
 use borrow.Author.Needs.{needs}
 use Rattle.timestamp.proofs.size.Statement.{statement}
@@ -18,10 +22,11 @@ passes : (c : tie.Else1) → let t = c .before .before .args .t in isTimestamp (
 passes c = sym (c .before .is-valid .ensures) ∙ not-false (c .before .is-valid .result) (c .if1 .left)
 
 value : (c : tie.After-value-size) → c .value-size .result ≡ length (checkedBytes (argumentOf (c .before .before .before .before .args .t)))
+unfolding withFields
 value c =
     let u = c .before in
     let t = u .before .before .before .args .t in
-    c .value-size .ensures ∙ (ap (valueSize t) (u .utc-year .ensures) ∙ accepted-size t (passes (u .before)))
+    c .value-size .ensures ∙ (ap (λ (y : ℕ). length (valueOf (withFields t (y ∷ [])))) (u .utc-year .ensures) ∙ accepted-size t (passes (u .before)))
 
 is-valid-requires : tie.Need-is-valid-requires
 is-valid-requires c κs = search needs
@@ -35,7 +40,8 @@ utc-year-requires : tie.Need-utc-year-requires
 utc-year-requires c κs = passes c
 
 value-size-requires : tie.Need-value-size-requires
-value-size-requires c κs = rw (c .utc-year .ensures) (utc-parts (c .before .before .before .args .t) (passes (c .before)))
+unfolding withFields
+value-size-requires c κs = rw (c .utc-year .ensures) (utc-year-small (c .before .before .before .args .t) (passes (c .before)))
 
 returns-2 : tie.Need-returns-2
 returns-2 c =

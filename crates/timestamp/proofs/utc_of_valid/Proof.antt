@@ -5,7 +5,7 @@ use Prim.Native.Nat.{_≤_, _<_}
 use lib.IntN.{natAbs}
 use mir.Syntax.{w32}
 use mir.Val.{ofZ, toZ}
-use Rattle.timestamp.specs.Arguments.{fieldCount}
+use Rattle.timestamp.proofs.Valid.{fieldCount}
 use Rattle.timestamp.proofs.Utc.{known, utc-known, utc-unknown}
 use borrow.Author.Needs.{needs}
 use Rattle.timestamp.proofs.utc_of_valid.Statement.{statement}

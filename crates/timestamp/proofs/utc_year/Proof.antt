@@ -6,7 +6,7 @@ use lib.IntN.{natAbs}
 use mir.Syntax.{w32}
 use mir.Val.{ofZ, toZ}
 use Rattle.timestamp.specs.declared.Timestamp.{Timestamp}
-use Rattle.timestamp.specs.Arguments.{fieldCount}
+use Rattle.timestamp.proofs.Valid.{fieldCount}
 use Rattle.timestamp.proofs.Utc.{known, utc-unknown, utc-year-known}
 use borrow.Author.Needs.{needs}
 use Rattle.timestamp.proofs.utc_year.Statement.{statement}
@@ -27,8 +27,8 @@ enum-known-offset c = search needs
 utc-minutes-requires : tie.Need-utc-minutes-requires
 utc-minutes-requires c κs = let k = admitted (c .before) in rw (kept c) (k .1, k .4, k .5)
 
-near-day-requires : tie.Need-near-day-requires
-near-day-requires c κs = let k = admitted (c .before .before) in (k .2, k .3)
+utc-day-requires : tie.Need-utc-day-requires
+utc-day-requires c κs = let k = admitted (c .before .before) in (k .2, k .3)
 
 returns : tie.Need-returns
 returns c = ap (λ (u : Timestamp). u .year) (utc-unknown (c .before .before .args .t) (c .enum-told .given .1))
@@ -37,8 +37,8 @@ returns-2 : tie.Need-returns-2
 returns-2 c =
     let o = c .before .before .before in
     let t = o .before .before .args .t in
-    let d = c .near-day .result in
-    utc-year-known t (o .offset .given .0 .0) (o .offset .given .1) (admitted o .0) (d .0) (d .1) (d .2) (rw (← kept (c .before .before), ← (c .before .utc-minutes .ensures)) (c .near-day .ensures))
+    let d = c .utc-day .result in
+    utc-year-known t (o .offset .given .0 .0) (o .offset .given .1) (admitted o .0) (d .0) (d .1) (d .2) (rw (← kept (c .before .before), ← (c .before .utc-minutes .ensures)) (c .utc-day .ensures))
 
 pub utc-year-spec : {M : Type 1} → statement M
 utc-year-spec =
@@ -47,6 +47,6 @@ utc-year-spec =
     enum-told
     enum-known-offset
     utc-minutes-requires
-    near-day-requires
+    utc-day-requires
     returns
     returns-2)

@@ -13,13 +13,15 @@ encoded-size-of-requires c κs = search needs
 
 add-result : tie.Need-add-result
 add-result c =
-    let s = c .before .before in
-    value-fits (s .args .t) (s .args .year) (s .pre) (c .before .body-size .result) (c .before .body-size .ensures) (c .encoded-size-of .result) (c .encoded-size-of .ensures)
+    let b = c .before in
+    let s = b .before in
+    value-fits (s .args .t) (s .pre) (b .body-size .result) (b .body-size .ensures) (c .encoded-size-of .result) (c .encoded-size-of .ensures)
 
 returns : tie.Need-returns
 returns c =
-    let s = c .before .before in
-    value-size (s .args .t) (s .args .year) (s .pre) (c .before .body-size .result) (c .before .body-size .ensures) (c .encoded-size-of .result) (c .encoded-size-of .ensures)
+    let b = c .before in
+    let s = b .before in
+    value-size (s .args .t) (s .pre) (b .body-size .result) (b .body-size .ensures) (c .encoded-size-of .result) (c .encoded-size-of .ensures)
 
 pub value-size-spec : {M : Type 1} → statement M
 value-size-spec =

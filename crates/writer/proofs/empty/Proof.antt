@@ -2,13 +2,11 @@
 -- Assumes nothing.
 use native.Mathlib.Omega.{arith}
 use mathlib.Core.Path.{refl, sym, _∙_}
-use mathlib.Core.List.{[], _∷_}
-use lib.Dec.{ltb}
 use lib.ListN.{length}
+use borrow.Author.Tests.{le-ltb}
 use Rattle.machine.specs.Call.{emptying}
 use Rattle.machine.specs.Machine.{openContainers, isOpen}
-use Rattle.writer.proofs.Run.{refused-place, passed-place, run-accepted}
-use borrow.Author.Tests.{le-ltb}
+use Rattle.writer.proofs.Run.{roomLine, refused-place, passed-place, run-accepted}
 use borrow.Author.Needs.{needs}
 use Rattle.writer.proofs.empty.Statement.{statement}
 use Rattle.writer.proofs.empty.Tie as tie
@@ -24,13 +22,18 @@ enum-told-2 c = search needs
 
 returns : tie.Need-returns
 returns c =
-    let a = c .before .before .before .before .args in
-    refused-place emptying (a .s) (a .buf .now) (isOpen (openContainers (a .s))) ((ltb (length (a .buf .now)) 0, 10) ∷ []) refl (c .before .before .top-place .result) (c .before .before .top-place .ensures) _ (c .enum-told2 .given .1)
+    let p = c .before .before in
+    let a = p .before .before .args in
+    refused-place emptying (a .s) (a .buf .now) (isOpen (openContainers (a .s))) (roomLine emptying (a .s) (a .buf .now)) refl
+    (p .top-place .result) (p .top-place .ensures) _ (c .enum-told2 .given .1)
 
 returns-2 : tie.Need-returns-2
 returns-2 c =
-    let a = c .before .before .before .before .args in
-    let past = passed-place emptying (a .s) (a .buf .now) (isOpen (openContainers (a .s))) ((ltb (length (a .buf .now)) 0, 10) ∷ []) refl (c .before .before .top-place .result) (c .before .before .top-place .ensures) (c .enum-told .given .1) in
+    let p = c .before .before in
+    let a = p .before .before .args in
+    let past =
+    passed-place emptying (a .s) (a .buf .now) (isOpen (openContainers (a .s))) (roomLine emptying (a .s) (a .buf .now)) refl
+    (p .top-place .result) (p .top-place .ensures) (c .enum-told .given .1) in
     sym (run-accepted emptying (a .s) (a .buf .now) (past ∙ rw (le-ltb (length (a .buf .now)) 0 (omega arith))))
 
 pub empty-spec : {M : Type 1} → statement M

@@ -1,19 +1,14 @@
 -- `writer::field_name` meets its contract: refused by place, refused for room, or put at the end of the used bytes.
 -- Assumes nothing.
-use Prim.Native.Nat.{_+_}
 use native.Mathlib.Omega.{arith}
-use mathlib.Core.Path.{refl, _∙_, ap}
+use mathlib.Core.Path.{refl}
 use mathlib.Core.Bool.{true, not, _||_}
-use mathlib.Core.List.{[], _∷_}
-use lib.Dec.{ltb}
-use lib.ListN.{length}
 use Rattle.encoding.specs.Fields.{varUIntBytes}
 use Rattle.fields.proofs.Sizes.{varUInt-least}
 use Rattle.machine.specs.Call.{name}
 use Rattle.machine.specs.Machine.{openContainers, inStruct}
-use Rattle.machine.specs.Numbers.{outcomeOf}
-use Rattle.machine.specs.declared.Written.{Written}
-use Rattle.writer.proofs.Run.{refused-place, passed-place, put-fits, end-run}
+use Rattle.machine.specs.declared.Refusal.the-variants.{NoRoom}
+use Rattle.writer.proofs.Run.{roomLine, refused-place, passed-place, put-fits, end-run, ended-run}
 use borrow.Author.Needs.{needs}
 use Rattle.writer.proofs.field_name.Statement.{statement}
 use Rattle.writer.proofs.field_name.Tie as tie
@@ -29,25 +24,33 @@ enum-told-2 c = search needs
 
 returns : tie.Need-returns
 returns c =
-    let a = c .before .before .before .before .args in
-    refused-place (name (a .sid)) (a .s) (a .buf .now) (not (inStruct (openContainers (a .s))) || a .s .waiting) ((ltb (length (a .buf .now)) (a .s .used + length (varUIntBytes (a .sid))), 10) ∷ []) refl (c .before .before .name-place .result) (c .before .before .name-place .ensures) _ (c .enum-told2 .given .1)
+    let p = c .before .before in
+    let a = p .before .before .args in
+    refused-place (name (a .sid)) (a .s) (a .buf .now) (not (inStruct (openContainers (a .s))) || a .s .waiting) (roomLine (name (a .sid)) (a .s) (a .buf .now))
+    refl (p .name-place .result) (p .name-place .ensures) _ (c .enum-told2 .given .1)
 
 write-requires : tie.Need-write-requires
 write-requires c κs = search needs
 
 ended-requires : tie.Need-ended-requires
-ended-requires c κs = λ h. let a = c .before .before .before .before .before .before .before .before .args in omega (arith, put-fits (a .buf .now) (a .s .used) (varUIntBytes (a .sid)) (c .before .before .write .result) (c .before .before .write .last .0) (c .before .before .write .ensures) h)
+ended-requires c κs = λ h.
+    let w = c .before .before in
+    let a = w .before .before .before .before .before .before .args in
+    omega (arith, put-fits (a .buf .now) (a .s .used) (varUIntBytes (a .sid)) (w .write .result) (w .write .last .0) (w .write .ensures) h)
 
 same-length : tie.Need-same-length
 same-length c = search needs
 
 returns-2 : tie.Need-returns-2
 returns-2 c =
-    let a = c .before .before .before .before .before .before .before .before .before .args in
-    let p = c .before .before .before .before .before .before .before in
-    let past = passed-place (name (a .sid)) (a .s) (a .buf .now) (not (inStruct (openContainers (a .s))) || a .s .waiting) ((ltb (length (a .buf .now)) (a .s .used + length (varUIntBytes (a .sid))), 10) ∷ []) refl (p .name-place .result) (p .name-place .ensures) (c .before .before .before .before .before .enum-told .given .1) in
-    ap (λ (r : Written). outcomeOf r (c .before .before .before .write .last .0)) (c .ended .ensures)
-    ∙ end-run (name (a .sid)) (a .s) (a .buf .now) (varUIntBytes (a .sid)) (c .before .before .before .write .result) (c .before .before .before .write .last .0) true (c .before .before .before .write .ensures) past (varUInt-least (a .sid)) refl
+    let w = c .before .before .before in
+    let p = w .before .before .before .before in
+    let a = p .before .before .args in
+    let past =
+    passed-place (name (a .sid)) (a .s) (a .buf .now) (not (inStruct (openContainers (a .s))) || a .s .waiting) (roomLine (name (a .sid)) (a .s) (a .buf .now))
+    refl (p .name-place .result) (p .name-place .ensures) (w .before .before .enum-told .given .1) in
+    ended-run (c .ended .result) (name (a .sid)) (a .s) (a .buf .now) (w .write .result) (w .write .last .0) true NoRoom (c .ended .ensures)
+    (end-run (name (a .sid)) (a .s) (a .buf .now) (varUIntBytes (a .sid)) _ _ true (w .write .ensures) past (varUInt-least (a .sid)) refl)
 
 pub field-name-spec : {M : Type 1} → statement M
 field-name-spec =

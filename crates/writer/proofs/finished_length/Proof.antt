@@ -21,7 +21,11 @@ returns-3 : tie.Need-returns-3
 returns-3 c = let a = c .before .before .before .before .before .before .args in unfinished-open (a .s) (a .room) (c .if3 .taken)
 
 returns-4 : tie.Need-returns-4
-returns-4 c = let a = c .before .before .before .before .before .before .args in finished-all (a .s) (a .room) (omega (arith, c .before .before .before .before .before .if1 .left)) (sym (c .before .before .before .before .state-fits .ensures) ∙ not-false _ (c .before .before .before .if2 .left)) (c .if3 .left)
+returns-4 c =
+    let t = c .before .before .before in
+    let o = t .before .before in
+    let a = o .before .args in
+    finished-all (a .s) (a .room) (omega (arith, o .if1 .left)) (sym (t .before .state-fits .ensures) ∙ not-false _ (t .if2 .left)) (c .if3 .left)
 
 pub finished-length-spec : {M : Type 1} → statement M
 finished-length-spec =

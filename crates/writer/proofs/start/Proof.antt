@@ -32,8 +32,11 @@ same-length c = search needs
 
 returns-2 : tie.Need-returns-2
 returns-2 c =
-    let a = c .before .before .before .before .before .before .before .before .before .args in
-    ap (λ (x : State). outcome (refused 10) x (c .before .before .before .before .copy .last .0)) (c .empty-state2 .ensures) ∙ start-full (a .buf .now) (omega (arith, c .before .before .before .before .before .before .before .if1 .left)) (c .before .before .before .before .copy .result) (c .before .before .before .before .copy .last .0) (c .before .before .before .before .copy .ensures) (c .before .if2 .taken)
+    let w = c .before .before .before .before in
+    let d = w .before .before .before in
+    let b = d .before .before .args .buf .now in
+    ap (λ (x : State). outcome (refused 10) x (w .copy .last .0)) (c .empty-state2 .ensures)
+    ∙ start-full b (omega (arith, d .if1 .left)) (w .copy .result) (w .copy .last .0) (w .copy .ensures) (c .before .if2 .taken)
 
 empty-state-requires-3 : tie.Need-empty-state-requires-3
 empty-state-requires-3 c κs = search needs
@@ -43,8 +46,11 @@ same-length-2 c = search needs
 
 returns-3 : tie.Need-returns-3
 returns-3 c =
-    let a = c .before .before .before .before .before .before .before .before .before .args in
-    ap (λ (x : State). outcome accepted x (c .before .before .before .before .copy .last .0)) (c .empty-state3 .ensures) ∙ start-put (a .buf .now) (omega (arith, c .before .before .before .before .before .before .before .if1 .left)) (c .before .before .before .before .copy .result) (c .before .before .before .before .copy .last .0) (c .before .before .before .before .copy .ensures) (c .before .if2 .left)
+    let w = c .before .before .before .before in
+    let d = w .before .before .before in
+    let b = d .before .before .args .buf .now in
+    ap (λ (x : State). outcome accepted x (w .copy .last .0)) (c .empty-state3 .ensures)
+    ∙ start-put b (omega (arith, d .if1 .left)) (w .copy .result) (w .copy .last .0) (w .copy .ensures) (c .before .if2 .left)
 
 pub start-spec : {M : Type 1} → statement M
 start-spec =

@@ -1,26 +1,24 @@
--- `writer::write_clob` meets its contract: refused by place, by the value's own checks or for room, or put at the end of the used bytes.
+-- `writer::write_clob` meets its contract: refused by place, or for room, or put at the end of the used bytes.
 -- Assumes nothing.
-use Prim.Native.Nat.{_+_}
 use native.Mathlib.Omega.{arith}
-use mathlib.Core.Path.{refl, _∙_, ap}
-use mathlib.Core.List.{[], _∷_, _++_}
-use lib.Dec.{ltb}
-use lib.ListN.{length}
-use Rattle.encoding.specs.Argument.{writeClob, argumentBytes, argumentChecks}
-use Rattle.encoding.specs.Headers.{annotatedBytes}
+use mathlib.Core.Path.{refl}
+use Rattle.encoding.specs.Argument.{writeClob}
+use Rattle.writer.proofs.Scalars.{unchecked}
 use Rattle.annotations.specs.Sids.{sidsOf}
-use Rattle.values.specs.Values.{annotatedChecked}
-use Rattle.machine.specs.Call.{write}
-use Rattle.machine.specs.Machine.{lacksName}
-use Rattle.machine.specs.Numbers.{outcomeOf}
 use Rattle.machine.specs.declared.Refusal.the-variants.{NoRoom}
-use Rattle.machine.specs.declared.Written.{Written}
-use Rattle.writer.specs.Refused.{ownRefusal}
-use Rattle.writer.proofs.Run.{refused-place, passed-place, put-fits}
-use Rattle.writer.proofs.Scalars.{checked-none, checked-some, scalar-run}
+use Rattle.writer.proofs.Values.{Put, value-barred, value-put, value-fits, value-ended}
 use borrow.Author.Needs.{needs}
 use Rattle.writer.proofs.write_clob.Statement.{statement}
 use Rattle.writer.proofs.write_clob.Tie as tie
+
+-- what the leaf has put
+put : (c : tie.After-write-clob) → let a = c .before .before .before .before .before .before .before .before .args in
+    Put (sidsOf (a .annotations .now)) (writeClob (a .bytes .now)) (a .s) (a .buf .now) (c .write-clob .result) (c .write-clob .last .0)
+put c =
+    let p = c .before .before .before .before in
+    let a = p .before .before .before .before .args in
+    value-put (sidsOf (a .annotations .now)) (writeClob (a .bytes .now)) (a .s) (a .buf .now) (p .value-place .result) (p .value-place .ensures)
+    (c .before .before .enum-told .given .1) _ _ (c .write-clob .ensures)
 
 value-place-requires : tie.Need-value-place-requires
 value-place-requires c κs = search needs
@@ -33,24 +31,21 @@ enum-told-2 c = search needs
 
 returns : tie.Need-returns
 returns c =
-    let a = c .before .before .before .before .before .before .args in
-    refused-place (write (sidsOf (a .annotations .now)) (writeClob (a .bytes .now))) (a .s) (a .buf .now) (lacksName (a .s)) (argumentChecks (writeClob (a .bytes .now)) ++ ((ltb (length (a .buf .now)) (a .s .used + length (annotatedBytes (sidsOf (a .annotations .now)) (argumentBytes (writeClob (a .bytes .now))))), 10) ∷ [])) refl (c .before .before .value-place .result) (c .before .before .value-place .ensures) _ (c .enum-told2 .given .1)
+    let p = c .before .before in
+    let a = p .before .before .before .before .args in
+    value-barred (sidsOf (a .annotations .now)) (writeClob (a .bytes .now)) (a .s) (a .buf .now) (p .value-place .result) (p .value-place .ensures) _ (c .enum-told2 .given .1)
 
 write-clob-requires : tie.Need-write-clob-requires
 write-clob-requires c κs = search needs
 
 ended-requires : tie.Need-ended-requires
-ended-requires c κs = λ h. let a = c .before .before .before .before .before .before .before .before .before .before .args in omega (arith, put-fits (a .buf .now) (a .s .used) (annotatedChecked (sidsOf (a .annotations .now)) (writeClob (a .bytes .now))) (c .before .before .write-clob .result) (c .before .before .write-clob .last .0) (c .before .before .write-clob .ensures) h)
+ended-requires c κs = λ h. omega (arith, value-fits (put (c .before .before)) h)
 
 same-length : tie.Need-same-length
 same-length c = search needs
 
 returns-2 : tie.Need-returns-2
-unfolding ownRefusal
-returns-2 c =
-    let a = c .before .before .before .before .before .before .before .before .before .before .before .args in
-    ap (λ (r : Written). outcomeOf r (c .before .before .before .write-clob .last .0)) (c .ended .ensures)
-    ∙ scalar-run (sidsOf (a .annotations .now)) (writeClob (a .bytes .now)) (a .s) (a .buf .now) (annotatedChecked (sidsOf (a .annotations .now)) (writeClob (a .bytes .now))) (c .before .before .before .write-clob .result) (c .before .before .before .write-clob .last .0) (checked-none (sidsOf (a .annotations .now)) (writeClob (a .bytes .now))) (checked-some (sidsOf (a .annotations .now)) (writeClob (a .bytes .now))) (c .before .before .before .write-clob .ensures) (passed-place (write (sidsOf (a .annotations .now)) (writeClob (a .bytes .now))) (a .s) (a .buf .now) (lacksName (a .s)) (argumentChecks (writeClob (a .bytes .now)) ++ ((ltb (length (a .buf .now)) (a .s .used + length (annotatedBytes (sidsOf (a .annotations .now)) (argumentBytes (writeClob (a .bytes .now))))), 10) ∷ [])) refl (c .before .before .before .before .before .before .before .value-place .result) (c .before .before .before .before .before .before .before .value-place .ensures) (c .before .before .before .before .before .enum-told .given .1)) NoRoom (λ z. refl)
+returns-2 c = value-ended (put (c .before .before .before)) NoRoom (λ z. unchecked _ refl) (c .ended .result) (c .ended .ensures)
 
 pub write-clob-spec : {M : Type 1} → statement M
 write-clob-spec =

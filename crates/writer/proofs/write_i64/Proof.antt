@@ -1,68 +1,21 @@
--- `writer::write_i64` meets its contract: refused by place, by the value's own checks or for room, or put at the end of the used bytes.
+-- `writer::write_i64` meets its contract: the scalar's, its number read back from its bits.
 -- Assumes nothing.
-use Prim.Native.Nat.{_+_}
-use native.Mathlib.Omega.{arith}
 use mir.Syntax.{w64}
 use mir.ValLaws.{toZ-ofZ}
-use mathlib.Core.Path.{refl, _∙_, ap}
-use mathlib.Core.List.{[], _∷_, _++_}
-use lib.Dec.{ltb}
-use lib.ListN.{length}
-use Rattle.encoding.specs.Argument.{writeI64, argumentBytes, argumentChecks}
-use Rattle.encoding.specs.Headers.{annotatedBytes}
-use Rattle.annotations.specs.Sids.{sidsOf}
-use Rattle.values.specs.Values.{annotatedChecked}
-use Rattle.machine.specs.Call.{write}
-use Rattle.machine.specs.Machine.{lacksName}
-use Rattle.machine.specs.Numbers.{outcomeOf}
-use Rattle.machine.specs.declared.Refusal.the-variants.{NoRoom}
-use Rattle.machine.specs.declared.Written.{Written}
-use Rattle.writer.specs.Refused.{ownRefusal}
-use Rattle.writer.proofs.Run.{refused-place, passed-place, put-fits}
-use Rattle.writer.proofs.Scalars.{checked-none, checked-some, scalar-run}
 use borrow.Author.Needs.{needs}
 use Rattle.writer.proofs.write_i64.Statement.{statement}
 use Rattle.writer.proofs.write_i64.Tie as tie
 
-value-place-requires : tie.Need-value-place-requires
-value-place-requires c κs = search needs
-
-enum-told : tie.Need-enum-told
-enum-told c = search needs
-
-enum-told-2 : tie.Need-enum-told-2
-enum-told-2 c = search needs
-
-returns : tie.Need-returns
-returns c =
-    let a = c .before .before .before .before .before .args in
-    refused-place (write (sidsOf (a .annotations .now)) (writeI64 (a .value))) (a .s) (a .buf .now) (lacksName (a .s)) (argumentChecks (writeI64 (a .value)) ++ ((ltb (length (a .buf .now)) (a .s .used + length (annotatedBytes (sidsOf (a .annotations .now)) (argumentBytes (writeI64 (a .value))))), 10) ∷ [])) refl (c .before .before .value-place .result) (c .before .before .value-place .ensures) _ (c .enum-told2 .given .1)
-
-write-i64-requires : tie.Need-write-i64-requires
-write-i64-requires c κs = search needs
-
-ended-requires : tie.Need-ended-requires
-ended-requires c κs = λ h. let a = c .before .before .before .before .before .before .before .before .before .args in omega (arith, put-fits (a .buf .now) (a .s .used) (annotatedChecked (sidsOf (a .annotations .now)) (writeI64 (a .value))) (c .before .before .write-i64 .result) (c .before .before .write-i64 .last .0) (rw (← (toZ-ofZ w64 (a .value) (c .before .before .before .before .before .before .before .before .before .fits .value))) (c .before .before .write-i64 .ensures)) h)
+write-scalar-requires : tie.Need-write-scalar-requires
+write-scalar-requires c κs = search needs
 
 same-length : tie.Need-same-length
 same-length c = search needs
 
-returns-2 : tie.Need-returns-2
-unfolding ownRefusal
-returns-2 c =
-    let a = c .before .before .before .before .before .before .before .before .before .before .args in
-    ap (λ (r : Written). outcomeOf r (c .before .before .before .write-i64 .last .0)) (c .ended .ensures)
-    ∙ scalar-run (sidsOf (a .annotations .now)) (writeI64 (a .value)) (a .s) (a .buf .now) (annotatedChecked (sidsOf (a .annotations .now)) (writeI64 (a .value))) (c .before .before .before .write-i64 .result) (c .before .before .before .write-i64 .last .0) (checked-none (sidsOf (a .annotations .now)) (writeI64 (a .value))) (checked-some (sidsOf (a .annotations .now)) (writeI64 (a .value))) (rw (← (toZ-ofZ w64 (a .value) (c .before .before .before .before .before .before .before .before .before .before .fits .value))) (c .before .before .before .write-i64 .ensures)) (passed-place (write (sidsOf (a .annotations .now)) (writeI64 (a .value))) (a .s) (a .buf .now) (lacksName (a .s)) (argumentChecks (writeI64 (a .value)) ++ ((ltb (length (a .buf .now)) (a .s .used + length (annotatedBytes (sidsOf (a .annotations .now)) (argumentBytes (writeI64 (a .value))))), 10) ∷ [])) refl (c .before .before .before .before .before .before .before .value-place .result) (c .before .before .before .before .before .before .before .value-place .ensures) (c .before .before .before .before .before .enum-told .given .1)) NoRoom (λ z. refl)
+returns : tie.Need-returns
+returns c =
+    let s = c .before .before .before .before .before .before in
+    rw (← (toZ-ofZ w64 (s .args .value) (s .fits .value))) (c .before .before .write-scalar .ensures)
 
 pub write-i64-spec : {M : Type 1} → statement M
-write-i64-spec =
-    tie.close
-    (tie.spec
-    value-place-requires
-    enum-told
-    enum-told-2
-    returns
-    write-i64-requires
-    ended-requires
-    same-length
-    returns-2)
+write-i64-spec = tie.close (tie.spec write-scalar-requires same-length returns)

@@ -1,16 +1,16 @@
--- `fields::var_uint::write_digits` meets its contract: the digits but for the last are one run, and the last with its flag is a store behind it.
+-- `fields::var_uint::write_digits` meets its contract: the last digit with its flag is a store, and the digits but for it are a run before it.
 -- The size is one more than the digits of `value / 128`. Assumes nothing.
-use mathlib.Core.Path.{_≡_, sym, _∙_, ap}
+use mathlib.Core.Path.{_≡_, refl, sym, _∙_, ap}
 use mathlib.Core.List.{List, [], _∷_, _++_}
 use Prim.Native.Nat.{ℕ, suc, _+_, _-_, _/_, _%_, _≤_, _<_}
 use native.Mathlib.Omega.{arith}
 use borrow.Author.Needs.{needs}
-use lib.ListN.{length, set}
+use lib.ListN.{length, set, length-set}
 use Rattle.encoding.specs.Digits.{lowDigits, digitCount, digits}
 use Rattle.encoding.specs.Fields.{varUIntBytes}
 use Rattle.buffer.specs.Laid.{laid}
-use Rattle.buffer.proofs.Laid.{laid-snoc, placed-full, placed-by, no-room, room}
-use Rattle.fields.proofs.Digits.{length-lowDigits}
+use Rattle.buffer.proofs.Laid.{placed-full, placed-by, no-room, room}
+use Rattle.fields.proofs.Digits.{digits-before}
 use Rattle.fields.proofs.Sizes.{length-varUInt}
 use Rattle.fields.proofs.var_uint.write_digits.Statement.{statement}
 use Rattle.fields.proofs.var_uint.write_digits.Tie as tie
@@ -28,13 +28,13 @@ known c =
       room = room (c .before .has-room .result) (a .buf .now) _ (c .before .has-room .ensures) (c .if1 .left);
     }
 
--- the flagged byte behind the other digits
-whole : (b l : List ℕ) (at n last : ℕ) → last ≡ digitCount 128 (n / 128) → at + last < length b → l ≡ laid b at (lowDigits 128 last (n / 128)) →
-    set l (at + last) (0x80 + n % 128) ≡ laid b at (varUIntBytes n)
+-- the other digits before the flagged byte
+whole : (b l : List ℕ) (at n last : ℕ) → last ≡ digitCount 128 (n / 128) → at + last < length b →
+    l ≡ laid (set b (at + last) (0x80 + n % 128)) at (lowDigits 128 last (n / 128)) → l ≡ laid b at (varUIntBytes n)
 unfolding varUIntBytes digits
 whole b l at n last e h q =
-    rw q (laid-snoc b at (lowDigits 128 last (n / 128)) (at + last) (0x80 + n % 128) (ap (λ (k : ℕ). at + k) (sym (length-lowDigits 128 last (n / 128)))) h
-    ∙ ap (λ (k : ℕ). laid b at (lowDigits 128 k (n / 128) ++ ((0x80 + n % 128) ∷ []))) e)
+    digits-before b l at last (n / 128) (at + last) (0x80 + n % 128) refl h q
+    ∙ ap (λ (k : ℕ). laid b at (lowDigits 128 k (n / 128) ++ ((0x80 + n % 128) ∷ []))) e
 
 encoded-size-of-requires : tie.Need-encoded-size-of-requires
 encoded-size-of-requires c κs = search needs
@@ -51,9 +51,6 @@ returns c =
 sub-last : tie.Need-sub-last
 sub-last c = let k = known c in omega arith
 
-put-digits-requires : tie.Need-put-digits-requires
-put-digits-requires c κs = let k = known (c .before) in omega arith
-
 cast-buf : tie.Need-cast-buf
 cast-buf c = search needs
 
@@ -61,13 +58,16 @@ add-buf : tie.Need-add-buf
 add-buf c = search needs
 
 add-buf-2 : tie.Need-add-buf-2
-add-buf-2 c = let k = known (c .before .before .before .before) in omega arith
+add-buf-2 c = let k = known c in omega arith
 
 slice-write-buf : tie.Need-slice-write-buf
-slice-write-buf c = let k = known (c .before .before .before .before) in omega arith
+slice-write-buf c = let k = known c in omega arith
+
+put-digits-requires : tie.Need-put-digits-requires
+put-digits-requires c κs = let k = known (c .before) in simp length-set (omega arith)
 
 same-length : tie.Need-same-length
-same-length c = search needs
+same-length c = simp length-set at (c .before .before .put-digits .kept .0)
 
 returns-2 : tie.Need-returns-2
 returns-2 c =
@@ -86,10 +86,10 @@ write-digits-spec =
     has-room-requires
     returns
     sub-last
-    put-digits-requires
     cast-buf
     add-buf
     add-buf-2
     slice-write-buf
+    put-digits-requires
     same-length
     returns-2)

@@ -1,0 +1,156 @@
+-- Demands 2 and 3 of one list of calls through the entry points, computed: the calls of the machine's instance as a host makes them, on a state slice
+-- and a buffer that hold something else. Assumes nothing.
+use Prim.Native.Nat.{ℕ, zero, suc}
+use native.Mathlib.Omega.{arith}
+use mathlib.Core.Path.{_≡_, refl, sym, _∙_, subst₂}
+use mathlib.Core.List.{List, [], _∷_}
+use lib.ListN.{replicate}
+use lib.IntN.{pos, negsuc}
+use lib.Ieee.{ofBits, toBits, isNan}
+use lib.Ieee.{fits as holds}
+use Rattle.buffer.specs.Laid.{laid}
+use Rattle.ion.specs.Fields.{bigEndian}
+use Rattle.ion.specs.Text.{begun, utf8From, utf8}
+use Rattle.ion.specs.Scalars.{floatOf, areFields}
+use Rattle.encoding.specs.Digits.{lowDigits, countDigits, digitCount, digits}
+use Rattle.encoding.specs.Fields.{varUIntBytes, varUIntsBytes, varIntGroups, varIntBytes, uintBytes, fixedBytes, trimmed, intBytes}
+use Rattle.encoding.specs.Headers.{headerBytes, framedBytes, annotationBytes, annotatedBytes}
+use Rattle.encoding.specs.Decimal.{decimalBody}
+use Rattle.encoding.specs.Timestamp.{dayBefore, dayAfter, isTimestamp, timestampBody}
+use Rattle.encoding.specs.Argument.{float32Bytes, narrows, float64Bytes, argumentBytes, meaning}
+use Rattle.encoding.specs.Stream.{streamBytes}
+use Rattle.annotations.specs.Sids.{leastFirst, sidAt, sidsUpTo, sidsOf}
+use Rattle.machine.specs.Machine.{closedBytes, splice, containerFits, containersFit, fits, verdict, startVerdict, finishedLength}
+use Rattle.machine.specs.Numbers.{run}
+use Rattle.machine.specs.Demands.{ReadsOnlyAs}
+use Rattle.machine.proofs.Instances.{most, nines, bytes, items}
+use Rattle.state_bytes.specs.StateBytes.{stateOf, containersFrom, storedHead, storedContainer, entered}
+use Rattle.entry_numbers.specs.Lent.{typeCoded, precisionNumbered, offsetLent, fractionLent}
+use Rattle.entry_numbers.specs.EntryCall.{gmWriteNull, gmWriteBool, gmWriteI64, gmWriteInt, gmWriteF32, gmWriteF64, gmWriteDecimal, gmWriteTimestamp, gmWriteSymbol}
+use Rattle.entry_numbers.specs.EntryCall.{gmWriteString, gmWriteClob, gmWriteBlob, gmFieldName, gmOpenList, gmOpenSexp, gmOpenStruct}
+use Rattle.entry_numbers.specs.EntryCall.{gmClose, gmAbandon, gmVersionMarker, gmFinished, gmEmpty, TimestampNumbers, AllU8, TimestampTyped, HostCall}
+use Rattle.goatminute.specs.Entries.{startEntered}
+use Rattle.entry_lists.specs.Demands.{lentStarted, lentJoined, lentModelAfter, lentSpelling, lentWritten, LentRun}
+use Rattle.entry_lists.proofs.Demands.{entry-demand2, entry-demand3}
+
+-- ---- the calls
+
+-- a sid of eight bytes FF
+abbrev ff : List ℕ
+ff = replicate 8 0xFF
+
+abbrev thirtyThree : List ℕ
+thirtyThree = replicate 33 1
+
+abbrev twoHundred : List ℕ
+twoHundred = replicate 200 1
+
+ones-typed : (n : ℕ) → AllU8 (replicate n 1)
+ones-typed zero = tt
+ones-typed (suc n) = (omega arith, ones-typed n)
+
+-- 0001-01-02T00:00:00.999999999999999999+23:59, the numbers that say yes at their greatest
+abbrev earliest : TimestampNumbers
+earliest = record {
+  precision = 0xFF;
+  year = 1;
+  month = 1;
+  day = 2;
+  hour = 0;
+  minute = 0;
+  second = 0;
+  known = 0xFF;
+  offset = pos 1439;
+  given = 0xFF;
+  digits = 18;
+  coefficient = 999999999999999999;
+}
+
+-- 2001-02-29, and numbers at their greatest that mean nothing
+abbrev noDay : TimestampNumbers
+noDay = record {
+  precision = 2;
+  year = 2001;
+  month = 2;
+  day = 29;
+  hour = 0xFFFFFFFF;
+  minute = 0xFFFFFFFF;
+  second = 0xFFFFFFFF;
+  known = 0;
+  offset = negsuc 0x7FFFFFFF;
+  given = 0;
+  digits = 0xFFFFFFFF;
+  coefficient = most;
+}
+
+earliest-typed : TimestampTyped earliest
+earliest-typed = omega arith
+
+noDay-typed : TimestampTyped noDay
+noDay-typed = omega arith
+
+abbrev hostLimits : List HostCall
+hostLimits =
+    record { entry = gmWriteNull [] 11; typed = omega arith }
+    ∷ record { entry = gmOpenStruct ff; typed = omega arith }
+    ∷ record { entry = gmWriteBool [] 1; typed = omega arith }
+    ∷ record { entry = gmFieldName most; typed = omega arith }
+    ∷ record { entry = gmFieldName 4; typed = omega arith }
+    ∷ record { entry = gmWriteI64 (10 ∷ 0 ∷ 0 ∷ 0 ∷ 0 ∷ 0 ∷ 0 ∷ 0 ∷ []) (negsuc 0x7FFFFFFFFFFFFFFF); typed = omega arith }
+    ∷ record { entry = gmFieldName 5; typed = omega arith }
+    ∷ record { entry = gmOpenList []; typed = omega arith }
+    ∷ record { entry = gmWriteInt [] 1 (0 ∷ 0xFF ∷ []); typed = omega arith }
+    ∷ record { entry = gmWriteInt [] 0xFF []; typed = omega arith }
+    ∷ record { entry = gmWriteF32 [] 0xFFFFFFFF; typed = omega arith }
+    ∷ record { entry = gmWriteF64 [] 0x7FF0000000000000; typed = omega arith }
+    ∷ record { entry = gmWriteF64 [] 0xFFFFFFFFFFFFFFFF; typed = omega arith }
+    ∷ record { entry = gmWriteDecimal [] 1 (0x80 ∷ []) (negsuc 0x7FFFFFFFFFFFFFFF); typed = omega arith }
+    ∷ record { entry = gmWriteDecimal [] 0 thirtyThree (pos 0); typed = (omega arith, omega arith, (ones-typed 33, omega arith), omega arith) }
+    ∷ record { entry = gmVersionMarker; typed = omega arith }
+    ∷ record { entry = gmClose; typed = omega arith }
+    ∷ record { entry = gmFieldName 6; typed = omega arith }
+    ∷ record { entry = gmOpenSexp (12 ∷ []); typed = omega arith }
+    ∷ record { entry = gmWriteBool [] 0; typed = omega arith }
+    ∷ record { entry = gmAbandon; typed = omega arith }
+    ∷ record { entry = gmWriteTimestamp [] earliest; typed = (omega arith, earliest-typed) }
+    ∷ record { entry = gmFieldName 7; typed = omega arith }
+    ∷ record { entry = gmClose; typed = omega arith }
+    ∷ record { entry = gmWriteTimestamp [] noDay; typed = (omega arith, noDay-typed) }
+    ∷ record { entry = gmWriteSymbol [] most; typed = omega arith }
+    ∷ record { entry = gmClose; typed = omega arith }
+    ∷ record { entry = gmFinished; typed = omega arith }
+    ∷ record { entry = gmEmpty; typed = omega arith }
+    ∷ record { entry = gmVersionMarker; typed = omega arith }
+    ∷ record { entry = gmWriteString [] (0xC3 ∷ 0xA9 ∷ []); typed = omega arith }
+    ∷ record { entry = gmWriteString [] (0xFF ∷ []); typed = omega arith }
+    ∷ record { entry = gmWriteClob [] (0xFF ∷ []); typed = omega arith }
+    ∷ record { entry = gmWriteBlob [] (0 ∷ []); typed = omega arith }
+    ∷ record { entry = gmOpenSexp []; typed = omega arith }
+    ∷ record { entry = gmWriteBool [] 0xFF; typed = omega arith }
+    ∷ record { entry = gmClose; typed = omega arith }
+    ∷ record { entry = gmWriteBlob [] twoHundred; typed = (omega arith, (ones-typed 200, omega arith)) }
+    ∷ record { entry = gmAbandon; typed = omega arith }
+    ∷ []
+
+abbrev sevens : List ℕ
+sevens = replicate 296 7
+
+-- ---- what the demands say of them
+
+run-limits : LentRun hostLimits sevens nines
+unfolding lentJoined lentModelAfter startEntered entered run stateOf containersFrom storedHead storedContainer laid sidsOf sidsUpTo sidAt leastFirst typeCoded precisionNumbered offsetLent fractionLent verdict startVerdict finishedLength fits containerFits containersFit splice closedBytes meaning argumentBytes annotatedBytes annotationBytes framedBytes headerBytes float32Bytes narrows float64Bytes fixedBytes uintBytes trimmed intBytes decimalBody timestampBody isTimestamp areFields dayBefore dayAfter varIntBytes varIntGroups varUIntsBytes varUIntBytes digits digitCount countDigits lowDigits bigEndian begun utf8From utf8 floatOf ofBits toBits holds isNan
+run-limits = record { starts = refl; ends = refl }
+
+joined-bytes : lentJoined hostLimits (lentStarted sevens nines) ≡ bytes
+unfolding lentJoined lentModelAfter startEntered entered run stateOf containersFrom storedHead storedContainer laid sidsOf sidsUpTo sidAt leastFirst typeCoded precisionNumbered offsetLent fractionLent verdict startVerdict finishedLength fits containerFits containersFit splice closedBytes meaning argumentBytes annotatedBytes annotationBytes framedBytes headerBytes float32Bytes narrows float64Bytes fixedBytes uintBytes trimmed intBytes decimalBody timestampBody isTimestamp areFields dayBefore dayAfter varIntBytes varIntGroups varUIntsBytes varUIntBytes digits digitCount countDigits lowDigits bigEndian begun utf8From utf8 floatOf ofBits toBits holds isNan
+joined-bytes = refl
+
+spelled-items : lentSpelling hostLimits sevens nines .items ≡ items
+unfolding lentJoined lentModelAfter startEntered entered run stateOf containersFrom storedHead storedContainer laid sidsOf sidsUpTo sidAt leastFirst typeCoded precisionNumbered offsetLent fractionLent verdict startVerdict finishedLength fits containerFits containersFit splice closedBytes meaning argumentBytes annotatedBytes annotationBytes framedBytes headerBytes float32Bytes narrows float64Bytes fixedBytes uintBytes trimmed intBytes decimalBody timestampBody isTimestamp areFields dayBefore dayAfter varIntBytes varIntGroups varUIntsBytes varUIntBytes digits digitCount countDigits lowDigits bigEndian begun utf8From utf8 floatOf ofBits toBits holds isNan
+spelled-items = refl
+
+entry-instance2 : streamBytes (lentWritten hostLimits sevens nines) ≡ bytes
+entry-instance2 = sym (entry-demand2 hostLimits sevens nines run-limits) ∙ joined-bytes
+
+entry-instance3 : ReadsOnlyAs bytes items
+entry-instance3 = subst₂ ReadsOnlyAs joined-bytes spelled-items (entry-demand3 hostLimits sevens nines run-limits)

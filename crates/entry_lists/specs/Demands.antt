@@ -1,0 +1,96 @@
+-- What is promised of what a host calls: demands 1, 2 and 3 over the entry points of crate goatminute, on one page. The proofs are in proofs/Demands.antt.
+-- Each entry point is lent the state's bytes and the buffer. Its contract says that it answers and leaves what `entered` does; `gm_start`'s names
+-- `startEntered`, and `gm_finished` answers `finishedLength`.
+-- Assumes nothing.
+use Prim.Native.Nat.{ℕ}
+use mathlib.Core.Path.{_≡_}
+use mathlib.Core.Bool.{Bool, not, _&&_}
+use mathlib.Core.List.{List, [], _∷_, _++_}
+use lib.Dec.{eqb}
+use lib.ListN.{length, take}
+use Rattle.ion.specs.Value.{Scalar, Item}
+use Rattle.encoding.specs.Argument.{Argument, meaning, anyHolds}
+use Rattle.encoding.specs.Stream.{streamBytes}
+use Rattle.machine.specs.Machine.{Config, checks, firstFailing, finishedLength}
+use Rattle.machine.specs.Model.{Model, modelStep, startedModel}
+use Rattle.machine.specs.Demands.{isEmptying, partOf, ReadsOnlyAs}
+use Rattle.state_bytes.specs.StateBytes.{stateOf, numberOf, Entered, entered}
+use Rattle.entry_numbers.specs.EntryCall.{EntryCall, callOf, HostCall}
+use Rattle.goatminute.specs.Entries.{startEntered}
+
+-- what is lent
+pub record Lent : Type 0 where
+  pub state : List ℕ
+  pub buffer : List ℕ
+
+-- the state that the slice spells, with the buffer
+abbrev pub configOf : Lent → Config
+configOf w = record { state = stateOf (w .state); buffer = w .buffer }
+
+-- ---- one call
+
+abbrev pub enteredOn : EntryCall → Lent → Entered
+enteredOn e w = entered (callOf e) (w .state) (w .buffer)
+
+abbrev pub answer : EntryCall → Lent → ℕ
+answer e w = enteredOn e w .number
+
+abbrev pub isEntered : EntryCall → Lent → Bool
+isEntered e w = eqb (answer e w) 0
+
+abbrev pub lentAfter : EntryCall → Lent → Lent
+lentAfter e w = record { state = enteredOn e w .state; buffer = enteredOn e w .buffer }
+
+-- The lines of document 01's table for this call, in their order: each test that refuses, with its number.
+abbrev pub tableOf : EntryCall → Lent → List (Bool × ℕ)
+tableOf e w = checks (callOf e) (configOf w)
+
+-- Demand 1, of any entry point with any arguments on any bytes: the first failing line answers its number; a refusal leaves every byte
+-- of the state slice and of the buffer; and exactly a call that no line refuses is accepted, with 0.
+pub record Demand1Of (e : EntryCall) (w : Lent) : Type 0 where
+  pub table : answer e w ≡ numberOf (firstFailing (tableOf e w))
+  pub keeps : (answer e w ≡ 0 → ⊥) → lentAfter e w ≡ w
+  pub accepts : isEntered e w ≡ not (anyHolds (tableOf e w))
+
+abbrev pub EntryDemand1 : Type 0
+EntryDemand1 = (e : EntryCall) (w : Lent) → Demand1Of e w
+
+-- ---- lists of calls: each is lent what the last one left
+
+abbrev pub lentStarted : List ℕ → List ℕ → Lent
+lentStarted st b = record { state = startEntered st b .state; buffer = startEntered st b .buffer }
+
+-- as many bytes from the buffer's front as `gm_finished` answers
+abbrev pub lentTaken : Lent → List ℕ
+lentTaken w = take (finishedLength (stateOf (w .state)) (length (w .buffer))) (w .buffer)
+
+-- The finished bytes just before each accepted emptying and at the end, joined.
+unfoldable pub lentJoined : List HostCall → Lent → List ℕ
+lentJoined [] w = lentTaken w
+lentJoined (h ∷ hs) w = partOf (isEmptying (callOf (h .entry)) && isEntered (h .entry) w) (lentTaken w) ++ lentJoined hs (lentAfter (h .entry) w)
+
+-- The model is fed each call, its arguments and whether it was accepted.
+unfoldable pub lentModelAfter : {S : Type 0} → (Argument → S) → List HostCall → Lent → Model S → Model S
+lentModelAfter f [] w x = x
+lentModelAfter f (h ∷ hs) w x = lentModelAfter f hs (lentAfter (h .entry) w) (modelStep f (callOf (h .entry)) (isEntered (h .entry) w) x)
+
+-- what the list spells, with the containers that its accepted calls leave open
+abbrev pub lentSpelling : List HostCall → List ℕ → List ℕ → Model Scalar
+lentSpelling hs st b = lentModelAfter meaning hs (lentStarted st b) startedModel
+
+-- the same items with the arguments of the calls for leaves
+abbrev pub lentWritten : List HostCall → List ℕ → List ℕ → List (Item Argument)
+lentWritten hs st b = lentModelAfter (λ a. a) hs (lentStarted st b) startedModel .items
+
+-- An accepted start, whatever was lent, and accepted calls that leave no container open.
+pub record LentRun (hs : List HostCall) (st b : List ℕ) : Type 0 where
+  pub starts : startEntered st b .number ≡ 0
+  pub ends : lentSpelling hs st b .stack ≡ []
+
+-- Demand 2: the joined bytes are the encoding of what was written.
+abbrev pub EntryDemand2 : Type 0
+EntryDemand2 = (hs : List HostCall) (st b : List ℕ) → LentRun hs st b → lentJoined hs (lentStarted st b) ≡ streamBytes (lentWritten hs st b)
+
+-- Demand 3: the joined bytes have a reading, it is what was spelled, and every reading equals it.
+abbrev pub EntryDemand3 : Type 0
+EntryDemand3 = (hs : List HostCall) (st b : List ℕ) → LentRun hs st b → ReadsOnlyAs (lentJoined hs (lentStarted st b)) (lentSpelling hs st b .items)

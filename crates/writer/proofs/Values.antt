@@ -1,0 +1,51 @@
+-- What the calls that write a scalar cite: refused by place, by one of the value's own checks or for room, or put at the end of the used bytes.
+-- Assumes nothing.
+use Prim.Native.Nat.{ℕ, _+_, _≤_}
+use mathlib.Core.Path.{_≡_, refl}
+use mathlib.Core.Bool.{false}
+use mathlib.Core.List.{List}
+use lib.ListN.{length}
+use Rattle.encoding.specs.Argument.{Argument}
+use Rattle.values.specs.Values.{annotatedChecked}
+use Rattle.buffer.specs.Laid.{placed}
+use Rattle.machine.specs.declared.State.{State}
+use Rattle.machine.specs.declared.Refusal.{Refusal}
+use Rattle.machine.specs.declared.Answer.{Answer}
+use Rattle.machine.specs.declared.Answer.the-variants.{Accepted, Refused}
+use Rattle.machine.specs.declared.Written.{Written}
+use Rattle.machine.specs.Call.{write}
+use Rattle.machine.specs.Machine.{lacksName, checks, refused, firstFailing}
+use Rattle.machine.specs.Numbers.{number, verdictOf, outcomeOf, run}
+use Rattle.machine.specs.Machine.{placeVerdict}
+use Rattle.writer.specs.Refused.{ownRefusal}
+use Rattle.writer.proofs.Run.{outcome, config, refused-place, passed-place, put-fits, Ends, Ended, ended-run}
+use Rattle.writer.proofs.Scalars.{scalarLines, scalar-run}
+
+-- a place that does not pass: p is the answer of the check
+pub value-barred : (an : List ℕ) (a : Argument) (s : State) (b : List ℕ) (p : Answer) → verdictOf p ≡ placeVerdict s (length b) (lacksName s)
+    → (why : Refusal) → p ≡ Refused why → outcome (verdictOf p) s b ≡ run (write an a) s b
+value-barred an a s b p e = refused-place (write an a) s b (lacksName s) (scalarLines an a s b) refl p e
+
+-- past its place: n is how many bytes the leaf has put, l the buffer after it
+pub record Put (an : List ℕ) (a : Argument) (s : State) (b : List ℕ) (n : ℕ) (l : List ℕ) : Type 0 where
+  passed : firstFailing (checks (write an a) (config s b)) ≡ firstFailing (scalarLines an a s b)
+  bytes : _≡_ {A = ℕ × List ℕ} (n, l) (placed b (s .used) (annotatedChecked an a))
+
+pub value-put : (an : List ℕ) (a : Argument) (s : State) (b : List ℕ) (p : Answer) → verdictOf p ≡ placeVerdict s (length b) (lacksName s) → p ≡ Accepted
+    → (n : ℕ) (l : List ℕ) → _≡_ {A = ℕ × List ℕ} (n, l) (placed b (s .used) (annotatedChecked an a)) → Put an a s b n l
+value-put an a s b p e ok n l w = record { passed = passed-place (write an a) s b (lacksName s) (scalarLines an a s b) refl p e ok; bytes = w }
+
+-- `why` says why nothing was put, where nothing was
+module _ {an : List ℕ} {a : Argument} {s : State} {b : List ℕ} {n : ℕ} {l : List ℕ} (w : Put an a s b n l) where
+  ends : (why : Refusal) → (n ≡ 0 → refused (number why) ≡ ownRefusal a) → Ends (write an a) s b n l false why
+  ends = scalar-run an a s b n l (w .bytes) (w .passed)
+
+  pub value-fits : (n ≡ 0 → ⊥) → s .used + n ≤ length b
+  value-fits = put-fits b (s .used) (annotatedChecked an a) n l (w .bytes)
+
+  pub value-refused : (why : Refusal) → n ≡ 0 → refused (number why) ≡ ownRefusal a → outcome (refused (number why)) s l ≡ run (write an a) s b
+  value-refused why z r = ends why (λ y. r) .none z
+
+  pub value-ended : (why : Refusal) → (n ≡ 0 → refused (number why) ≡ ownRefusal a) → (r : Written) → Ended r s n false why
+      → outcomeOf r l ≡ run (write an a) s b
+  value-ended why own r e = ended-run r (write an a) s b n l false why e (ends why own)
