@@ -3,7 +3,7 @@
 use Prim.Native.Nat.{ℕ, _≤_}
 use native.Mathlib.Omega.{arith}
 use mathlib.Core.Path.{_≡_, refl, _∙_, ap}
-use mathlib.Core.Bool.{Bool, true, false, _&&_}
+use mathlib.Core.Bool.{false}
 use mathlib.Core.List.{List, [], _∷_, _++_, append-assoc, append-nil}
 use lib.Dec.{ltb}
 use lib.ListN.{length}
@@ -16,9 +16,9 @@ use Rattle.encoding.specs.Stream.{streamBytes}
 use Rattle.encoding.proofs.Writable.{WritableItems}
 use Rattle.encoding.proofs.Stream.{streamBytes-reads}
 use Rattle.machine.specs.Call.{Call, TypedCall, AllTyped}
-use Rattle.machine.specs.Machine.{Config, openContainers, isOpen, effect, longestBuffer, checks, Verdict, accepted, refused, verdict, isAccepted, ifAccepted, after, startVerdict, started, splice, taken}
+use Rattle.machine.specs.Machine.{Config, openContainers, isOpen, ruleOf, effect, longestBuffer, checks, Verdict, accepted, refused, verdict, isAccepted, ifAccepted, after, startVerdict, started, splice, taken}
 use Rattle.machine.specs.Model.{Open, Model, modelStep, startedModel}
-use Rattle.machine.specs.Demands.{isEmptying, partOf, flushed, joined, modelAfter, spelled, written, Demand2, Demand3}
+use Rattle.machine.specs.Demands.{partOf, flushed, joined, modelAfter, spelled, written, Demand2, Demand3}
 use Rattle.machine.proofs.Invariant.{containersOf, WritableOf}
 use Rattle.machine.proofs.Splice.{take-splice, length-splice}
 use Rattle.machine.proofs.Steps.{none-failing, Invariant, taken-whole, accepted-keeps, accepted-writable}
@@ -27,22 +27,14 @@ use Rattle.machine.proofs.Meaning.{spelled-is, stack-is}
 abbrev stepArguments : Call → Config → Model Argument → Model Argument
 stepArguments c w x = modelStep (λ a. a) c (isAccepted (verdict c w)) x
 
-and-yes : (b : Bool) → (b && true) ≡ b
-and-yes true = refl
-and-yes false = refl
-
-and-no : (b : Bool) → (b && false) ≡ false
-and-no true = refl
-and-no false = refl
-
 -- ---- one call, accepted or refused
 
 call-keeps : (done : List ℕ) (w : Config) (x : Model Argument) (c : Call) → Invariant done w x → Invariant (done ++ flushed c w) (after c w) (stepArguments c w x)
 call-keeps done w x c inv = by-verdict (verdict c w) refl
   where
-    by-verdict : (a : Verdict) → verdict c w ≡ a → Invariant (done ++ partOf (isEmptying c && isAccepted a) (taken w)) (ifAccepted a (effect c w) w) (modelStep (λ a. a) c (isAccepted a) x)
-    by-verdict accepted e = rw and-yes (accepted-keeps done w x c inv (none-failing (checks c w) (unfold verdict in e)))
-    by-verdict (refused n) e = rw (and-no, append-nil) inv
+    by-verdict : (a : Verdict) → verdict c w ≡ a → Invariant (done ++ partOf (isAccepted a) (ruleOf c w .flushes)) (ifAccepted a (effect c w) w) (modelStep (λ a. a) c (isAccepted a) x)
+    by-verdict accepted e = accepted-keeps done w x c inv (none-failing (checks c w) (unfold verdict in e))
+    by-verdict (refused n) e = rw append-nil inv
 
 call-writable : (done : List ℕ) (w : Config) (x : Model Argument) (c : Call) → Invariant done w x → TypedCall c → WritableOf x → WritableOf (stepArguments c w x)
 call-writable done w x c inv t o = by-verdict (verdict c w) refl

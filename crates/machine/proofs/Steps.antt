@@ -17,9 +17,8 @@ use Rattle.encoding.specs.Argument.{Argument, argumentBytes, argumentChecks}
 use Rattle.encoding.specs.Stream.{treeBytes, streamBytes}
 use Rattle.encoding.proofs.Writable.{NoneHolds, Writable}
 use Rattle.machine.specs.Call.{ContainerType, Call, write, name, opening, closing, abandonment, versionMarker, taking, emptying, TypedCall}
-use Rattle.machine.specs.Machine.{Config, openContainers, isOpen, inStruct, closedInnermost, innermostStart, reserve, live, splice, effect, longestBuffer, containerFits, containersFit, fits, lacksName, lines, checks, accepted, refused, firstFailing, isAccepted, finishedLength, taken}
+use Rattle.machine.specs.Machine.{Config, mostOpen, openContainers, isOpen, inStruct, closedInnermost, innermostStart, reserve, live, splice, effect, longestBuffer, containerFits, containersFit, fits, lacksName, lines, ruleOf, checks, accepted, refused, firstFailing, isAccepted, finishedLength, taken}
 use Rattle.machine.specs.Model.{Open, Model, abandon, spell}
-use Rattle.machine.specs.Demands.{isEmptying, partOf}
 use Rattle.machine.proofs.Growth.{writable-addItem}
 use Rattle.machine.proofs.Invariant.{isSome, containerAt, insideStruct, LayoutOf, WritableOf, WritableModel, add-layout, add-quiet, add-writable, or-false, ready, name-layout, opening-layout, opening-writable, under-writable, Innermost, innermost, outside, marker-layout, emptying-layout}
 use Rattle.machine.proofs.Splice.{take-splice, length-splice, opened-containers, closed-containers, none-open}
@@ -55,7 +54,7 @@ pub record Invariant (done : List ℕ) (w : Config) (x : Model Argument) : Type 
   pub fit : w .state .used ≤ length (w .buffer)
   pub short : length (w .buffer) ≤ longestBuffer
   pub flag : w .state .waiting ≡ isSome (x .waiting)
-  pub records : length (w .state .containers) ≡ 32
+  pub records : length (w .state .containers) ≡ mostOpen
   pub layout : LayoutOf done (live w) (openContainers (w .state)) x
 
 fits-outside : (w : Config) → w .state .used ≤ length (w .buffer) → openContainers (w .state) ≡ [] → w .state .waiting ≡ false → fits (w .state) (length (w .buffer)) ≡ true
@@ -66,7 +65,7 @@ fits-outside w h f n = rw (f, n, le-leb (w .state .used) (length (w .buffer)) h,
 put-keeps : (done out pre : List ℕ) (w : Config) (x : Model Argument) (y : Config) (z : Model Argument) (inv : Invariant done w x)
     → (p : ℕ) → p ≤ w .state .used → p + length out ≤ length (w .buffer) → take p (w .buffer) ≡ pre
     → y .state .used ≡ p + length out → y .buffer ≡ splice (w .state .used) p out (w .buffer) → y .state .waiting ≡ isSome (z .waiting)
-    → length (y .state .containers) ≡ 32 → LayoutOf done (pre ++ out) (openContainers (y .state)) z → Invariant done y z
+    → length (y .state .containers) ≡ mostOpen → LayoutOf done (pre ++ out) (openContainers (y .state)) z → Invariant done y z
 put-keeps done out pre w x y z inv p hp room front eu eb ef es c =
     let lp : p ≤ length (w .buffer) = omega (arith, inv .fit) in
     let l : length (y .buffer) ≡ length (w .buffer) = ap length eb ∙ length-splice (w .state .used) p out (w .buffer) lp (inv .fit) room in
@@ -91,7 +90,7 @@ module _ (done : List ℕ) (w : Config) (x : Model Argument) (inv : Invariant do
 
   -- what `out` at the end of the used bytes needs
   at-end : (out : List ℕ) (y : Config) (z : Model Argument) → w .state .used + length out ≤ length (w .buffer) → y .state .used ≡ w .state .used + length out
-      → y .buffer ≡ splice (w .state .used) (w .state .used) out (w .buffer) → y .state .waiting ≡ isSome (z .waiting) → length (y .state .containers) ≡ 32 → LayoutOf done (live w ++ out) (openContainers (y .state)) z → Invariant done y z
+      → y .buffer ≡ splice (w .state .used) (w .state .used) out (w .buffer) → y .state .waiting ≡ isSome (z .waiting) → length (y .state .containers) ≡ mostOpen → LayoutOf done (live w ++ out) (openContainers (y .state)) z → Invariant done y z
   at-end out y z room eu eb ef es c = put-keeps done out (live w) w x y z inv (w .state .used) (omega arith) room refl eu eb ef es c
 
   write-keeps : (an : List ℕ) (a : Argument) → NoneHolds (checks (write an a) w) → Invariant done (effect (write an a) w) (spellArguments (write an a) x)
@@ -116,9 +115,9 @@ module _ (done : List ℕ) (w : Config) (x : Model Argument) (inv : Invariant do
 
   opening-keeps : (an : List ℕ) (t : ContainerType) → NoneHolds (checks (opening an t) w) → Invariant done (effect (opening an t) w) (spellArguments (opening an t) x)
   opening-keeps an t h =
-      let k = passed w (lacksName (w .state)) ((leb 32 (w .state .depth), 4) ∷ []) (effect (opening an t) w .state .used) h in
+      let k = passed w (lacksName (w .state)) ((leb mostOpen (w .state .depth), 4) ∷ []) (effect (opening an t) w .state .used) h in
       let c = containerAt (w .state .used) an t in
-      let d : w .state .depth < length (w .state .containers) = omega (arith, leb-false 32 (w .state .depth) (k .own .0), inv .records) in
+      let d : w .state .depth < length (w .state .containers) = omega (arith, leb-false mostOpen (w .state .depth) (k .own .0), inv .records) in
       at-end (reserve an) (effect (opening an t) w) (spellArguments (opening an t) x) (k .room) refl refl refl (length-set (w .state .containers) (w .state .depth) c ∙ inv .records)
       (rw (opened-containers (w .state .containers) (w .state .depth) c d) (rw length-live at (opening-layout done (live w) (openContainers (w .state)) (x .items) (x .stack) (x .waiting) (inv .layout) an t (can (k .place)))))
 
@@ -129,7 +128,7 @@ module _ (done : List ℕ) (w : Config) (x : Model Argument) (inv : Invariant do
   -- what `out` in the place of the innermost container needs
   in-place : (out : List ℕ) (y : Config) (z : Model Argument) (d : Innermost done (live w) (openContainers (w .state)) (x .items) (x .stack) (x .waiting)) → innermostStart (openContainers (w .state)) (w .state .used) + length out ≤ length (w .buffer)
       → y .state .used ≡ innermostStart (openContainers (w .state)) (w .state .used) + length out → y .buffer ≡ splice (w .state .used) (innermostStart (openContainers (w .state)) (w .state .used)) out (w .buffer)
-      → y .state .waiting ≡ isSome (z .waiting) → length (y .state .containers) ≡ 32 → LayoutOf done (d .pre ++ out) (openContainers (y .state)) z → Invariant done y z
+      → y .state .waiting ≡ isSome (z .waiting) → length (y .state .containers) ≡ mostOpen → LayoutOf done (d .pre ++ out) (openContainers (y .state)) z → Invariant done y z
   in-place out y z d room eu eb ef es c =
       let p = innermostStart (openContainers (w .state)) (w .state .used) in
       let at : p ≡ length (d .pre) = d .starts (w .state .used) in
@@ -194,7 +193,7 @@ module _ (done : List ℕ) (w : Config) (x : Model Argument) (inv : Invariant do
 
 -- ---- every call
 
-pub accepted-keeps : (done : List ℕ) (w : Config) (x : Model Argument) (c : Call) → Invariant done w x → NoneHolds (checks c w) → Invariant (done ++ partOf (isEmptying c) (taken w)) (effect c w) (spellArguments c x)
+pub accepted-keeps : (done : List ℕ) (w : Config) (x : Model Argument) (c : Call) → Invariant done w x → NoneHolds (checks c w) → Invariant (done ++ ruleOf c w .flushes) (effect c w) (spellArguments c x)
 accepted-keeps done w x (write an a) inv h = rw append-nil (write-keeps done w x inv an a h)
 accepted-keeps done w x (name n) inv h = rw append-nil (name-keeps done w x inv n h)
 accepted-keeps done w x (opening an t) inv h = rw append-nil (opening-keeps done w x inv an t h)

@@ -2,27 +2,17 @@
 -- Assumes nothing.
 use Prim.Native.Nat.{ℕ}
 use mathlib.Core.Path.{_≡_}
-use mathlib.Core.Bool.{Bool, true, false, _&&_}
+use mathlib.Core.Bool.{Bool, true, false}
 use mathlib.Core.List.{List, [], _∷_, _++_}
 use Rattle.ion.specs.Value.{Scalar, Item}
 use Rattle.ion.specs.Grammar.{Reads}
 use Rattle.encoding.specs.Argument.{Argument, meaning}
 use Rattle.encoding.specs.Stream.{streamBytes}
-use Rattle.machine.specs.Call.{Call, write, name, opening, closing, abandonment, versionMarker, taking, emptying, AllTyped}
-use Rattle.machine.specs.Machine.{Config, accepted, verdict, isAccepted, after, startVerdict, started, taken}
+use Rattle.machine.specs.Call.{Call, AllTyped}
+use Rattle.machine.specs.Machine.{Config, ruleOf, accepted, verdict, isAccepted, after, startVerdict, started, taken}
 use Rattle.machine.specs.Model.{Model, modelStep, startedModel}
 
 -- ---- the joined finished bytes
-
-abbrev pub isEmptying : Call → Bool
-isEmptying (write an a) = false
-isEmptying (name n) = false
-isEmptying (opening an k) = false
-isEmptying closing = false
-isEmptying abandonment = false
-isEmptying versionMarker = false
-isEmptying taking = false
-isEmptying emptying = true
 
 abbrev pub partOf : Bool → List ℕ → List ℕ
 partOf true x = x
@@ -30,7 +20,7 @@ partOf false x = []
 
 -- what a taking would hand back just before the call, if the call is an accepted emptying
 abbrev pub flushed : Call → Config → List ℕ
-flushed c w = partOf (isEmptying c && isAccepted (verdict c w)) (taken w)
+flushed c w = partOf (isAccepted (verdict c w)) (ruleOf c w .flushes)
 
 -- The bytes that a taking would hand back just before each accepted emptying and at the end, joined.
 unfoldable pub joined : List Call → Config → List ℕ

@@ -21,6 +21,16 @@ pub record Config : Type 0 where
   pub state : State
   pub buffer : List ℕ
 
+abbrev pub config : State → List ℕ → Config
+config s b = record { state = s; buffer = b }
+
+-- how many containers may be open, and how long a buffer may be
+abbrev pub mostOpen : ℕ
+mostOpen = 32
+
+abbrev pub longestBuffer : ℕ
+longestBuffer = 16777215
+
 -- ---- the open containers
 
 abbrev pub noContainer : Container
@@ -81,7 +91,7 @@ abbrev pub innermostStart : List Container → ℕ → ℕ
 innermostStart [] used = used
 innermostStart (c ∷ cs) used = c .start
 
--- ---- the effect of an accepted call
+-- ---- what an accepted call changes
 
 -- The used bytes
 abbrev pub live : Config → List ℕ
@@ -130,24 +140,14 @@ inPlace s out waits = record {
   containers = s .containers;
 }
 
--- After an abandonment a name waits again exactly if the container that is then innermost is a struct.
-abbrev pub effect : Call → Config → Config
-effect (write an a) w = put w (atEnd (w .state) (annotatedBytes an (argumentBytes a)) false)
-effect (name n) w = put w (atEnd (w .state) (varUIntBytes n) true)
-effect (opening an k) w = put w (openingOf (w .state) an k)
-effect closing w = put w (inPlace (w .state) (closedInnermost (openContainers (w .state)) (live w)) false)
-effect abandonment w = put w (inPlace (w .state) [] (inStruct (outer (openContainers (w .state)))))
-effect versionMarker w = put w (atEnd (w .state) markerBytes (w .state .waiting))
-effect taking w = w
-effect emptying w = record {
+-- an emptying sets the used length to 0, and alters no byte
+abbrev pub emptied : Config → Config
+emptied w = record {
   state = record { used = 0; depth = w .state .depth; waiting = w .state .waiting; containers = w .state .containers };
   buffer = w .buffer;
 }
 
 -- ---- "Checks by place"
-
-abbrev pub longestBuffer : ℕ
-longestBuffer = 16777215
 
 -- each type code B0, C0 or D0; header equals start or lies 4 or more beyond it; header plus 2 at most `limit`
 unfoldable pub containerFits : ℕ → Container → Bool
@@ -164,7 +164,7 @@ containersFit limit (c ∷ cs) = containerFits limit c && containersFit (c .star
 unfoldable pub fits : State → ℕ → Bool
 fits s room =
     leb (s .used) room
-    && (leb (s .depth) 32 && (containersFit (s .used) (openContainers s) && (not (s .waiting) || inStruct (openContainers s))))
+    && (leb (s .depth) mostOpen && (containersFit (s .used) (openContainers s) && (not (s .waiting) || inStruct (openContainers s))))
 
 -- a value in a struct with no name waiting
 abbrev pub lacksName : State → Bool
@@ -178,16 +178,61 @@ placeLines s room misplaced = (ltb longestBuffer room, 1) ∷ (not (fits s room)
 abbrev pub lines : Config → Bool → List (Bool × ℕ) → ℕ → List (Bool × ℕ)
 lines w misplaced own used = placeLines (w .state) (length (w .buffer)) misplaced ++ (own ++ ((ltb (length (w .buffer)) used, 10) ∷ []))
 
+-- ---- a taking hands back a part of the buffer: the slice from 0 to the used length, or an empty part
+
+abbrev pub usedIf : Bool → ℕ → ℕ
+usedIf true used = used
+usedIf false used = 0
+
+-- nothing is finished if a container is open, a field name waits, or the state or buffer would be refused by 1 or 2
+unfoldable pub finishedLength : State → ℕ → ℕ
+finishedLength s room = usedIf (leb room longestBuffer && (fits s room && (not (isOpen (openContainers s)) && not (s .waiting)))) (s .used)
+
+abbrev pub taken : Config → List ℕ
+taken w = take (finishedLength (w .state) (length (w .buffer))) (w .buffer)
+
+-- ---- the calls
+
+-- What a closing answers of the container that it closes: the bytes that it takes, headers and annotations counted.
+pub record Figures : Type 0 where
+  pub size : ℕ
+
+abbrev pub noFigures : Figures
+noFigures = record { size = 0 }
+
+-- What is said of a call: the lines of the table that it has, in their order; and where none of them fails, what it leaves, which finished bytes it lets go,
+-- and what it answers of a container.
+pub record Rule : Type 0 where
+  pub checks : List (Bool × ℕ)
+  pub effect : Config
+  pub flushes : List ℕ
+  pub figures : Figures
+
+-- a call that puts bytes
+abbrev pub puts : Config → Bool → List (Bool × ℕ) → Change → Figures → Rule
+puts w misplaced own x f = record { checks = lines w misplaced own (put w x .state .used); effect = put w x; flushes = []; figures = f }
+
+-- After an abandonment a name waits again exactly if the container that is then innermost is a struct.
 -- A taking has no number: it hands back a part, which may be empty.
+abbrev pub ruleOf : Call → Config → Rule
+ruleOf (write an a) w = puts w (lacksName (w .state)) (argumentChecks a) (atEnd (w .state) (annotatedBytes an (argumentBytes a)) false) noFigures
+ruleOf (name n) w =
+    puts w (not (inStruct (openContainers (w .state))) || w .state .waiting) [] (atEnd (w .state) (varUIntBytes n) true) noFigures
+ruleOf (opening an k) w = puts w (lacksName (w .state)) ((leb mostOpen (w .state .depth), 4) ∷ []) (openingOf (w .state) an k) noFigures
+ruleOf closing w =
+    let out = closedInnermost (openContainers (w .state)) (live w) in
+    puts w (not (isOpen (openContainers (w .state))) || w .state .waiting) [] (inPlace (w .state) out false) (record { size = length out })
+ruleOf abandonment w =
+    puts w (not (isOpen (openContainers (w .state)))) [] (inPlace (w .state) [] (inStruct (outer (openContainers (w .state))))) noFigures
+ruleOf versionMarker w = puts w (isOpen (openContainers (w .state))) [] (atEnd (w .state) markerBytes (w .state .waiting)) noFigures
+ruleOf taking w = record { checks = []; effect = w; flushes = []; figures = noFigures }
+ruleOf emptying w = record { checks = lines w (isOpen (openContainers (w .state))) [] 0; effect = emptied w; flushes = taken w; figures = noFigures }
+
 abbrev pub checks : Call → Config → List (Bool × ℕ)
-checks (write an a) w = lines w (lacksName (w .state)) (argumentChecks a) (effect (write an a) w .state .used)
-checks (name n) w = lines w (not (inStruct (openContainers (w .state))) || w .state .waiting) [] (effect (name n) w .state .used)
-checks (opening an k) w = lines w (lacksName (w .state)) ((leb 32 (w .state .depth), 4) ∷ []) (effect (opening an k) w .state .used)
-checks closing w = lines w (not (isOpen (openContainers (w .state))) || w .state .waiting) [] (effect closing w .state .used)
-checks abandonment w = lines w (not (isOpen (openContainers (w .state)))) [] (effect abandonment w .state .used)
-checks versionMarker w = lines w (isOpen (openContainers (w .state))) [] (effect versionMarker w .state .used)
-checks taking w = []
-checks emptying w = lines w (isOpen (openContainers (w .state))) [] (effect emptying w .state .used)
+checks c w = ruleOf c w .checks
+
+abbrev pub effect : Call → Config → Config
+effect c w = ruleOf c w .effect
 
 pub data Verdict : Type 0 where
   accepted : Verdict
@@ -217,11 +262,24 @@ ifAccepted (refused n) x y = y
 abbrev pub after : Call → Config → Config
 after c w = ifAccepted (verdict c w) (effect c w) w
 
+abbrev pub figuresIf : Verdict → Figures → Figures
+figuresIf accepted f = f
+figuresIf (refused n) f = noFigures
+
+-- What a call answers, and what it leaves.
+pub record Outcome : Type 0 where
+  pub verdict : Verdict
+  pub config : Config
+  pub figures : Figures
+
+unfoldable pub run : Call → Config → Outcome
+run c w = record { verdict = verdict c w; config = after c w; figures = figuresIf (verdict c w) (ruleOf c w .figures) }
+
 -- ---- a start: it knows the lines 1 and 10 only
 
 -- no container, no waiting name
 abbrev pub emptyState : ℕ → State
-emptyState used = record { used = used; depth = 0; waiting = false; containers = replicate 32 noContainer }
+emptyState used = record { used = used; depth = 0; waiting = false; containers = replicate mostOpen noContainer }
 
 unfoldable pub startVerdict : List ℕ → Verdict
 startVerdict b = firstFailing ((ltb longestBuffer (length b), 1) ∷ (ltb (length b) 4, 10) ∷ [])
@@ -229,16 +287,3 @@ startVerdict b = firstFailing ((ltb longestBuffer (length b), 1) ∷ (ltb (lengt
 -- a refused start answers the empty state with used length 0, and alters nothing
 abbrev pub started : List ℕ → Config
 started b = ifAccepted (startVerdict b) (record { state = emptyState 4; buffer = splice 0 0 markerBytes b }) (record { state = emptyState 0; buffer = b })
-
--- ---- a taking hands back a part of the buffer: the slice from 0 to the used length, or an empty part
-
-abbrev pub usedIf : Bool → ℕ → ℕ
-usedIf true used = used
-usedIf false used = 0
-
--- nothing is finished if a container is open, a field name waits, or the state or buffer would be refused by 1 or 2
-unfoldable pub finishedLength : State → ℕ → ℕ
-finishedLength s room = usedIf (leb room longestBuffer && (fits s room && (not (isOpen (openContainers s)) && not (s .waiting)))) (s .used)
-
-abbrev pub taken : Config → List ℕ
-taken w = take (finishedLength (w .state) (length (w .buffer))) (w .buffer)

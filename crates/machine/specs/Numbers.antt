@@ -7,10 +7,9 @@ use Rattle.machine.specs.declared.Refusal.the-variants.{BufferTooLong, S
 use Rattle.machine.specs.declared.Refusal.the-variants.{NotUtf8, BadTimestamp, DecimalTooLong, TimestampTooLong, NoRoom}
 use Rattle.machine.specs.declared.Answer.{Answer}
 use Rattle.machine.specs.declared.Answer.the-variants.{Accepted, Refused}
-use Rattle.machine.specs.declared.State.{State}
 use Rattle.machine.specs.declared.Written.{Written}
-use Rattle.machine.specs.Call.{Call}
-use Rattle.machine.specs.Machine.{Config, Verdict, accepted, refused, verdict, after}
+use Rattle.machine.specs.declared.Closed.{Closed}
+use Rattle.machine.specs.Machine.{Verdict, accepted, refused, Outcome, config, noFigures}
 
 abbrev pub number : Refusal → ℕ
 number BufferTooLong = 1
@@ -28,16 +27,9 @@ abbrev pub verdictOf : Answer → Verdict
 verdictOf Accepted = accepted
 verdictOf (Refused r) = refused (number r)
 
--- What a call answers, and what it leaves in the state and the buffer: by the machine, and as the code returns it.
-pub record Outcome : Type 0 where
-  pub verdict : Verdict
-  pub state : State
-  pub buffer : List ℕ
-
+-- What the code returns, with the buffer that it leaves, as the machine's outcome. Only a closing answers figures.
 abbrev pub outcomeOf : Written → List ℕ → Outcome
-outcomeOf r b = record { verdict = verdictOf (r .answer); state = r .state; buffer = b }
+outcomeOf r b = record { verdict = verdictOf (r .answer); config = config (r .state) b; figures = noFigures }
 
-unfoldable pub run : Call → State → List ℕ → Outcome
-run c s b =
-    let w : Config = record { state = s; buffer = b } in
-    record { verdict = verdict c w; state = after c w .state; buffer = after c w .buffer }
+abbrev pub closedOutcome : Closed → List ℕ → Outcome
+closedOutcome r b = record { verdict = verdictOf (r .answer); config = config (r .state) b; figures = record { size = r .size } }

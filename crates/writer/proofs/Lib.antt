@@ -1,5 +1,1 @@
-pub mod Containers
-pub mod Run
-pub mod Scalars
-pub mod Started
 pub mod Values

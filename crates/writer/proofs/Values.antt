@@ -14,16 +14,15 @@ use Rattle.machine.specs.declared.Answer.{Answer}
 use Rattle.machine.specs.declared.Answer.the-variants.{Accepted, Refused}
 use Rattle.machine.specs.declared.Written.{Written}
 use Rattle.machine.specs.Call.{write}
-use Rattle.machine.specs.Machine.{lacksName, checks, refused, firstFailing}
-use Rattle.machine.specs.Numbers.{number, verdictOf, outcomeOf, run}
-use Rattle.machine.specs.Machine.{placeVerdict}
-use Rattle.writer.specs.Refused.{ownRefusal}
-use Rattle.writer.proofs.Run.{outcome, config, refused-place, passed-place, put-fits, Ends, Ended, ended-run}
-use Rattle.writer.proofs.Scalars.{scalarLines, scalar-run}
+use Rattle.machine.specs.Machine.{config, lacksName, checks, refused, firstFailing, placeVerdict, run}
+use Rattle.machine.specs.Numbers.{number, verdictOf, outcomeOf}
+use Rattle.steps.specs.Refused.{ownRefusal}
+use Rattle.steps.proofs.Run.{outcome, refused-place, passed-place, put-fits, Ends, Ended, ended-run}
+use Rattle.steps.proofs.Scalars.{scalarLines, scalar-run}
 
 -- a place that does not pass: p is the answer of the check
 pub value-barred : (an : List ℕ) (a : Argument) (s : State) (b : List ℕ) (p : Answer) → verdictOf p ≡ placeVerdict s (length b) (lacksName s)
-    → (why : Refusal) → p ≡ Refused why → outcome (verdictOf p) s b ≡ run (write an a) s b
+    → (why : Refusal) → p ≡ Refused why → outcome (verdictOf p) s b ≡ run (write an a) (config s b)
 value-barred an a s b p e = refused-place (write an a) s b (lacksName s) (scalarLines an a s b) refl p e
 
 -- past its place: n is how many bytes the leaf has put, l the buffer after it
@@ -43,9 +42,9 @@ module _ {an : List ℕ} {a : Argument} {s : State} {b : List ℕ} {n : ℕ} {l 
   pub value-fits : (n ≡ 0 → ⊥) → s .used + n ≤ length b
   value-fits = put-fits b (s .used) (annotatedChecked an a) n l (w .bytes)
 
-  pub value-refused : (why : Refusal) → n ≡ 0 → refused (number why) ≡ ownRefusal a → outcome (refused (number why)) s l ≡ run (write an a) s b
+  pub value-refused : (why : Refusal) → n ≡ 0 → refused (number why) ≡ ownRefusal a → outcome (refused (number why)) s l ≡ run (write an a) (config s b)
   value-refused why z r = ends why (λ y. r) .none z
 
   pub value-ended : (why : Refusal) → (n ≡ 0 → refused (number why) ≡ ownRefusal a) → (r : Written) → Ended r s n false why
-      → outcomeOf r l ≡ run (write an a) s b
+      → outcomeOf r l ≡ run (write an a) (config s b)
   value-ended why own r e = ended-run r (write an a) s b n l false why e (ends why own)

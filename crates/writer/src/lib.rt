@@ -7,40 +7,29 @@ ghost use lib.Ieee.{binary32, binary64, toBits};
 ghost use lib.ListN.{length, set};
 ghost use Rattle.encoding.specs.Argument.{writeNull, writeBool, writeI64, writeInt, writeF32, writeF64, writeDecimal};
 ghost use Rattle.encoding.specs.Argument.{writeSymbol, writeString, writeClob, writeBlob};
-ghost use Rattle.machine.specs.Machine.{innermostFirst, inStruct, containerCode, refused, emptyState, finishedLength};
-ghost use Rattle.machine.specs.Numbers.{number, outcomeOf, run};
+ghost use Rattle.machine.specs.Machine.{config, mostOpen, innermostFirst, inStruct, emptyState, finishedLength, run};
+ghost use Rattle.machine.specs.Numbers.{outcomeOf, closedOutcome};
 ghost use Rattle.machine.specs.declared.Answer.the-variants.{Accepted, Refused};
 ghost use Rattle.machine.specs.Call.{write, name, opening, closing, abandonment, versionMarker, emptying};
 ghost use Rattle.annotations.specs.Sids.{sidsOf};
 ghost use Rattle.scalars.specs.Types.{typeOf, scalarArgument};
 ghost use Rattle.timestamp.specs.Arguments.{argumentOf};
-ghost use Rattle.writer.specs.Refused.{ownRefusal};
-ghost use Rattle.writer.specs.Kinds.{kindOf};
-ghost use Rattle.writer.specs.Start.{startRun, takenFrom};
+ghost use Rattle.steps.specs.Kinds.{kindOf};
+ghost use Rattle.steps.specs.Start.{startRun, takenFrom};
 use machine::Answer;
+use machine::Closed;
 use machine::Container;
+use machine::LONGEST_BUFFER;
+use machine::MARKER;
+use machine::MOST_OPEN;
 use machine::Refusal;
+use machine::STRUCT;
 use machine::State;
 use machine::Written;
 use scalars::IonType;
 use scalars::Scalar;
+pub use steps::ContainerType;
 use timestamp::Timestamp;
-
-pub enum ContainerType {
-    List,
-    Sexp,
-    Struct,
-}
-
-const LONGEST_BUFFER: usize = 16777215;
-
-const MOST_OPEN: usize = 32;
-
-const LONGEST_BODY: usize = 32;
-
-const STRUCT: u8 = 0xD0;
-
-const MARKER: [u8; 4] = [0xE0, 0x01, 0x00, 0xEA];
 
 // The answer of a call that has put `put` bytes at the end of the used ones, or none for the reason `why`.
 fn ended(s: State, put: usize, waiting: bool, why: Refusal) -> Written
@@ -77,7 +66,7 @@ fn empty_state(used: usize) -> State
             start: 0,
             header: 0,
             code: 0,
-        }; 32],
+        }; MOST_OPEN],
     }
 }
 
@@ -104,49 +93,9 @@ pub fn start(buf: &mut [u8]) -> Written
     }
 }
 
-// Why an int that may stand where it stands was not put: the first of its own checks that fails, or 10.
-pub fn int_refusal(negative: bool, magnitude: &[u8]) -> Refusal
-    ensures { λ r. ⌜ refused (number r) ≡ ownRefusal (writeInt negative (now (magnitude .entry))) ⌝ }
-{
-    if scalars::is_negative_zero(negative, magnitude) {
-        return Refusal::NegativeZero;
-    }
-    Refusal::NoRoom
-}
-
-// The same of a decimal.
-pub fn decimal_refusal(negative: bool, coefficient: &[u8], exponent: i64) -> Refusal
-    ensures { λ r. ⌜ refused (number r) ≡ ownRefusal (writeDecimal negative (now (coefficient .entry)) exponent) ⌝ }
-{
-    if LONGEST_BODY < decimal::body_size(negative, coefficient, exponent) {
-        return Refusal::DecimalTooLong;
-    }
-    Refusal::NoRoom
-}
-
-// The same of a timestamp. A body that passes 7 has at most 18 bytes, so 9 refuses none.
-pub fn timestamp_refusal(value: Timestamp) -> Refusal
-    ensures { λ r. ⌜ refused (number r) ≡ ownRefusal (argumentOf value) ⌝ }
-{
-    if timestamp::is_valid(value) {
-        return Refusal::NoRoom;
-    }
-    Refusal::BadTimestamp
-}
-
-// The same of a string.
-pub fn string_refusal(bytes: &[u8]) -> Refusal
-    ensures { λ r. ⌜ refused (number r) ≡ ownRefusal (writeString (now (bytes .entry))) ⌝ }
-{
-    if text::is_utf8(bytes) {
-        return Refusal::NoRoom;
-    }
-    Refusal::NotUtf8
-}
-
 // A scalar that no check of its own refuses.
 fn write_scalar(s: State, buf: &mut [u8], annotations: &[u8], value: Scalar) -> Written
-    ensures { λ r. ⌜ outcomeOf r (now (buf .exit)) ≡ run (write (sidsOf (now (annotations .entry))) (scalarArgument value)) s (now (buf .entry)) ⌝ }
+    ensures { λ r. ⌜ outcomeOf r (now (buf .exit)) ≡ run (write (sidsOf (now (annotations .entry))) (scalarArgument value)) (config s (now (buf .entry))) ⌝ }
 {
     let place = place::value_place(s, buf.len());
     let Answer::Accepted = place else {
@@ -161,21 +110,21 @@ fn write_scalar(s: State, buf: &mut [u8], annotations: &[u8], value: Scalar) -> 
 
 // A null of each type.
 pub fn write_null(s: State, buf: &mut [u8], annotations: &[u8], t: IonType) -> Written
-    ensures { λ r. ⌜ outcomeOf r (now (buf .exit)) ≡ run (write (sidsOf (now (annotations .entry))) (writeNull (typeOf t))) s (now (buf .entry)) ⌝ }
+    ensures { λ r. ⌜ outcomeOf r (now (buf .exit)) ≡ run (write (sidsOf (now (annotations .entry))) (writeNull (typeOf t))) (config s (now (buf .entry))) ⌝ }
 {
     write_scalar(s, buf, annotations, Scalar::Null(t))
 }
 
 // 10 or 11.
 pub fn write_bool(s: State, buf: &mut [u8], annotations: &[u8], value: bool) -> Written
-    ensures { λ r. ⌜ outcomeOf r (now (buf .exit)) ≡ run (write (sidsOf (now (annotations .entry))) (writeBool value)) s (now (buf .entry)) ⌝ }
+    ensures { λ r. ⌜ outcomeOf r (now (buf .exit)) ≡ run (write (sidsOf (now (annotations .entry))) (writeBool value)) (config s (now (buf .entry))) ⌝ }
 {
     write_scalar(s, buf, annotations, Scalar::Bool(value))
 }
 
 // An int of 64 bits with its sign.
 pub fn write_i64(s: State, buf: &mut [u8], annotations: &[u8], value: i64) -> Written
-    ensures { λ r. ⌜ outcomeOf r (now (buf .exit)) ≡ run (write (sidsOf (now (annotations .entry))) (writeI64 value)) s (now (buf .entry)) ⌝ }
+    ensures { λ r. ⌜ outcomeOf r (now (buf .exit)) ≡ run (write (sidsOf (now (annotations .entry))) (writeI64 value)) (config s (now (buf .entry))) ⌝ }
 {
     write_scalar(s, buf, annotations, Scalar::I64(value))
 }
@@ -189,7 +138,7 @@ pub fn write_int(
     magnitude: &[u8],
 ) -> Written
     ensures { λ r. ⌜ outcomeOf r (now (buf .exit))
-        ≡ run (write (sidsOf (now (annotations .entry))) (writeInt negative (now (magnitude .entry)))) s (now (buf .entry)) ⌝ }
+        ≡ run (write (sidsOf (now (annotations .entry))) (writeInt negative (now (magnitude .entry)))) (config s (now (buf .entry))) ⌝ }
 {
     let place = place::value_place(s, buf.len());
     let Answer::Accepted = place else {
@@ -201,7 +150,7 @@ pub fn write_int(
     let put = values::write_int(buf, s.used, annotations, negative, magnitude);
     if put == 0 {
         return Written {
-            answer: Answer::Refused(int_refusal(negative, magnitude)),
+            answer: Answer::Refused(steps::int_refusal(negative, magnitude)),
             state: s,
         };
     }
@@ -210,28 +159,28 @@ pub fn write_int(
 
 // A float by the bits of binary32; a NaN keeps its own.
 pub fn write_f32_bits(s: State, buf: &mut [u8], annotations: &[u8], bits: u32) -> Written
-    ensures { λ r. ⌜ outcomeOf r (now (buf .exit)) ≡ run (write (sidsOf (now (annotations .entry))) (writeF32 bits)) s (now (buf .entry)) ⌝ }
+    ensures { λ r. ⌜ outcomeOf r (now (buf .exit)) ≡ run (write (sidsOf (now (annotations .entry))) (writeF32 bits)) (config s (now (buf .entry))) ⌝ }
 {
     write_scalar(s, buf, annotations, Scalar::F32Bits(bits))
 }
 
 // A float by the bits of binary64, in four bytes where binary32 holds it; a NaN keeps its own.
 pub fn write_f64_bits(s: State, buf: &mut [u8], annotations: &[u8], bits: u64) -> Written
-    ensures { λ r. ⌜ outcomeOf r (now (buf .exit)) ≡ run (write (sidsOf (now (annotations .entry))) (writeF64 bits)) s (now (buf .entry)) ⌝ }
+    ensures { λ r. ⌜ outcomeOf r (now (buf .exit)) ≡ run (write (sidsOf (now (annotations .entry))) (writeF64 bits)) (config s (now (buf .entry))) ⌝ }
 {
     write_scalar(s, buf, annotations, Scalar::F64Bits(bits))
 }
 
 // A float by its value; a NaN has the bits 7FC00000.
 pub fn write_f32(s: State, buf: &mut [u8], annotations: &[u8], value: f32) -> Written
-    ensures { λ r. ⌜ outcomeOf r (now (buf .exit)) ≡ run (write (sidsOf (now (annotations .entry))) (writeF32 (toBits binary32 value))) s (now (buf .entry)) ⌝ }
+    ensures { λ r. ⌜ outcomeOf r (now (buf .exit)) ≡ run (write (sidsOf (now (annotations .entry))) (writeF32 (toBits binary32 value))) (config s (now (buf .entry))) ⌝ }
 {
     write_scalar(s, buf, annotations, Scalar::F32(value))
 }
 
 // A float by its value; a NaN has the bits 7FF8000000000000.
 pub fn write_f64(s: State, buf: &mut [u8], annotations: &[u8], value: f64) -> Written
-    ensures { λ r. ⌜ outcomeOf r (now (buf .exit)) ≡ run (write (sidsOf (now (annotations .entry))) (writeF64 (toBits binary64 value))) s (now (buf .entry)) ⌝ }
+    ensures { λ r. ⌜ outcomeOf r (now (buf .exit)) ≡ run (write (sidsOf (now (annotations .entry))) (writeF64 (toBits binary64 value))) (config s (now (buf .entry))) ⌝ }
 {
     write_scalar(s, buf, annotations, Scalar::F64(value))
 }
@@ -246,7 +195,7 @@ pub fn write_decimal(
     exponent: i64,
 ) -> Written
     ensures { λ r. ⌜ outcomeOf r (now (buf .exit))
-        ≡ run (write (sidsOf (now (annotations .entry))) (writeDecimal negative (now (coefficient .entry)) exponent)) s (now (buf .entry)) ⌝ }
+        ≡ run (write (sidsOf (now (annotations .entry))) (writeDecimal negative (now (coefficient .entry)) exponent)) (config s (now (buf .entry))) ⌝ }
 {
     let place = place::value_place(s, buf.len());
     let Answer::Accepted = place else {
@@ -258,7 +207,7 @@ pub fn write_decimal(
     let put = values::write_decimal(buf, s.used, annotations, negative, coefficient, exponent);
     if put == 0 {
         return Written {
-            answer: Answer::Refused(decimal_refusal(negative, coefficient, exponent)),
+            answer: Answer::Refused(steps::decimal_refusal(negative, coefficient, exponent)),
             state: s,
         };
     }
@@ -267,7 +216,7 @@ pub fn write_decimal(
 
 // A timestamp by its local fields and its offset.
 pub fn write_timestamp(s: State, buf: &mut [u8], annotations: &[u8], value: Timestamp) -> Written
-    ensures { λ r. ⌜ outcomeOf r (now (buf .exit)) ≡ run (write (sidsOf (now (annotations .entry))) (argumentOf value)) s (now (buf .entry)) ⌝ }
+    ensures { λ r. ⌜ outcomeOf r (now (buf .exit)) ≡ run (write (sidsOf (now (annotations .entry))) (argumentOf value)) (config s (now (buf .entry))) ⌝ }
 {
     let place = place::value_place(s, buf.len());
     let Answer::Accepted = place else {
@@ -279,7 +228,7 @@ pub fn write_timestamp(s: State, buf: &mut [u8], annotations: &[u8], value: Time
     let put = values::write_timestamp(buf, s.used, annotations, value);
     if put == 0 {
         return Written {
-            answer: Answer::Refused(timestamp_refusal(value)),
+            answer: Answer::Refused(steps::timestamp_refusal(value)),
             state: s,
         };
     }
@@ -288,14 +237,14 @@ pub fn write_timestamp(s: State, buf: &mut [u8], annotations: &[u8], value: Time
 
 // A symbol by its sid.
 pub fn write_symbol(s: State, buf: &mut [u8], annotations: &[u8], sid: u64) -> Written
-    ensures { λ r. ⌜ outcomeOf r (now (buf .exit)) ≡ run (write (sidsOf (now (annotations .entry))) (writeSymbol sid)) s (now (buf .entry)) ⌝ }
+    ensures { λ r. ⌜ outcomeOf r (now (buf .exit)) ≡ run (write (sidsOf (now (annotations .entry))) (writeSymbol sid)) (config s (now (buf .entry))) ⌝ }
 {
     write_scalar(s, buf, annotations, Scalar::Symbol(sid))
 }
 
 // A string, in UTF-8.
 pub fn write_string(s: State, buf: &mut [u8], annotations: &[u8], bytes: &[u8]) -> Written
-    ensures { λ r. ⌜ outcomeOf r (now (buf .exit)) ≡ run (write (sidsOf (now (annotations .entry))) (writeString (now (bytes .entry)))) s (now (buf .entry)) ⌝ }
+    ensures { λ r. ⌜ outcomeOf r (now (buf .exit)) ≡ run (write (sidsOf (now (annotations .entry))) (writeString (now (bytes .entry)))) (config s (now (buf .entry))) ⌝ }
 {
     let place = place::value_place(s, buf.len());
     let Answer::Accepted = place else {
@@ -307,7 +256,7 @@ pub fn write_string(s: State, buf: &mut [u8], annotations: &[u8], bytes: &[u8]) 
     let put = values::write_string(buf, s.used, annotations, bytes);
     if put == 0 {
         return Written {
-            answer: Answer::Refused(string_refusal(bytes)),
+            answer: Answer::Refused(steps::string_refusal(bytes)),
             state: s,
         };
     }
@@ -316,7 +265,7 @@ pub fn write_string(s: State, buf: &mut [u8], annotations: &[u8], bytes: &[u8]) 
 
 // A clob.
 pub fn write_clob(s: State, buf: &mut [u8], annotations: &[u8], bytes: &[u8]) -> Written
-    ensures { λ r. ⌜ outcomeOf r (now (buf .exit)) ≡ run (write (sidsOf (now (annotations .entry))) (writeClob (now (bytes .entry)))) s (now (buf .entry)) ⌝ }
+    ensures { λ r. ⌜ outcomeOf r (now (buf .exit)) ≡ run (write (sidsOf (now (annotations .entry))) (writeClob (now (bytes .entry)))) (config s (now (buf .entry))) ⌝ }
 {
     let place = place::value_place(s, buf.len());
     let Answer::Accepted = place else {
@@ -331,7 +280,7 @@ pub fn write_clob(s: State, buf: &mut [u8], annotations: &[u8], bytes: &[u8]) ->
 
 // A blob.
 pub fn write_blob(s: State, buf: &mut [u8], annotations: &[u8], bytes: &[u8]) -> Written
-    ensures { λ r. ⌜ outcomeOf r (now (buf .exit)) ≡ run (write (sidsOf (now (annotations .entry))) (writeBlob (now (bytes .entry)))) s (now (buf .entry)) ⌝ }
+    ensures { λ r. ⌜ outcomeOf r (now (buf .exit)) ≡ run (write (sidsOf (now (annotations .entry))) (writeBlob (now (bytes .entry)))) (config s (now (buf .entry))) ⌝ }
 {
     let place = place::value_place(s, buf.len());
     let Answer::Accepted = place else {
@@ -346,7 +295,7 @@ pub fn write_blob(s: State, buf: &mut [u8], annotations: &[u8], bytes: &[u8]) ->
 
 // A field name: its sid as a VarUInt.
 pub fn field_name(s: State, buf: &mut [u8], sid: u64) -> Written
-    ensures { λ r. ⌜ outcomeOf r (now (buf .exit)) ≡ run (name sid) s (now (buf .entry)) ⌝ }
+    ensures { λ r. ⌜ outcomeOf r (now (buf .exit)) ≡ run (name sid) (config s (now (buf .entry))) ⌝ }
 {
     let place = place::name_place(s, buf.len());
     let Answer::Accepted = place else {
@@ -359,20 +308,9 @@ pub fn field_name(s: State, buf: &mut [u8], sid: u64) -> Written
     ended(s, put, true, Refusal::NoRoom)
 }
 
-// The type byte of a container.
-pub fn type_code(kind: ContainerType) -> u8
-    ensures { λ r. ⌜ r ≡ containerCode (kindOf kind) ⌝ }
-{
-    match kind {
-        ContainerType::List => 0xB0,
-        ContainerType::Sexp => 0xC0,
-        ContainerType::Struct => 0xD0,
-    }
-}
-
 // The state behind an opening that has put `put` bytes, its header's reserve last.
 fn opened(s: State, put: usize, code: u8) -> State
-    requires { ⌜ (s .depth < 32) × (2 ≤ put) × (s .used + put < 2 ^ 64) ⌝ }
+    requires { ⌜ (s .depth < mostOpen) × (2 ≤ put) × (s .used + put < 2 ^ 64) ⌝ }
     ensures { λ r. ⌜ r ≡ record {
       used = s .used + put;
       depth = s .depth + 1;
@@ -396,7 +334,7 @@ fn opened(s: State, put: usize, code: u8) -> State
 
 // An opening: it reserves two bytes for its header, and with annotations two more for the wrapper's before them.
 pub fn open(s: State, buf: &mut [u8], annotations: &[u8], kind: ContainerType) -> Written
-    ensures { λ r. ⌜ outcomeOf r (now (buf .exit)) ≡ run (opening (sidsOf (now (annotations .entry))) (kindOf kind)) s (now (buf .entry)) ⌝ }
+    ensures { λ r. ⌜ outcomeOf r (now (buf .exit)) ≡ run (opening (sidsOf (now (annotations .entry))) (kindOf kind)) (config s (now (buf .entry))) ⌝ }
 {
     let place = place::value_place(s, buf.len());
     let Answer::Accepted = place else {
@@ -420,43 +358,46 @@ pub fn open(s: State, buf: &mut [u8], annotations: &[u8], kind: ContainerType) -
     }
     Written {
         answer: Answer::Accepted,
-        state: opened(s, put, type_code(kind)),
+        state: opened(s, put, steps::type_code(kind)),
     }
 }
 
 // A closing: the header, and the wrapper's, in their final form.
-pub fn close(s: State, buf: &mut [u8]) -> Written
-    ensures { λ r. ⌜ outcomeOf r (now (buf .exit)) ≡ run closing s (now (buf .entry)) ⌝ }
+pub fn close(s: State, buf: &mut [u8]) -> Closed
+    ensures { λ r. ⌜ closedOutcome r (now (buf .exit)) ≡ run closing (config s (now (buf .entry))) ⌝ }
 {
     let place = place::close_place(s, buf.len());
     let Answer::Accepted = place else {
-        return Written {
+        return Closed {
             answer: place,
             state: s,
+            size: 0,
         };
     };
     let depth = s.depth;
     let c = s.containers[depth - 1];
     let used = containers::close(buf, s.used, c);
     if used == 0 {
-        return Written {
+        return Closed {
             answer: Answer::Refused(Refusal::NoRoom),
             state: s,
+            size: 0,
         };
     }
     let mut next = s;
     next.used = used;
     next.depth = depth - 1;
     next.waiting = false;
-    Written {
+    Closed {
         answer: Answer::Accepted,
         state: next,
+        size: used - c.start,
     }
 }
 
 // Whether the container below `depth` is a struct.
 fn in_struct(s: State, depth: usize) -> bool
-    requires { ⌜ depth ≤ 32 ⌝ }
+    requires { ⌜ depth ≤ mostOpen ⌝ }
     ensures { λ r. ⌜ r ≡ inStruct (innermostFirst (s .containers) depth) ⌝ }
 {
     if depth == 0 {
@@ -468,7 +409,7 @@ fn in_struct(s: State, depth: usize) -> bool
 
 // An abandonment: the innermost container's bytes are given back, and a name before it waits again.
 pub fn abandon(s: State, buf: &mut [u8]) -> Written
-    ensures { λ r. ⌜ outcomeOf r (now (buf .exit)) ≡ run abandonment s (now (buf .entry)) ⌝ }
+    ensures { λ r. ⌜ outcomeOf r (now (buf .exit)) ≡ run abandonment (config s (now (buf .entry))) ⌝ }
 {
     let place = place::abandon_place(s, buf.len());
     let Answer::Accepted = place else {
@@ -492,7 +433,7 @@ pub fn abandon(s: State, buf: &mut [u8]) -> Written
 
 // A version marker: E0 01 00 EA, at the place of the call.
 pub fn version_marker(s: State, buf: &mut [u8]) -> Written
-    ensures { λ r. ⌜ outcomeOf r (now (buf .exit)) ≡ run versionMarker s (now (buf .entry)) ⌝ }
+    ensures { λ r. ⌜ outcomeOf r (now (buf .exit)) ≡ run versionMarker (config s (now (buf .entry))) ⌝ }
 {
     let place = place::top_place(s, buf.len());
     let Answer::Accepted = place else {
@@ -507,7 +448,7 @@ pub fn version_marker(s: State, buf: &mut [u8]) -> Written
 
 // An emptying: the used length becomes zero, and no byte alters.
 pub fn empty(s: State, buf: &[u8]) -> Written
-    ensures { λ r. ⌜ outcomeOf r (now (buf .entry)) ≡ run emptying s (now (buf .entry)) ⌝ }
+    ensures { λ r. ⌜ outcomeOf r (now (buf .entry)) ≡ run emptying (config s (now (buf .entry))) ⌝ }
 {
     let place = place::top_place(s, buf.len());
     let Answer::Accepted = place else {

@@ -10,8 +10,8 @@ use Rattle.machine.specs.Machine.{openContainers, isOpen, accepted}
 use Rattle.machine.specs.Numbers.{verdictOf}
 use Rattle.machine.specs.Machine.{placeVerdict}
 use Rattle.place.proofs.Laws.{fits-depth}
-use Rattle.writer.proofs.Run.{roomLine, refused-place}
-use Rattle.writer.proofs.Containers.{accepted-fits, accepted-placed, opened-not, some-open, abandonment-run}
+use Rattle.steps.proofs.Run.{roomLine, refused-place}
+use Rattle.steps.proofs.Containers.{accepted-fits, accepted-placed, opened-not, some-open, abandonment-run}
 use borrow.Author.Needs.{needs}
 use Rattle.writer.proofs.abandon.Statement.{statement}
 use Rattle.writer.proofs.abandon.Tie as tie

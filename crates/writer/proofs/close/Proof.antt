@@ -10,8 +10,8 @@ use Rattle.machine.specs.Machine.{openContainers, isOpen, accepted}
 use Rattle.machine.specs.Numbers.{verdictOf}
 use Rattle.machine.specs.Machine.{placeVerdict}
 use Rattle.place.proofs.Laws.{fits-depth}
-use Rattle.writer.proofs.Run.{roomLine, refused-place}
-use Rattle.writer.proofs.Containers.{accepted-fits, accepted-placed, either-not, some-open, closing-refused, closing-accepted}
+use Rattle.steps.proofs.Run.{roomLine, refused-place}
+use Rattle.steps.proofs.Containers.{accepted-fits, accepted-placed, either-not, some-open, closing-refused, closing-start, closing-accepted}
 use borrow.Author.Needs.{needs}
 use Rattle.writer.proofs.close.Statement.{statement}
 use Rattle.writer.proofs.close.Tie as tie
@@ -74,15 +74,22 @@ returns-2 c =
 sub-next : tie.Need-sub-next
 sub-next c = let k = known (c .before .before .before .before .before .before) in omega arith
 
+sub-t12 : tie.Need-sub-t12
+sub-t12 c =
+    let w = c .before .before .before .before in
+    let d = w .before .before .before in
+    let a = d .before .before .before .before .args in
+    omega (arith, closing-start (a .t1) (a .buf .now) (w .close .result) (w .close .last .0) (known d .place) (w .close .ensures) (c .before .if1 .left))
+
 same-length-2 : tie.Need-same-length-2
 same-length-2 c = search needs
 
 returns-3 : tie.Need-returns-3
 returns-3 c =
-    let w = c .before .before .before in
+    let w = c .before .before .before .before in
     let d = w .before .before .before in
     let a = d .before .before .before .before .args in
-    closing-accepted (a .t1) (a .buf .now) (w .close .result) (w .close .last .0) (known d .place) (w .close .ensures) (c .if1 .left)
+    closing-accepted (a .t1) (a .buf .now) (w .close .result) (w .close .last .0) (known d .place) (w .close .ensures) (c .before .if1 .left)
 
 pub close-spec : {M : Type 1} → statement M
 close-spec =
@@ -99,5 +106,6 @@ close-spec =
     same-length
     returns-2
     sub-next
+    sub-t12
     same-length-2
     returns-3)

@@ -6,7 +6,7 @@ use lib.ListN.{length}
 use borrow.Author.Tests.{le-ltb}
 use Rattle.machine.specs.Call.{emptying}
 use Rattle.machine.specs.Machine.{openContainers, isOpen}
-use Rattle.writer.proofs.Run.{roomLine, refused-place, passed-place, run-accepted}
+use Rattle.steps.proofs.Run.{roomLine, refused-place, passed-place, run-accepted}
 use borrow.Author.Needs.{needs}
 use Rattle.writer.proofs.empty.Statement.{statement}
 use Rattle.writer.proofs.empty.Tie as tie

@@ -8,7 +8,7 @@ use Rattle.fields.proofs.Sizes.{varUInt-least}
 use Rattle.machine.specs.Call.{name}
 use Rattle.machine.specs.Machine.{openContainers, inStruct}
 use Rattle.machine.specs.declared.Refusal.the-variants.{NoRoom}
-use Rattle.writer.proofs.Run.{roomLine, refused-place, passed-place, put-fits, end-run, ended-run}
+use Rattle.steps.proofs.Run.{roomLine, refused-place, passed-place, put-fits, end-run, ended-run}
 use borrow.Author.Needs.{needs}
 use Rattle.writer.proofs.field_name.Statement.{statement}
 use Rattle.writer.proofs.field_name.Tie as tie
@@ -50,7 +50,7 @@ returns-2 c =
     passed-place (name (a .sid)) (a .s) (a .buf .now) (not (inStruct (openContainers (a .s))) || a .s .waiting) (roomLine (name (a .sid)) (a .s) (a .buf .now))
     refl (p .name-place .result) (p .name-place .ensures) (w .before .before .enum-told .given .1) in
     ended-run (c .ended .result) (name (a .sid)) (a .s) (a .buf .now) (w .write .result) (w .write .last .0) true NoRoom (c .ended .ensures)
-    (end-run (name (a .sid)) (a .s) (a .buf .now) (varUIntBytes (a .sid)) _ _ true (w .write .ensures) past (varUInt-least (a .sid)) refl)
+    (end-run (name (a .sid)) (a .s) (a .buf .now) (varUIntBytes (a .sid)) _ _ true (w .write .ensures) past (varUInt-least (a .sid)) refl refl)
 
 pub field-name-spec : {M : Type 1} → statement M
 field-name-spec =

@@ -5,7 +5,7 @@ use native.Mathlib.Omega.{arith}
 use native.Mathlib.Nat.{sub-zero}
 use mathlib.Core.Path.{ap}
 use lib.ListN.{length, take}
-use Rattle.writer.proofs.Started.{finished-within}
+use Rattle.steps.proofs.Started.{finished-within}
 use borrow.Author.Needs.{needs}
 use Rattle.writer.proofs.finished.Statement.{statement}
 use Rattle.writer.proofs.finished.Tie as tie

@@ -9,11 +9,11 @@ use lib.Dec.{ltb, leb}
 use lib.ListN.{length}
 use Rattle.annotations.specs.Sids.{sidsOf}
 use Rattle.machine.specs.Call.{opening}
-use Rattle.machine.specs.Machine.{lacksName, reserve, checks, accepted, firstFailing}
+use Rattle.machine.specs.Machine.{config, lacksName, reserve, checks, accepted, firstFailing}
 use Rattle.machine.specs.declared.State.{State}
-use Rattle.writer.specs.Kinds.{kindOf}
-use Rattle.writer.proofs.Run.{outcome, config, refused-place, passed-place, placed-some}
-use Rattle.writer.proofs.Containers.{openingLines, openedState, reserve-least, opening-refused, opening-accepted, opening-deep}
+use Rattle.steps.specs.Kinds.{kindOf}
+use Rattle.steps.proofs.Run.{outcome, refused-place, passed-place, placed-some}
+use Rattle.steps.proofs.Containers.{openingLines, openedState, reserve-least, opening-refused, opening-accepted, opening-deep}
 use borrow.Author.Needs.{needs}
 use Rattle.writer.proofs.open.Statement.{statement}
 use Rattle.writer.proofs.open.Tie as tie

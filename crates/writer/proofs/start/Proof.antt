@@ -4,8 +4,8 @@ use native.Mathlib.Omega.{arith}
 use mathlib.Core.Path.{_∙_, ap}
 use Rattle.machine.specs.Machine.{accepted, refused}
 use Rattle.machine.specs.declared.State.{State}
-use Rattle.writer.proofs.Run.{outcome}
-use Rattle.writer.proofs.Started.{start-long, start-full, start-put}
+use Rattle.steps.proofs.Run.{outcome}
+use Rattle.steps.proofs.Started.{start-long, start-full, start-put}
 use borrow.Author.Needs.{needs}
 use Rattle.writer.proofs.start.Statement.{statement}
 use Rattle.writer.proofs.start.Tie as tie

@@ -6,7 +6,7 @@ use Rattle.encoding.specs.Headers.{markerBytes}
 use Rattle.machine.specs.Call.{versionMarker}
 use Rattle.machine.specs.Machine.{openContainers, isOpen}
 use Rattle.machine.specs.declared.Refusal.the-variants.{NoRoom}
-use Rattle.writer.proofs.Run.{roomLine, refused-place, passed-place, put-fits, end-run, ended-run}
+use Rattle.steps.proofs.Run.{roomLine, refused-place, passed-place, put-fits, end-run, ended-run}
 use borrow.Author.Needs.{needs}
 use Rattle.writer.proofs.version_marker.Statement.{statement}
 use Rattle.writer.proofs.version_marker.Tie as tie
@@ -51,7 +51,7 @@ returns-2 c =
     passed-place versionMarker (a .s) (a .buf .now) (isOpen (openContainers (a .s))) (roomLine versionMarker (a .s) (a .buf .now)) refl
     (p .top-place .result) (p .top-place .ensures) (w .before .before .before .enum-told .given .1) in
     ended-run (c .ended .result) versionMarker (a .s) (a .buf .now) (w .copy .result) (w .copy .last .0) (a .s .waiting) NoRoom (c .ended .ensures)
-    (end-run versionMarker (a .s) (a .buf .now) markerBytes _ _ (a .s .waiting) (w .copy .ensures) past (omega arith) refl)
+    (end-run versionMarker (a .s) (a .buf .now) markerBytes _ _ (a .s .waiting) (w .copy .ensures) past (omega arith) refl refl)
 
 pub version-marker-spec : {M : Type 1} → statement M
 version-marker-spec =

@@ -3,7 +3,7 @@
 use native.Mathlib.Omega.{arith}
 use mathlib.Core.Path.{refl}
 use Rattle.encoding.specs.Argument.{writeClob}
-use Rattle.writer.proofs.Scalars.{unchecked}
+use Rattle.steps.proofs.Scalars.{unchecked}
 use Rattle.annotations.specs.Sids.{sidsOf}
 use Rattle.machine.specs.declared.Refusal.the-variants.{NoRoom}
 use Rattle.writer.proofs.Values.{Put, value-barred, value-put, value-fits, value-ended}

@@ -2,7 +2,7 @@
 -- Assumes nothing.
 use native.Mathlib.Omega.{arith}
 use Rattle.scalars.specs.Types.{scalarArgument}
-use Rattle.writer.proofs.Scalars.{unchecked, scalar-unchecked}
+use Rattle.steps.proofs.Scalars.{unchecked, scalar-unchecked}
 use Rattle.annotations.specs.Sids.{sidsOf}
 use Rattle.machine.specs.declared.Refusal.the-variants.{NoRoom}
 use Rattle.writer.proofs.Values.{Put, value-barred, value-put, value-fits, value-ended}

@@ -1,4 +1,4 @@
--- `writer::decimal_refusal` meets its contract: check 8, or 10.
+-- `steps::decimal_refusal` meets its contract: check 8, or 10.
 -- Assumes nothing.
 use Prim.Native.Nat.{min}
 use mathlib.Core.Path.{_≡_}
@@ -6,10 +6,10 @@ use mir.Syntax.{w64}
 use mir.ValLaws.{toZ-ofZ}
 use lib.ListN.{length}
 use Rattle.encoding.specs.Decimal.{decimalBody}
-use Rattle.writer.proofs.Scalars.{decimal-long, decimal-short}
+use Rattle.steps.proofs.Scalars.{decimal-long, decimal-short}
 use borrow.Author.Needs.{needs}
-use Rattle.writer.proofs.decimal_refusal.Statement.{statement}
-use Rattle.writer.proofs.decimal_refusal.Tie as tie
+use Rattle.steps.proofs.decimal_refusal.Statement.{statement}
+use Rattle.steps.proofs.decimal_refusal.Tie as tie
 
 -- the length of the body, up to 33
 measured : (c : tie.After-body-size) → let a = c .before .before .args in

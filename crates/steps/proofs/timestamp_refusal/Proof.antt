@@ -1,10 +1,10 @@
--- `writer::timestamp_refusal` meets its contract: check 7, or 10.
+-- `steps::timestamp_refusal` meets its contract: check 7, or 10.
 -- Assumes nothing.
 use mathlib.Core.Path.{sym, _∙_}
-use Rattle.writer.proofs.Scalars.{timestamp-bad, timestamp-good}
+use Rattle.steps.proofs.Scalars.{timestamp-bad, timestamp-good}
 use borrow.Author.Needs.{needs}
-use Rattle.writer.proofs.timestamp_refusal.Statement.{statement}
-use Rattle.writer.proofs.timestamp_refusal.Tie as tie
+use Rattle.steps.proofs.timestamp_refusal.Statement.{statement}
+use Rattle.steps.proofs.timestamp_refusal.Tie as tie
 
 is-valid-requires : tie.Need-is-valid-requires
 is-valid-requires c κs = search needs

@@ -2,7 +2,7 @@
 -- Assumes nothing.
 use Prim.Native.Nat.{ℕ, zero, suc, _+_, _-_, _<_, _≤_}
 use native.Mathlib.Omega.{arith}
-use mathlib.Core.Path.{_≡_, refl, sym, _∙_, ap}
+use mathlib.Core.Path.{_≡_, refl, sym, _∙_, ap, ap₂}
 use mathlib.Core.Bool.{Bool, true, false, false≢true, not, _||_}
 use mathlib.Core.Logic.{⊎-elim}
 use mathlib.Core.List.{List, [], _∷_, _++_}
@@ -16,14 +16,12 @@ use Rattle.encoding.specs.Headers.{typeByte, framedBytes, annotationBytes}
 use Rattle.machine.specs.declared.State.{State}
 use Rattle.machine.specs.declared.Container.{Container}
 use Rattle.machine.specs.Call.{ContainerType, opening, closing, abandonment}
-use Rattle.machine.specs.Machine.{Config, noContainer, innermostFirst, openContainers, isOpen, inStruct, reserve, headerPlace, containerCode, closedBytes, splice, put, effect, containerFits, containersFit, fits, checks, accepted, refused, firstFailing, isAccepted}
-use Rattle.machine.specs.Numbers.{run}
-use Rattle.machine.specs.Machine.{placeVerdict}
+use Rattle.machine.specs.Machine.{Config, config, mostOpen, longestBuffer, noContainer, innermostFirst, openContainers, isOpen, inStruct, reserve, headerPlace, containerCode, closedBytes, splice, put, noFigures, ruleOf, effect, containerFits, containersFit, fits, checks, accepted, refused, firstFailing, isAccepted, placeVerdict, run}
 use Rattle.place.proofs.Laws.{innermost-step, fits-used, chain-step}
 use Rattle.buffer.specs.Laid.{placed}
 use Rattle.containers.proofs.Closed.{fit, closedOn-fits, abandonedOn-fits}
 use Rattle.containers.specs.Containers.{spliced, closedOn, abandonedOn}
-use Rattle.writer.proofs.Run.{outcome, config, run-refused, run-accepted, past-place, placed-some, end-refused, end-accepted}
+use Rattle.steps.proofs.Run.{outcome, accepted-with, run-refused, run-accepted, past-place, placed-some, end-refused, end-accepted}
 use Rattle.scalars.proofs.Bytes.{framed-some}
 
 -- ---- what a place that is accepted says
@@ -32,13 +30,13 @@ pub accepted-fits : (s : State) (room : ℕ) (m : Bool) → placeVerdict s room 
 unfolding placeVerdict
 accepted-fits s room m e =
     by-cases (fits s room) (λ p. p)
-    (λ p. by-cases (ltb 16777215 room) (λ q. absurd (false≢true (ap isAccepted (rw q at e)))) (λ q. absurd (false≢true (ap isAccepted (rw (q, p) at e)))))
+    (λ p. by-cases (ltb longestBuffer room) (λ q. absurd (false≢true (ap isAccepted (rw q at e)))) (λ q. absurd (false≢true (ap isAccepted (rw (q, p) at e)))))
 
 pub accepted-placed : (s : State) (room : ℕ) (m : Bool) → placeVerdict s room m ≡ accepted → m ≡ false
 unfolding placeVerdict
 accepted-placed s room m e =
     by-cases m
-    (λ p. by-cases (ltb 16777215 room) (λ q. absurd (false≢true (ap isAccepted (rw q at e))))
+    (λ p. by-cases (ltb longestBuffer room) (λ q. absurd (false≢true (ap isAccepted (rw q at e))))
     (λ q. by-cases (fits s room) (λ f. absurd (false≢true (ap isAccepted (rw (q, f, p) at e)))) (λ f. absurd (false≢true (ap isAccepted (rw (q, f) at e))))))
     (λ p. p)
 
@@ -69,7 +67,7 @@ module _ (s : State) (room : ℕ) (f : fits s room ≡ true) (o : isOpen (openCo
   pub innermost-fits : containerFits (s .used) (innermost s) ≡ true
   unfolding fits
   innermost-fits =
-      let g : containersFit (s .used) (openContainers s) ≡ true = both {a = containersFit (s .used) (openContainers s)} (both {a = leb (s .depth) 32} (both {a = leb (s .used) room} f .1) .1) .0 in
+      let g : containersFit (s .used) (openContainers s) ≡ true = both {a = containersFit (s .used) (openContainers s)} (both {a = leb (s .depth) mostOpen} (both {a = leb (s .used) room} f .1) .1) .0 in
       both {a = containerFits (s .used) (innermost s)} (sym (chain-step (s .containers) (s .depth) (s .used) some-open) ∙ g) .0
 
   pub innermost-before : innermost s .start ≤ s .used
@@ -90,7 +88,7 @@ header-last used (a ∷ an) = let q : length (annotationBytes (a ∷ an) ++ (0 �
 
 -- the lines behind the place
 abbrev pub openingLines : List ℕ → State → List ℕ → List (Bool × ℕ)
-openingLines an s b = (leb 32 (s .depth), 4) ∷ (ltb (length b) (s .used + length (reserve an)), 10) ∷ []
+openingLines an s b = (leb mostOpen (s .depth), 4) ∷ (ltb (length b) (s .used + length (reserve an)), 10) ∷ []
 
 -- the state behind an opening that has put n bytes
 abbrev pub openedState : State → ℕ → ℕ → State
@@ -104,24 +102,24 @@ openedState s n code = record {
 module _ (an : List ℕ) (k : ContainerType) (s : State) (b : List ℕ) (n : ℕ) (l : List ℕ)
     (e : _≡_ {A = ℕ × List ℕ} (n, l) (placed b (s .used) (reserve an)))
     (past : firstFailing (checks (opening an k) (config s b)) ≡ firstFailing (openingLines an s b))
-    (d : s .depth < 32) where
+    (d : s .depth < mostOpen) where
   shallow : firstFailing (checks (opening an k) (config s b)) ≡ firstFailing ((ltb (length b) (s .used + length (reserve an)), 10) ∷ [])
-  shallow = past ∙ rw (lt-leb 32 (s .depth) d)
+  shallow = past ∙ rw (lt-leb mostOpen (s .depth) d)
 
-  pub opening-refused : n ≡ 0 → outcome (refused 10) s l ≡ run (opening an k) s b
+  pub opening-refused : n ≡ 0 → outcome (refused 10) s l ≡ run (opening an k) (config s b)
   opening-refused z = end-refused (opening an k) s b (reserve an) n l e shallow z (omega (arith, reserve-least an))
 
-  pub opening-accepted : (n ≡ 0 → ⊥) → outcome accepted (openedState s n (containerCode k)) l ≡ run (opening an k) s b
+  pub opening-accepted : (n ≡ 0 → ⊥) → outcome accepted (openedState s n (containerCode k)) l ≡ run (opening an k) (config s b)
   opening-accepted h =
       let w = placed-some b (s .used) (reserve an) n l e h in
       let q : s .used + (n - 2) ≡ headerPlace (s .used) an = ap (λ (x : ℕ). s .used + (x - 2)) (w .1) ∙ sym (header-last (s .used) an) in
       ap (λ (x : ℕ). outcome accepted (record { used = s .used + n; depth = s .depth + 1; waiting = false; containers = set (s .containers) (s .depth) (record { start = s .used; header = x; code = containerCode k }) }) l) q
-      ∙ end-accepted (opening an k) s b (reserve an) n l e shallow (s .depth + 1) false _ refl h
+      ∙ end-accepted (opening an k) s b (reserve an) n l e shallow (s .depth + 1) false _ refl refl h
 
 pub opening-deep : (an : List ℕ) (k : ContainerType) (s : State) (b : List ℕ)
     → firstFailing (checks (opening an k) (config s b)) ≡ firstFailing (openingLines an s b)
-    → 32 ≤ s .depth → outcome (refused 4) s b ≡ run (opening an k) s b
-opening-deep an k s b past d = sym (run-refused (opening an k) s b 4 (past ∙ rw (le-leb 32 (s .depth) d)))
+    → mostOpen ≤ s .depth → outcome (refused 4) s b ≡ run (opening an k) (config s b)
+opening-deep an k s b past d = sym (run-refused (opening an k) s b 4 (past ∙ rw (le-leb mostOpen (s .depth) d)))
 
 -- ---- a closing
 
@@ -152,7 +150,7 @@ module _ (s : State) (b : List ℕ) (n : ℕ) (l : List ℕ) (place : placeVerdi
   closing-spliced : _≡_ {A = ℕ × List ℕ} (n, l) (spliced (s .used) (innermost s .start) out b)
   closing-spliced = e ∙ closedOn-fits (innermost s) (s .used) b (rw (innermost-fits s (length b) closing-fits closing-open, le-leb (s .used) (length b) (fits-used s (length b) closing-fits)))
 
-  pub closing-refused : n ≡ 0 → outcome (refused 10) s l ≡ run closing s b
+  pub closing-refused : n ≡ 0 → outcome (refused 10) s l ≡ run closing (config s b)
   unfolding spliced
   closing-refused z =
       by-cases (leb (innermost s .start + length out) (length b))
@@ -163,21 +161,35 @@ module _ (s : State) (b : List ℕ) (n : ℕ) (l : List ℕ) (place : placeVerdi
       never : n ≡ innermost s .start + length out → ⊥
       never q = let w = closed-least (innermost s) (take (s .used) b) in omega (arith, q, z, w)
 
-  pub closing-accepted : (n ≡ 0 → ⊥) → outcome accepted (record { used = n; depth = s .depth - 1; waiting = false; containers = s .containers }) l ≡ run closing s b
+  closing-figures : ruleOf closing (config s b) .figures ≡ record { size = length out }
+  closing-figures = rw (open-first s (length b) closing-fits closing-open)
+
+  closing-grown : (n ≡ 0 → ⊥) → (innermost s .start + length out ≤ length b) × (n ≡ innermost s .start + length out) × (l ≡ splice (s .used) (innermost s .start) out b)
   unfolding spliced
-  closing-accepted h =
+  closing-grown h =
       by-cases (leb (innermost s .start + length out) (length b))
       (λ p.
       let q : _≡_ {A = ℕ × List ℕ} (n, l) (innermost s .start + length out, splice (s .used) (innermost s .start) out b) = rw (p, spliced) at closing-spliced in
-      ap (λ (x : ℕ × List ℕ). outcome accepted (record { used = x .0; depth = s .depth - 1; waiting = false; containers = s .containers }) (x .1)) q
-      ∙ sym (run-accepted closing s b (closing-checks ∙ rw (le-ltb (length b) (innermost s .start + length out) (leb-true (innermost s .start + length out) (length b) p))) ∙ ap (λ (y : Config). outcome accepted (y .state) (y .buffer)) closing-effect))
+      (leb-true (innermost s .start + length out) (length b) p, ap (λ (x : ℕ × List ℕ). x .0) q, ap (λ (x : ℕ × List ℕ). x .1) q))
       (λ p. absurd (h (ap (λ (x : ℕ × List ℕ). x .0) (rw (p, spliced) at closing-spliced))))
+
+  pub closing-start : (n ≡ 0 → ⊥) → innermost s .start ≤ n
+  closing-start h = omega (arith, closing-grown h .1)
+
+  pub closing-accepted : (n ≡ 0 → ⊥)
+      → accepted-with (config (record { used = n; depth = s .depth - 1; waiting = false; containers = s .containers }) l) (record { size = n - innermost s .start })
+      ≡ run closing (config s b)
+  closing-accepted h =
+      let g = closing-grown h in
+      let z : innermost s .start + length out - innermost s .start ≡ length out = omega arith in
+      rw (g .1, g .2, z)
+      (sym (run-accepted closing s b (closing-checks ∙ rw (le-ltb (length b) (innermost s .start + length out) (g .0))) ∙ ap₂ accepted-with closing-effect closing-figures))
 
 -- ---- an abandonment
 
 pub abandonment-run : (s : State) (b : List ℕ) (r : Bool) (l : List ℕ) (waits : Bool) → placeVerdict s (length b) (not (isOpen (openContainers s))) ≡ accepted
     → _≡_ {A = Bool × List ℕ} (r, l) (abandonedOn (s .used) (innermost s .start) b) → waits ≡ inStruct (innermostFirst (s .containers) (s .depth - 1))
-    → outcome accepted (record { used = innermost s .start; depth = s .depth - 1; waiting = waits; containers = s .containers }) l ≡ run abandonment s b
+    → outcome accepted (record { used = innermost s .start; depth = s .depth - 1; waiting = waits; containers = s .containers }) l ≡ run abandonment (config s b)
 abandonment-run s b r l waits place e w =
     let f = accepted-fits s (length b) _ place in
     let o = opened-not (isOpen (openContainers s)) (accepted-placed s (length b) _ place) in
@@ -191,4 +203,4 @@ abandonment-run s b r l waits place e w =
     let y : innermost s .start ≡ innermost s .start + 0 = omega arith in
     ap (outcome accepted (record { used = innermost s .start; depth = s .depth - 1; waiting = waits; containers = s .containers })) (ap (λ (x : Bool × List ℕ). x .1) q)
     ∙ ap (λ (x : ℕ). outcome accepted (record { used = x; depth = s .depth - 1; waiting = waits; containers = s .containers }) (splice (s .used) (innermost s .start) [] b)) y
-    ∙ sym (run-accepted abandonment s b v ∙ ap (λ (y : Config). outcome accepted (y .state) (y .buffer)) z)
+    ∙ sym (run-accepted abandonment s b v ∙ ap (λ (y : Config). accepted-with y noFigures) z)

@@ -3,8 +3,8 @@
 use Rattle.ion.specs.Value.{list, sexp}
 use Rattle.machine.specs.Call.{sequenceType, structType}
 use Rattle.machine.specs.Call.{ContainerType as Named}
-use Rattle.writer.specs.declared.ContainerType.{ContainerType}
-use Rattle.writer.specs.declared.ContainerType.the-variants.{List, Sexp, Struct}
+use Rattle.steps.specs.declared.ContainerType.{ContainerType}
+use Rattle.steps.specs.declared.ContainerType.the-variants.{List, Sexp, Struct}
 
 abbrev pub kindOf : ContainerType → Named
 kindOf List = sequenceType list

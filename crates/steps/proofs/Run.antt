@@ -2,7 +2,7 @@
 -- Assumes nothing.
 use Prim.Native.Nat.{ℕ, _+_, _<_, _≤_}
 use native.Mathlib.Omega.{arith}
-use mathlib.Core.Path.{_≡_, refl, sym, _∙_, ap}
+use mathlib.Core.Path.{_≡_, refl, sym, _∙_, ap, ap₂}
 use mathlib.Core.Bool.{Bool, true, false, false≢true}
 use mathlib.Core.List.{List, [], _∷_, _++_}
 use lib.Dec.{ltb, eqb}
@@ -17,14 +17,14 @@ use Rattle.containers.proofs.Splice.{splice-end}
 use Rattle.machine.specs.declared.State.{State}
 use Rattle.machine.specs.declared.Container.{Container}
 use Rattle.machine.specs.Call.{Call}
-use Rattle.machine.specs.Machine.{Config, put, atEnd, effect, placeLines, checks, Verdict, accepted, refused, firstFailing, placeVerdict, isAccepted, verdict}
+use Rattle.machine.specs.Machine.{Config, config, put, atEnd, Figures, noFigures, ruleOf, effect, placeLines, checks, Verdict, accepted, refused, firstFailing, placeVerdict, isAccepted, verdict, Outcome, run}
 use Rattle.machine.specs.declared.Refusal.{Refusal}
 use Rattle.machine.specs.declared.Refusal.the-variants.{NoRoom}
 use Rattle.machine.specs.declared.Written.{Written}
 use Rattle.machine.specs.declared.Answer.{Answer}
 use Rattle.machine.specs.declared.Answer.the-variants.{Accepted, Refused}
-use Rattle.machine.specs.Numbers.{number, verdictOf, Outcome, outcomeOf, run}
-use Rattle.writer.specs.Refused.{ownRefusal}
+use Rattle.machine.specs.Numbers.{number, verdictOf, outcomeOf}
+use Rattle.steps.specs.Refused.{ownRefusal}
 
 -- ---- the first failing line of two lists
 
@@ -39,16 +39,17 @@ first-of-right (x ∷ xs) r e = by-cases (x .0) (λ p. absurd (false≢true (ap 
 -- ---- a call by its verdict
 
 abbrev pub outcome : Verdict → State → List ℕ → Outcome
-outcome v s b = record { verdict = v; state = s; buffer = b }
+outcome v s b = record { verdict = v; config = config s b; figures = noFigures }
 
-abbrev pub config : State → List ℕ → Config
-config s b = record { state = s; buffer = b }
+-- an accepted call that leaves w and answers f
+abbrev pub accepted-with : Config → Figures → Outcome
+accepted-with w f = record { verdict = accepted; config = w; figures = f }
 
-pub run-refused : (c : Call) (s : State) (b : List ℕ) (n : ℕ) → firstFailing (checks c (config s b)) ≡ refused n → run c s b ≡ outcome (refused n) s b
+pub run-refused : (c : Call) (s : State) (b : List ℕ) (n : ℕ) → firstFailing (checks c (config s b)) ≡ refused n → run c (config s b) ≡ outcome (refused n) s b
 unfolding run verdict
 run-refused c s b n e = rw e
 
-pub run-accepted : (c : Call) (s : State) (b : List ℕ) → firstFailing (checks c (config s b)) ≡ accepted → run c s b ≡ outcome accepted (effect c (config s b) .state) (effect c (config s b) .buffer)
+pub run-accepted : (c : Call) (s : State) (b : List ℕ) → firstFailing (checks c (config s b)) ≡ accepted → run c (config s b) ≡ accepted-with (effect c (config s b)) (ruleOf c (config s b) .figures)
 unfolding run verdict
 run-accepted c s b e = rw e
 
@@ -58,7 +59,7 @@ run-accepted c s b e = rw e
 abbrev pub roomLine : Call → State → List ℕ → List (Bool × ℕ)
 roomLine c s b = (ltb (length b) (effect c (config s b) .state .used), 10) ∷ []
 
-pub run-misplaced : (c : Call) (s : State) (b : List ℕ) (m : Bool) (rest : List (Bool × ℕ)) (n : ℕ) → checks c (config s b) ≡ placeLines s (length b) m ++ rest → placeVerdict s (length b) m ≡ refused n → run c s b ≡ outcome (refused n) s b
+pub run-misplaced : (c : Call) (s : State) (b : List ℕ) (m : Bool) (rest : List (Bool × ℕ)) (n : ℕ) → checks c (config s b) ≡ placeLines s (length b) m ++ rest → placeVerdict s (length b) m ≡ refused n → run c (config s b) ≡ outcome (refused n) s b
 unfolding placeVerdict
 run-misplaced c s b m rest n q e = run-refused c s b n (rw q (first-of-left (placeLines s (length b) m) rest n e))
 
@@ -92,7 +93,7 @@ own-only a rest p = first-of-right (argumentChecks a) rest (no-check (argumentCh
 
 -- the first four parameters of each law below: what line 3 says, and the lines behind it
 module _ (c : Call) (s : State) (b : List ℕ) (m : Bool) (rest : List (Bool × ℕ)) (q : checks c (config s b) ≡ placeLines s (length b) m ++ rest) (p : Answer) (e : verdictOf p ≡ placeVerdict s (length b) m) where
-  pub refused-place : (why : Refusal) → p ≡ Refused why → outcome (verdictOf p) s b ≡ run c s b
+  pub refused-place : (why : Refusal) → p ≡ Refused why → outcome (verdictOf p) s b ≡ run c (config s b)
   refused-place why h =
       let v : verdictOf p ≡ refused (number why) = ap verdictOf h in
       ap (λ (x : Verdict). outcome x s b) v ∙ sym (run-misplaced c s b m rest (number why) q (sym e ∙ v))
@@ -125,17 +126,17 @@ pub put-fits : (b : List ℕ) (at : ℕ) (out : List ℕ) (n : ℕ) (l : List �
 put-fits b at out n l e h = let w = placed-some b at out n l e h in omega (arith, w .0, w .1)
 
 module _ (c : Call) (s : State) (b out : List ℕ) (n : ℕ) (l : List ℕ) (e : _≡_ {A = ℕ × List ℕ} (n, l) (placed b (s .used) out)) (past : firstFailing (checks c (config s b)) ≡ firstFailing ((ltb (length b) (s .used + length out), 10) ∷ [])) where
-  pub end-refused : n ≡ 0 → 0 < length out → outcome (refused 10) s l ≡ run c s b
+  pub end-refused : n ≡ 0 → 0 < length out → outcome (refused 10) s l ≡ run c (config s b)
   end-refused z pos =
       let w = placed-none b (s .used) out n l e z pos in
       ap (λ (x : List ℕ). outcome (refused 10) s x) (w .1) ∙ sym (run-refused c s b 10 (past ∙ rw (lt-ltb (length b) (s .used + length out) (w .0))))
 
-  pub end-accepted : (d : ℕ) (waits : Bool) (cs : List Container) → effect c (config s b) ≡ put (config s b) (record { place = s .used; out = out; depth = d; waiting = waits; containers = cs }) → (n ≡ 0 → ⊥)
-      → outcome accepted (record { used = s .used + n; depth = d; waiting = waits; containers = cs }) l ≡ run c s b
-  end-accepted d waits cs f h =
+  pub end-accepted : (d : ℕ) (waits : Bool) (cs : List Container) → effect c (config s b) ≡ put (config s b) (record { place = s .used; out = out; depth = d; waiting = waits; containers = cs }) → ruleOf c (config s b) .figures ≡ noFigures → (n ≡ 0 → ⊥)
+      → outcome accepted (record { used = s .used + n; depth = d; waiting = waits; containers = cs }) l ≡ run c (config s b)
+  end-accepted d waits cs f g h =
       let w = placed-some b (s .used) out n l e h in
       rw (w .1, w .2, ← (splice-end (s .used) out b))
-      (sym (run-accepted c s b (past ∙ rw (le-ltb (length b) (s .used + length out) (w .0))) ∙ ap (λ (y : Config). outcome accepted (y .state) (y .buffer)) f))
+      (sym (run-accepted c s b (past ∙ rw (le-ltb (length b) (s .used + length out) (w .0))) ∙ ap₂ accepted-with f g))
 
 -- ---- a call that could put n bytes at the end of the used ones, or none
 
@@ -144,16 +145,16 @@ grown s n waits = record { used = s .used + n; depth = s .depth; waiting = waits
 
 -- what it leaves, l being the buffer after it: `why` is why it could put none
 pub record Ends (c : Call) (s : State) (b : List ℕ) (n : ℕ) (l : List ℕ) (waits : Bool) (why : Refusal) : Type 0 where
-  pub none : n ≡ 0 → outcome (refused (number why)) s l ≡ run c s b
-  pub some : (n ≡ 0 → ⊥) → outcome accepted (grown s n waits) l ≡ run c s b
+  pub none : n ≡ 0 → outcome (refused (number why)) s l ≡ run c (config s b)
+  pub some : (n ≡ 0 → ⊥) → outcome accepted (grown s n waits) l ≡ run c (config s b)
 
 -- bytes that are never none, with no check of their own but 10
 pub end-run : (c : Call) (s : State) (b out : List ℕ) (n : ℕ) (l : List ℕ) (waits : Bool) → _≡_ {A = ℕ × List ℕ} (n, l) (placed b (s .used) out)
     → firstFailing (checks c (config s b)) ≡ firstFailing ((ltb (length b) (s .used + length out), 10) ∷ [])
-    → 0 < length out → effect c (config s b) ≡ put (config s b) (atEnd s out waits) → Ends c s b n l waits NoRoom
-end-run c s b out n l waits e past pos f = record {
+    → 0 < length out → effect c (config s b) ≡ put (config s b) (atEnd s out waits) → ruleOf c (config s b) .figures ≡ noFigures → Ends c s b n l waits NoRoom
+end-run c s b out n l waits e past pos f g = record {
   none = λ z. end-refused c s b out n l e past z pos;
-  some = λ h. end-accepted c s b out n l e past (s .depth) waits (s .containers) f h;
+  some = λ h. end-accepted c s b out n l e past (s .depth) waits (s .containers) f g h;
 }
 
 -- what `ended` says of its answer
@@ -162,7 +163,7 @@ Ended r s n waits why =
     (n ≡ 0 → r ≡ record { answer = Refused why; state = s }) × ((n ≡ 0 → ⊥) → r ≡ record { answer = Accepted; state = grown s n waits })
 
 pub ended-run : (r : Written) (c : Call) (s : State) (b : List ℕ) (n : ℕ) (l : List ℕ) (waits : Bool) (why : Refusal)
-    → Ended r s n waits why → Ends c s b n l waits why → outcomeOf r l ≡ run c s b
+    → Ended r s n waits why → Ends c s b n l waits why → outcomeOf r l ≡ run c (config s b)
 ended-run r c s b n l waits why e h =
     by-cases (eqb n 0)
     (λ p. let z = eqb-true n 0 p in ap (λ (x : Written). outcomeOf x l) (e .0 z) ∙ h .none z)

@@ -1,10 +1,10 @@
--- `writer::int_refusal` meets its contract: check 5, or 10.
+-- `steps::int_refusal` meets its contract: check 5, or 10.
 -- Assumes nothing.
 use mathlib.Core.Path.{sym, _∙_}
-use Rattle.writer.proofs.Scalars.{int-negative-zero, int-otherwise}
+use Rattle.steps.proofs.Scalars.{int-negative-zero, int-otherwise}
 use borrow.Author.Needs.{needs}
-use Rattle.writer.proofs.int_refusal.Statement.{statement}
-use Rattle.writer.proofs.int_refusal.Tie as tie
+use Rattle.steps.proofs.int_refusal.Statement.{statement}
+use Rattle.steps.proofs.int_refusal.Tie as tie
 
 is-negative-zero-requires : tie.Need-is-negative-zero-requires
 is-negative-zero-requires c κs = search needs

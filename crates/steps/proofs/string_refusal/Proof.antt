@@ -1,10 +1,10 @@
--- `writer::string_refusal` meets its contract: check 6, or 10.
+-- `steps::string_refusal` meets its contract: check 6, or 10.
 -- Assumes nothing.
 use mathlib.Core.Path.{sym, _∙_}
-use Rattle.writer.proofs.Scalars.{string-bad, string-good}
+use Rattle.steps.proofs.Scalars.{string-bad, string-good}
 use borrow.Author.Needs.{needs}
-use Rattle.writer.proofs.string_refusal.Statement.{statement}
-use Rattle.writer.proofs.string_refusal.Tie as tie
+use Rattle.steps.proofs.string_refusal.Statement.{statement}
+use Rattle.steps.proofs.string_refusal.Tie as tie
 
 is-utf8-requires : tie.Need-is-utf8-requires
 is-utf8-requires c κs = search needs

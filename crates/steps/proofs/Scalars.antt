@@ -31,10 +31,10 @@ use Rattle.buffer.proofs.Laid.{placed-nil}
 use Rattle.machine.specs.declared.State.{State}
 use Rattle.machine.specs.declared.Refusal.{Refusal}
 use Rattle.machine.specs.Call.{write}
-use Rattle.machine.specs.Machine.{checks, refused, firstFailing}
-use Rattle.machine.specs.Numbers.{number, run}
-use Rattle.writer.specs.Refused.{ownRefusal}
-use Rattle.writer.proofs.Run.{outcome, config, run-refused, own-refusal, own-only, placed-none, Ends, end-accepted}
+use Rattle.machine.specs.Machine.{config, checks, refused, firstFailing, run}
+use Rattle.machine.specs.Numbers.{number}
+use Rattle.steps.specs.Refused.{ownRefusal}
+use Rattle.steps.proofs.Run.{outcome, run-refused, own-refusal, own-only, placed-none, Ends, end-accepted}
 
 -- the lines behind the place
 abbrev pub scalarLines : List ℕ → Argument → State → List ℕ → List (Bool × ℕ)
@@ -62,7 +62,7 @@ module _ (an : List ℕ) (a : Argument) (s : State) (b : List ℕ) (n : ℕ) (l 
   unaltered : n ≡ 0 → l ≡ b
   unaltered z = by-cases (anyHolds (argumentChecks a)) (λ t. nothing-put t .1) (λ t. unfit z t .1)
 
-  refused-as : (why : Refusal) → n ≡ 0 → refused (number why) ≡ ownRefusal a → outcome (refused (number why)) s l ≡ run (write an a) s b
+  refused-as : (why : Refusal) → n ≡ 0 → refused (number why) ≡ ownRefusal a → outcome (refused (number why)) s l ≡ run (write an a) (config s b)
   refused-as why z r =
       let own = own-refusal a (s .used + length out) (length b) (λ t. unfit z t .0) in
       ap (outcome (refused (number why)) s) (unaltered z) ∙ sym (run-refused (write an a) s b (number why) (past ∙ own ∙ sym r))
@@ -77,7 +77,7 @@ module _ (an : List ℕ) (a : Argument) (s : State) (b : List ℕ) (n : ℕ) (l 
     some = λ h.
         let t = passing h in
         let room = past ∙ own-only a ((ltb (length b) (s .used + length out), 10) ∷ []) t in
-        end-accepted (write an a) s b out n l (all-put t) room (s .depth) false (s .containers) refl h;
+        end-accepted (write an a) s b out n l (all-put t) room (s .depth) false (s .containers) refl refl h;
   }
 
 -- ---- no check of its own

@@ -2,12 +2,11 @@
 -- Assumes nothing.
 use Prim.Native.Nat.{ℕ}
 use mathlib.Core.List.{List}
-use Rattle.machine.specs.Machine.{startVerdict, started, taken}
+use Rattle.machine.specs.Machine.{config, noFigures, startVerdict, started, taken, Outcome}
 use Rattle.machine.specs.declared.State.{State}
-use Rattle.machine.specs.Numbers.{Outcome}
 
 unfoldable pub startRun : List ℕ → Outcome
-startRun b = record { verdict = startVerdict b; state = started b .state; buffer = started b .buffer }
+startRun b = record { verdict = startVerdict b; config = started b; figures = noFigures }
 
 abbrev pub takenFrom : State → List ℕ → List ℕ
-takenFrom s b = taken (record { state = s; buffer = b })
+takenFrom s b = taken (config s b)

@@ -1,0 +1,4 @@
+pub mod Containers
+pub mod Run
+pub mod Scalars
+pub mod Started
