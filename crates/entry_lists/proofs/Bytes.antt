@@ -14,8 +14,8 @@ use Rattle.ion.proofs.Tests.{by-cases}
 use Rattle.buffer.specs.Laid.{laid}
 use Rattle.buffer.proofs.Laid.{length-laid, drop-laid}
 use Rattle.machine.specs.declared.Container.{Container}
-use Rattle.machine.specs.Machine.{noContainer}
-use Rattle.state_bytes.specs.StateBytes.{placeOf, containerAt, containersFrom, stateOf, flag, headBytes, containerBytes, storedHead, storedContainer}
+use Rattle.machine.specs.Machine.{mostOpen, noContainer}
+use Rattle.state_bytes.specs.StateBytes.{stateSize, placeOf, containerAt, containersFrom, stateOf, flag, headBytes, containerBytes, storedHead, storedContainer}
 use Rattle.state_bytes.proofs.Laws.{state-is, container-is, length-containers}
 
 -- ---- a byte among laid ones
@@ -76,19 +76,19 @@ flag-back : (t : Bool) → not (eqb (flag t) 0) ≡ t
 flag-back true = refl
 flag-back false = refl
 
-module _ (st : List ℕ) (u d : ℕ) (wt : Bool) (h : length st ≡ 296) where
+module _ (st : List ℕ) (u d : ℕ) (wt : Bool) (h : length st ≡ stateSize) where
   head-laid : storedHead u d wt st ≡ laid st 0 (headBytes u d wt)
   unfolding storedHead
-  head-laid = rw (eq-eqb (length st) 296 h, storedHead)
+  head-laid = rw (eq-eqb (length st) stateSize h, storedHead)
 
-  pub length-head : length (storedHead u d wt st) ≡ 296
+  pub length-head : length (storedHead u d wt st) ≡ stateSize
   length-head = ap length head-laid ∙ (length-laid st 0 (headBytes u d wt) (omega arith) ∙ h)
 
-  containers-head : containersFrom (storedHead u d wt st) 0 32 ≡ containersFrom st 0 32
+  containers-head : containersFrom (storedHead u d wt st) 0 mostOpen ≡ containersFrom st 0 mostOpen
   containers-head =
-      ext-getD noContainer (containersFrom (storedHead u d wt st) 0 32) (containersFrom st 0 32) (length-containers (storedHead u d wt st) 0 32 ∙ sym (length-containers st 0 32))
+      ext-getD noContainer (containersFrom (storedHead u d wt st) 0 mostOpen) (containersFrom st 0 mostOpen) (length-containers (storedHead u d wt st) 0 mostOpen ∙ sym (length-containers st 0 mostOpen))
       (λ i k.
-      let j : i < 32 = omega (arith, k, length-containers (storedHead u d wt st) 0 32) in
+      let j : i < mostOpen = omega (arith, k, length-containers (storedHead u d wt st) 0 mostOpen) in
       container-is (storedHead u d wt st) i j
       ∙ (same-container (storedHead u d wt st) st (placeOf i) (λ p q r. ap (λ (l : List ℕ). getD l p 0) head-laid ∙ byte-behind st 0 (headBytes u d wt) (omega arith) p (omega arith))
       ∙ sym (container-is st i j)))
@@ -101,12 +101,12 @@ module _ (st : List ℕ) (u d : ℕ) (wt : Bool) (h : length st ≡ 296) where
 
 -- ---- a container
 
-module _ (st : List ℕ) (i : ℕ) (c : Container) (h : length st ≡ 296) (k : i < 32) where
+module _ (st : List ℕ) (i : ℕ) (c : Container) (h : length st ≡ stateSize) (k : i < mostOpen) where
   container-laid : storedContainer i c st ≡ laid st (placeOf i) (containerBytes c)
   unfolding storedContainer
-  container-laid = rw (eq-eqb (length st) 296 h, lt-ltb i 32 k, storedContainer)
+  container-laid = rw (eq-eqb (length st) stateSize h, lt-ltb i mostOpen k, storedContainer)
 
-  pub length-container : length (storedContainer i c st) ≡ 296
+  pub length-container : length (storedContainer i c st) ≡ stateSize
   length-container = ap length container-laid ∙ (length-laid st (placeOf i) (containerBytes c) (omega arith) ∙ h)
 
   container-back : c .start < 2 ^ 32 → c .header < 2 ^ 32 → containerAt (laid st (placeOf i) (containerBytes c)) (placeOf i) ≡ c
@@ -135,16 +135,16 @@ module _ (st : List ℕ) (i : ℕ) (c : Container) (h : length st ≡ 296) (k : 
       (λ t. byte-before st (placeOf i) (containerBytes c) (omega arith) p (omega (arith, ltb-true j i t)))
       (λ t. byte-behind st (placeOf i) (containerBytes c) (omega arith) p (omega (arith, ltb-false j i t, n))))
 
-  containers-set : c .start < 2 ^ 32 → c .header < 2 ^ 32 → containersFrom (laid st (placeOf i) (containerBytes c)) 0 32 ≡ set (containersFrom st 0 32) i c
+  containers-set : c .start < 2 ^ 32 → c .header < 2 ^ 32 → containersFrom (laid st (placeOf i) (containerBytes c)) 0 mostOpen ≡ set (containersFrom st 0 mostOpen) i c
   containers-set ks kh =
       let l : List ℕ = laid st (placeOf i) (containerBytes c) in
-      ext-getD noContainer (containersFrom l 0 32) (set (containersFrom st 0 32) i c) (length-containers l 0 32 ∙ sym (length-set (containersFrom st 0 32) i c ∙ length-containers st 0 32))
+      ext-getD noContainer (containersFrom l 0 mostOpen) (set (containersFrom st 0 mostOpen) i c) (length-containers l 0 mostOpen ∙ sym (length-set (containersFrom st 0 mostOpen) i c ∙ length-containers st 0 mostOpen))
       (λ j q.
-      let m : j < 32 = omega (arith, q, length-containers l 0 32) in
+      let m : j < mostOpen = omega (arith, q, length-containers l 0 mostOpen) in
       container-is l j m
       ∙ by-cases (eqb j i)
-      (λ t. rw (eqb-true j i t) (container-back ks kh ∙ sym (getD-set-same (containersFrom st 0 32) i c noContainer (omega (arith, length-containers st 0 32)))))
-      (λ t. container-other j (eqb-false j i t) ∙ sym (getD-set-other (containersFrom st 0 32) i j c noContainer (eqb-false j i t) ∙ container-is st j m)))
+      (λ t. rw (eqb-true j i t) (container-back ks kh ∙ sym (getD-set-same (containersFrom st 0 mostOpen) i c noContainer (omega (arith, length-containers st 0 mostOpen)))))
+      (λ t. container-other j (eqb-false j i t) ∙ sym (getD-set-other (containersFrom st 0 mostOpen) i j c noContainer (eqb-false j i t) ∙ container-is st j m)))
 
   pub state-container : c .start < 2 ^ 32 → c .header < 2 ^ 32 → stateOf (storedContainer i c st) .containers ≡ set (stateOf st .containers) i c
   state-container ks kh = rw (state-is (storedContainer i c st) length-container, container-laid, state-is st h) (containers-set ks kh)

@@ -24,7 +24,7 @@ use Rattle.machine.specs.Demands.{isEmptying, partOf, joined, modelAfter, spell
 use Rattle.machine.proofs.Splice.{length-splice}
 use Rattle.machine.proofs.Steps.{none-failing}
 use Rattle.machine.proofs.Demands.{demand2, demand3}
-use Rattle.state_bytes.specs.StateBytes.{stateOf, containersFrom, numberOf, storedIf, entered}
+use Rattle.state_bytes.specs.StateBytes.{stateSize, stateOf, containersFrom, numberOf, storedIf, entered}
 use Rattle.entry_numbers.specs.EntryCall.{callOf, HostCall}
 use Rattle.entry_numbers.proofs.Typed.{entry-typed}
 use Rattle.goatminute.specs.Entries.{emptyBytes, startEntered}
@@ -99,14 +99,14 @@ abbrev startLines : List ℕ → List (Bool × ℕ)
 startLines b = (ltb longestBuffer (length b), 1) ∷ (ltb (length b) 4, 10) ∷ []
 
 -- a start whose number is 0 was lent a slice of the right length, and is accepted
-start-accepted : (st b : List ℕ) → startEntered st b .number ≡ 0 → (length st ≡ 296) × (startVerdict b ≡ accepted)
+start-accepted : (st b : List ℕ) → startEntered st b .number ≡ 0 → (length st ≡ stateSize) × (startVerdict b ≡ accepted)
 unfolding startEntered startVerdict
 start-accepted st b e =
-    by-cases (eqb (length st) 296)
+    by-cases (eqb (length st) stateSize)
     (λ p.
     let n : numberOf (startVerdict b) ≡ 0 = rw (p, startEntered) at e in
     let v : isAccepted (startVerdict b) ≡ true = sym (number-accepts (startLines b) (omega arith)) ∙ eq-eqb (numberOf (startVerdict b)) 0 n in
-    (eqb-true (length st) 296 p, accepted-is (startVerdict b) v))
+    (eqb-true (length st) stateSize p, accepted-is (startVerdict b) v))
     (λ p.
     by-cases (ltb longestBuffer (length b))
     (λ q. let n : 1 ≡ 0 = rw (p, startEntered, q) at e in absurd (none 0 n))
@@ -115,15 +115,15 @@ start-accepted st b e =
     none : (k : ℕ) → suc k ≡ 0 → ⊥
     none k z = omega arith
 
-lent-started : (st b : List ℕ) → length st ≡ 296 → startVerdict b ≡ accepted → lentStarted st b ≡ record { state = emptyBytes 4; buffer = splice 0 0 markerBytes b }
+lent-started : (st b : List ℕ) → length st ≡ stateSize → startVerdict b ≡ accepted → lentStarted st b ≡ record { state = emptyBytes 4; buffer = splice 0 0 markerBytes b }
 unfolding startEntered
-lent-started st b h v = rw (eq-eqb (length st) 296 h, startEntered, v)
+lent-started st b h v = rw (eq-eqb (length st) stateSize h, startEntered, v)
 
 started-spells : (st b : List ℕ) → startEntered st b .number ≡ 0 → Spells (lentStarted st b) (started b)
 started-spells st b e =
     let a = start-accepted st b e in
     let h = none-failing (startLines b) (unfold startVerdict in (a .1)) in
-    let short : length b ≤ 16777215 = ltb-false 16777215 (length b) (h .0) in
+    let short : length b ≤ longestBuffer = ltb-false longestBuffer (length b) (h .0) in
     let room : 4 ≤ length b = ltb-false (length b) 4 (h .1 .0) in
     let l : length (splice 0 0 markerBytes b) ≡ length b = length-splice 0 0 markerBytes b (omega arith) (omega arith) (omega arith) in
     rw (lent-started st b (a .0) (a .1), a .1) (record {

@@ -17,21 +17,21 @@ use Rattle.encoding.proofs.Writable.{NoneHolds}
 use Rattle.machine.specs.declared.State.{State}
 use Rattle.machine.specs.declared.Container.{Container}
 use Rattle.machine.specs.Call.{Call, ContainerType, write, name, opening, closing, abandonment, versionMarker, taking, emptying}
-use Rattle.machine.specs.Machine.{Config, noContainer, openContainers, reserve, headerPlace, containerCode, closedInnermost, live, splice, effect, lines, checks, Verdict, accepted, refused, firstFailing, verdict, isAccepted, ifAccepted, after}
+use Rattle.machine.specs.Machine.{mostOpen, longestBuffer, Config, noContainer, openContainers, reserve, headerPlace, containerCode, closedInnermost, live, splice, effect, lines, checks, Verdict, accepted, refused, firstFailing, verdict, isAccepted, ifAccepted, after}
 use Rattle.machine.specs.Numbers.{run}
 use Rattle.machine.proofs.Splice.{length-splice}
 use Rattle.machine.proofs.Steps.{none-failing}
-use Rattle.state_bytes.specs.StateBytes.{stateOf, storedContainer, numberOf, storedState, storedBy, storedIf, entered}
+use Rattle.state_bytes.specs.StateBytes.{stateSize, stateOf, storedContainer, numberOf, storedState, storedBy, storedIf, entered}
 use Rattle.state_bytes.proofs.Laws.{state-is, length-containers}
 use Rattle.entry_lists.specs.Demands.{Lent, configOf}
 use Rattle.entry_lists.proofs.Bytes.{length-head, state-head, length-container, state-container}
 
 -- What every call after an accepted start is lent.
 pub record Sound (w : Lent) : Type 0 where
-  pub size : length (w .state) ≡ 296
-  pub short : length (w .buffer) ≤ 16777215
+  pub size : length (w .state) ≡ stateSize
+  pub short : length (w .buffer) ≤ longestBuffer
   pub fit : stateOf (w .state) .used ≤ length (w .buffer)
-  pub depth : stateOf (w .state) .depth ≤ 32
+  pub depth : stateOf (w .state) .depth ≤ mostOpen
 
 -- what is lent spells the machine's config
 pub record Spells (w : Lent) (m : Config) : Type 0 where
@@ -103,10 +103,10 @@ room-line w misplaced own used h = ltb-false (length (w .buffer)) used (holds-ri
 
 -- Of the state y, the buffer l and the bytes t: they are in their bounds, and the bytes spell y.
 record Left (w : Lent) (y : State) (l t : List ℕ) : Type 0 where
-  size : length t ≡ 296
+  size : length t ≡ stateSize
   spelled : stateOf t ≡ y
   room : y .used ≤ length (w .buffer)
-  depth : y .depth ≤ 32
+  depth : y .depth ≤ mostOpen
   same : length l ≡ length (w .buffer)
 
 abbrev LeftBy : Call → Lent → Type 0
@@ -119,7 +119,7 @@ header-within p (a ∷ an) = rw (length-append (annotationBytes (a ∷ an)) (0 �
 
 module _ (w : Lent) (s : Sound w) where
   -- a state y with the containers that the bytes t hold, its head stored
-  head-left : (y : State) (l t : List ℕ) → length t ≡ 296 → stateOf t .containers ≡ y .containers → y .used ≤ length (w .buffer) → y .depth ≤ 32 → length l ≡ length (w .buffer)
+  head-left : (y : State) (l t : List ℕ) → length t ≡ stateSize → stateOf t .containers ≡ y .containers → y .used ≤ length (w .buffer) → y .depth ≤ mostOpen → length l ≡ length (w .buffer)
       → Left w y l (storedState y t)
   head-left y l t h e room d k = record {
     size = length-head t (y .used) (y .depth) (y .waiting) h;
@@ -130,18 +130,18 @@ module _ (w : Lent) (s : Sound w) where
   }
 
   -- a put by a call that opens nothing
-  put-left : (p : ℕ) (out : List ℕ) (d : ℕ) (wt : Bool) → p + length out ≤ length (w .buffer) → d ≤ 32
+  put-left : (p : ℕ) (out : List ℕ) (d : ℕ) (wt : Bool) → p + length out ≤ length (w .buffer) → d ≤ mostOpen
       → let y : State = record { used = p + length out; depth = d; waiting = wt; containers = stateOf (w .state) .containers } in
       Left w y (splice (stateOf (w .state) .used) p out (w .buffer)) (storedState y (w .state))
   put-left p out d wt room k = head-left _ _ (w .state) (s .size) refl room k (length-splice (stateOf (w .state) .used) p out (w .buffer) (omega arith) (s .fit) room)
 
   opening-left : (an : List ℕ) (k : ContainerType) → NoneHolds (checks (opening an k) (configOf w)) → LeftBy (opening an k) w
   opening-left an k h =
-      let d : stateOf (w .state) .depth < 32 = leb-false 32 (stateOf (w .state) .depth) (h .1 .1 .1 .0) in
-      let room : stateOf (w .state) .used + length (reserve an) ≤ length (w .buffer) = room-line (configOf w) _ ((leb 32 (stateOf (w .state) .depth), 4) ∷ []) _ h in
+      let d : stateOf (w .state) .depth < mostOpen = leb-false mostOpen (stateOf (w .state) .depth) (h .1 .1 .1 .0) in
+      let room : stateOf (w .state) .used + length (reserve an) ≤ length (w .buffer) = room-line (configOf w) _ ((leb mostOpen (stateOf (w .state) .depth), 4) ∷ []) _ h in
       let c : Container = record { start = stateOf (w .state) .used; header = headerPlace (stateOf (w .state) .used) an; code = containerCode k } in
       let i : stateOf (w .state) .depth + 1 - 1 ≡ stateOf (w .state) .depth = omega arith in
-      let n : length (stateOf (w .state) .containers) ≡ 32 = rw (state-is (w .state) (s .size)) (length-containers (w .state) 0 32) in
+      let n : length (stateOf (w .state) .containers) ≡ mostOpen = rw (state-is (w .state) (s .size)) (length-containers (w .state) 0 mostOpen) in
       let g : getD (set (stateOf (w .state) .containers) (stateOf (w .state) .depth) c) (stateOf (w .state) .depth) noContainer ≡ c =
       getD-set-same (stateOf (w .state) .containers) (stateOf (w .state) .depth) c noContainer (omega arith) in
       let f : c .header < 2 ^ 32 = omega (arith, header-within (stateOf (w .state) .used) an, room, s .short) in

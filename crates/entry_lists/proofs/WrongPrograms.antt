@@ -12,13 +12,13 @@ use Rattle.encoding.specs.Argument.{argumentBytes}
 use Rattle.annotations.specs.Sids.{sidsUpTo, sidsOf}
 use Rattle.machine.specs.Machine.{splice, containersFit, fits, verdict, startVerdict}
 use Rattle.machine.specs.Numbers.{run}
-use Rattle.state_bytes.specs.StateBytes.{four, stateOf, containersFrom, storedHead, entered}
+use Rattle.state_bytes.specs.StateBytes.{stateSize, four, stateOf, containersFrom, storedHead, entered}
 use Rattle.entry_numbers.specs.EntryCall.{gmWriteBool}
 use Rattle.goatminute.specs.Entries.{startEntered}
 use Rattle.entry_lists.specs.Demands.{Lent, answer, lentAfter, lentStarted}
 
 abbrev started : Lent
-started = lentStarted (replicate 296 7) (replicate 8 9)
+started = lentStarted (replicate stateSize 7) (replicate 8 9)
 
 abbrev once : Lent
 once = lentAfter (gmWriteBool [] 1) started

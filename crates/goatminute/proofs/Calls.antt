@@ -15,14 +15,14 @@ use Rattle.machine.specs.declared.State.{State}
 use Rattle.machine.specs.declared.Container.{Container}
 use Rattle.machine.specs.declared.Refusal.the-variants.{NoRoom}
 use Rattle.machine.specs.Call.{Call, ContainerType, opening, closing, abandonment, emptying}
-use Rattle.machine.specs.Machine.{noContainer, openContainers, isOpen, inStruct, lacksName, reserve, containerCode, put, atEnd, effect}
+use Rattle.machine.specs.Machine.{mostOpen, noContainer, openContainers, isOpen, inStruct, lacksName, reserve, containerCode, put, atEnd, effect}
 use Rattle.machine.specs.Machine.{placeLines, checks, accepted, refused, firstFailing, isAccepted, outer}
 use Rattle.machine.specs.Numbers.{Outcome, run}
 use Rattle.containers.specs.Containers.{closedOn, abandonedOn}
 use Rattle.writer.proofs.Run.{outcome, config, run-accepted, past-place, placed-some, end-run}
 use Rattle.machine.specs.Machine.{placeVerdict}
 use Rattle.writer.proofs.Containers.{accepted-fits, accepted-placed, opened-not, either-not, some-open, innermost, reserve-least, openedState, opening-refused, opening-accepted, opening-deep, closing-refused, closing-accepted, abandonment-run}
-use Rattle.state_bytes.specs.StateBytes.{stateOf, storedHead, storedContainer, storedState, storedBy, enteredBy, entered}
+use Rattle.state_bytes.specs.StateBytes.{stateSize, stateOf, storedHead, storedContainer, storedState, storedBy, enteredBy, entered}
 use Rattle.state_bytes.proofs.Laws.{state-is, state-none, length-containers, outer-step}
 use Rattle.goatminute.specs.Entries.{enteredAs}
 use Rattle.goatminute.proofs.Entered.{accepted-is, entered-run, entered-ended}
@@ -49,15 +49,15 @@ roomLine c st b = (ltb (length b) (effect c (config (stateOf st) b) .state .used
 
 -- ---- an opening
 
-containers-length : (st : List ℕ) → length (stateOf st .containers) ≡ 32
+containers-length : (st : List ℕ) → length (stateOf st .containers) ≡ mostOpen
 containers-length st =
-    by-cases (eqb (length st) 296)
-    (λ p. rw (state-is st (eqb-true (length st) 296 p)) (length-containers st 0 32))
-    (λ p. rw (state-none st (eqb-false (length st) 296 p)))
+    by-cases (eqb (length st) stateSize)
+    (λ p. rw (state-is st (eqb-true (length st) stateSize p)) (length-containers st 0 mostOpen))
+    (λ p. rw (state-none st (eqb-false (length st) stateSize p)))
 
 module _ (an : List ℕ) (k : ContainerType) (st b : List ℕ) (t : isAccepted (placeVerdict (stateOf st) (length b) (lacksName (stateOf st))) ≡ true) where
   abbrev lines : List (Bool × ℕ)
-  lines = (leb 32 (stateOf st .depth), 4) ∷ (ltb (length b) (stateOf st .used + length (reserve an)), 10) ∷ []
+  lines = (leb mostOpen (stateOf st .depth), 4) ∷ (ltb (length b) (stateOf st .used + length (reserve an)), 10) ∷ []
 
   opening-run : (o : Outcome) → o ≡ run (opening an k) (stateOf st) b → enteredBy (opening an k) st o ≡ entered (opening an k) st b
   opening-run o r = entered-run (opening an k) st b o r
@@ -65,11 +65,11 @@ module _ (an : List ℕ) (k : ContainerType) (st b : List ℕ) (t : isAccepted (
   past : firstFailing (checks (opening an k) (config (stateOf st) b)) ≡ firstFailing lines
   past = past-place (opening an k) (stateOf st) b (lacksName (stateOf st)) lines refl (accepted-is _ t)
 
-  pub open-deep : 32 ≤ stateOf st .depth → enteredAs 4 st b ≡ entered (opening an k) st b
+  pub open-deep : mostOpen ≤ stateOf st .depth → enteredAs 4 st b ≡ entered (opening an k) st b
   open-deep h = opening-run (outcome (refused 4) (stateOf st) b) (opening-deep an k (stateOf st) b past h)
 
   -- n is how many bytes were reserved, l the buffer after it
-  module _ (d : stateOf st .depth < 32) (n : ℕ) (l : List ℕ) (e : _≡_ {A = ℕ × List ℕ} (n, l) (placed b (stateOf st .used) (reserve an))) where
+  module _ (d : stateOf st .depth < mostOpen) (n : ℕ) (l : List ℕ) (e : _≡_ {A = ℕ × List ℕ} (n, l) (placed b (stateOf st .used) (reserve an))) where
     pub open-full : n ≡ 0 → enteredAs 10 st l ≡ entered (opening an k) st b
     open-full z = opening-run (outcome (refused 10) (stateOf st) l) (opening-refused an k (stateOf st) b n l e past d z)
 

@@ -12,7 +12,8 @@ use Rattle.buffer.specs.Laid.{laid}
 use Rattle.buffer.proofs.Laid.{laid-is}
 use Rattle.machine.specs.Numbers.{Outcome}
 use Rattle.writer.specs.Start.{startRun}
-use Rattle.state_bytes.specs.StateBytes.{storedHead, numberOf}
+use Rattle.state_bytes.specs.StateBytes.{stateSize, storedHead, numberOf}
+use Rattle.machine.specs.Machine.{longestBuffer}
 use Rattle.goatminute.specs.Entries.{enteredAs, emptyBytes, startEntered}
 
 -- zeros over all of a slice
@@ -21,23 +22,23 @@ laid-over b =
     let n : length {A = ℕ} (replicate (length b) 0) ≡ length b = length-replicate {A = ℕ} (length b) 0 in
     laid-is b 0 (replicate (length b) 0) ∙ rw (zero-add, n, drop-length b) (append-nil (replicate (length b) 0))
 
-pub start-short-long : (st b : List ℕ) → (length st ≡ 296 → ⊥) → 16777215 < length b → enteredAs 1 st b ≡ startEntered st b
+pub start-short-long : (st b : List ℕ) → (length st ≡ stateSize → ⊥) → longestBuffer < length b → enteredAs 1 st b ≡ startEntered st b
 unfolding startEntered
-start-short-long st b h k = rw (ne-eqb (length st) 296 h, lt-ltb 16777215 (length b) k, startEntered)
+start-short-long st b h k = rw (ne-eqb (length st) stateSize h, lt-ltb longestBuffer (length b) k, startEntered)
 
-pub start-short : (st b : List ℕ) → (length st ≡ 296 → ⊥) → length b ≤ 16777215 → enteredAs 2 st b ≡ startEntered st b
+pub start-short : (st b : List ℕ) → (length st ≡ stateSize → ⊥) → length b ≤ longestBuffer → enteredAs 2 st b ≡ startEntered st b
 unfolding startEntered
-start-short st b h k = rw (ne-eqb (length st) 296 h, le-ltb 16777215 (length b) k, startEntered)
+start-short st b h k = rw (ne-eqb (length st) stateSize h, le-ltb longestBuffer (length b) k, startEntered)
 
 -- o is what the machine's start answers and leaves
-pub start-entry : (st b : List ℕ) → length st ≡ 296 → (o : Outcome) → o ≡ startRun b → enteredAs (numberOf (o .verdict)) (emptyBytes (o .state .used)) (o .buffer) ≡ startEntered st b
+pub start-entry : (st b : List ℕ) → length st ≡ stateSize → (o : Outcome) → o ≡ startRun b → enteredAs (numberOf (o .verdict)) (emptyBytes (o .state .used)) (o .buffer) ≡ startEntered st b
 unfolding startEntered startRun
-start-entry st b h o r = ap (λ (x : Outcome). enteredAs (numberOf (x .verdict)) (emptyBytes (x .state .used)) (x .buffer)) r ∙ rw (eq-eqb (length st) 296 h, startEntered)
+start-entry st b h o r = ap (λ (x : Outcome). enteredAs (numberOf (x .verdict)) (emptyBytes (x .state .used)) (x .buffer)) r ∙ rw (eq-eqb (length st) stateSize h, startEntered)
 
 -- the state slice: zeros, then the used length
-pub cleared : (l st : List ℕ) → length st ≡ 296 → l ≡ replicate (length st) 0 → l ≡ emptyBytes 0
+pub cleared : (l st : List ℕ) → length st ≡ stateSize → l ≡ replicate (length st) 0 → l ≡ emptyBytes 0
 cleared l st h e = e ∙ ap (λ (n : ℕ). replicate n 0) h
 
-pub begun : (l m st : List ℕ) (n : ℕ) → length st ≡ 296 → l ≡ replicate (length st) 0 → m ≡ storedHead n 0 false l → m ≡ emptyBytes n
+pub begun : (l m st : List ℕ) (n : ℕ) → length st ≡ stateSize → l ≡ replicate (length st) 0 → m ≡ storedHead n 0 false l → m ≡ emptyBytes n
 unfolding storedHead
-begun l m st n h e q = q ∙ ap (storedHead n 0 false) (e ∙ ap (λ (k : ℕ). replicate k 0) h) ∙ laid-is (replicate 296 0) 0 _
+begun l m st n h e q = q ∙ ap (storedHead n 0 false) (e ∙ ap (λ (k : ℕ). replicate k 0) h) ∙ laid-is (replicate stateSize 0) 0 _

@@ -12,7 +12,7 @@ use borrow.Author.Tests.{leb-true, eqb-true, le-leb, lt-leb, eq-eqb}
 use Rattle.ion.proofs.Tests.{by-cases, both}
 use Rattle.machine.specs.declared.Container.{Container}
 use Rattle.machine.specs.declared.State.{State}
-use Rattle.machine.specs.Machine.{noContainer, innermostFirst, openContainers, isOpen, inStruct, containerFits, containersFit, fits}
+use Rattle.machine.specs.Machine.{mostOpen, noContainer, innermostFirst, openContainers, isOpen, inStruct, containerFits, containersFit, fits}
 
 -- ---- tests
 
@@ -57,9 +57,9 @@ pub fits-used : (s : State) (room : ℕ) → fits s room ≡ true → s .used �
 unfolding fits
 fits-used s room e = leb-true (s .used) room (both {a = leb (s .used) room} e .0)
 
-pub fits-depth : (s : State) (room : ℕ) → fits s room ≡ true → s .depth ≤ 32
+pub fits-depth : (s : State) (room : ℕ) → fits s room ≡ true → s .depth ≤ mostOpen
 unfolding fits
-fits-depth s room e = leb-true (s .depth) 32 (both {a = leb (s .depth) 32} (both {a = leb (s .used) room} e .1) .0)
+fits-depth s room e = leb-true (s .depth) mostOpen (both {a = leb (s .depth) mostOpen} (both {a = leb (s .used) room} e .1) .0)
 
 -- the code asks for the opposite of the last line
 names-fit : (waiting struct : Bool) → (not waiting || struct) ≡ not (waiting && not struct)
@@ -71,18 +71,18 @@ pub fits-overused : (s : State) (room : ℕ) → room < s .used → false ≡ fi
 unfolding fits
 fits-overused s room h = rw (lt-leb (s .used) room h)
 
-pub fits-overopen : (s : State) (room : ℕ) → s .used ≤ room → 32 < s .depth → false ≡ fits s room
+pub fits-overopen : (s : State) (room : ℕ) → s .used ≤ room → mostOpen < s .depth → false ≡ fits s room
 unfolding fits
-fits-overopen s room h d = rw (le-leb (s .used) room h, lt-leb (s .depth) 32 d)
+fits-overopen s room h d = rw (le-leb (s .used) room h, lt-leb (s .depth) mostOpen d)
 
-pub fits-nameless : (s : State) (room : ℕ) → s .used ≤ room → s .depth ≤ 32 → (s .waiting && not (inStruct (openContainers s))) ≡ true → false ≡ fits s room
+pub fits-nameless : (s : State) (room : ℕ) → s .used ≤ room → s .depth ≤ mostOpen → (s .waiting && not (inStruct (openContainers s))) ≡ true → false ≡ fits s room
 unfolding fits
-fits-nameless s room h d n = rw (le-leb (s .used) room h, le-leb (s .depth) 32 d, names-fit (s .waiting) (inStruct (openContainers s)), n) (sym (and-false (containersFit (s .used) (openContainers s))))
+fits-nameless s room h d n = rw (le-leb (s .used) room h, le-leb (s .depth) mostOpen d, names-fit (s .waiting) (inStruct (openContainers s)), n) (sym (and-false (containersFit (s .used) (openContainers s))))
 
 -- what is left is whether the containers fit
-pub fits-containers : (s : State) (room : ℕ) → s .used ≤ room → s .depth ≤ 32 → (s .waiting && not (inStruct (openContainers s))) ≡ false → fits s room ≡ containersFit (s .used) (openContainers s)
+pub fits-containers : (s : State) (room : ℕ) → s .used ≤ room → s .depth ≤ mostOpen → (s .waiting && not (inStruct (openContainers s))) ≡ false → fits s room ≡ containersFit (s .used) (openContainers s)
 unfolding fits
-fits-containers s room h d n = rw (le-leb (s .used) room h, le-leb (s .depth) 32 d, names-fit (s .waiting) (inStruct (openContainers s)), n) (and-true (containersFit (s .used) (openContainers s)))
+fits-containers s room h d n = rw (le-leb (s .used) room h, le-leb (s .depth) mostOpen d, names-fit (s .waiting) (inStruct (openContainers s)), n) (and-true (containersFit (s .used) (openContainers s)))
 
 -- ---- the containers, from the innermost outwards
 

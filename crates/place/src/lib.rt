@@ -4,22 +4,17 @@ ghost use mathlib.Core.Path.{_≡_};
 ghost use mathlib.Core.Bool.{Bool, true, not, _||_};
 ghost use Prim.Native.Nat.{_≤_};
 ghost use Rattle.machine.specs.declared.State.{State};
-ghost use Rattle.machine.specs.Machine.{openContainers, isOpen, inStruct, containerFits, fits, lacksName, placeVerdict};
+ghost use Rattle.machine.specs.Machine.{mostOpen, openContainers, isOpen, inStruct, containerFits, fits, lacksName, placeVerdict};
 ghost use Rattle.machine.specs.Numbers.{verdictOf};
 use machine::Answer;
 use machine::Container;
+use machine::LIST;
+use machine::LONGEST_BUFFER;
+use machine::MOST_OPEN;
 use machine::Refusal;
+use machine::SEXP;
+use machine::STRUCT;
 use machine::State;
-
-const LONGEST_BUFFER: usize = 16_777_215;
-
-const MOST_OPEN: usize = 32;
-
-const LIST: u8 = 0xB0;
-
-const SEXP: u8 = 0xC0;
-
-const STRUCT: u8 = 0xD0;
 
 // A container by itself, with what follows it starting at `limit`. Differences are tested, so that no sum wraps.
 pub fn container_fits(c: Container, limit: usize) -> bool
@@ -43,7 +38,7 @@ pub fn container_fits(c: Container, limit: usize) -> bool
 
 // Whether the innermost container is a struct; of a state with too many containers it says nothing.
 fn in_struct(s: State) -> bool
-    ensures { λ r. ⌜ (s .depth ≤ 32 → r ≡ inStruct (openContainers s)) ⌝ }
+    ensures { λ r. ⌜ (s .depth ≤ mostOpen → r ≡ inStruct (openContainers s)) ⌝ }
 {
     let depth = s.depth;
     if depth == 0 {

@@ -15,22 +15,22 @@ use Rattle.buffer.specs.Laid.{laid}
 use Rattle.buffer.proofs.Laid.{laid-one, laid-snoc, laid-more}
 use Rattle.machine.specs.declared.Container.{Container}
 use Rattle.machine.specs.declared.State.{State}
-use Rattle.machine.specs.Machine.{noContainer, innermostFirst, openContainers, inStruct, outer, containersFit, fits, placeVerdict, isAccepted}
+use Rattle.machine.specs.Machine.{mostOpen, longestBuffer, noContainer, innermostFirst, openContainers, inStruct, outer, containersFit, fits, placeVerdict, isAccepted}
 use Rattle.place.proofs.Laws.{innermost-step, innermost-none, fits-overused, fits-overopen}
-use Rattle.state_bytes.specs.StateBytes.{four, placeOf, containerAt, containersFrom, unfitState, stateOf, fourBytes, flag, storedHead, storedContainer}
+use Rattle.state_bytes.specs.StateBytes.{headSize, recordSize, stateSize, four, placeOf, containerAt, containersFrom, unfitState, stateOf, fourBytes, flag, storedHead, storedContainer}
 
 -- ---- the state
 
 abbrev pub spelled : List ℕ → State
-spelled b = record { used = four b 0; depth = getD b 4 0; waiting = not (eqb (getD b 5 0) 0); containers = containersFrom b 0 32 }
+spelled b = record { used = four b 0; depth = getD b 4 0; waiting = not (eqb (getD b 5 0) 0); containers = containersFrom b 0 mostOpen }
 
-pub state-is : (b : List ℕ) → length b ≡ 296 → stateOf b ≡ spelled b
+pub state-is : (b : List ℕ) → length b ≡ stateSize → stateOf b ≡ spelled b
 unfolding stateOf
-state-is b h = rw (eq-eqb (length b) 296 h, stateOf)
+state-is b h = rw (eq-eqb (length b) stateSize h, stateOf)
 
-pub state-none : (b : List ℕ) → (length b ≡ 296 → ⊥) → stateOf b ≡ unfitState
+pub state-none : (b : List ℕ) → (length b ≡ stateSize → ⊥) → stateOf b ≡ unfitState
 unfolding stateOf
-state-none b h = rw (ne-eqb (length b) 296 h, stateOf)
+state-none b h = rw (ne-eqb (length b) stateSize h, stateOf)
 
 container-of : (b : List ℕ) (i n j : ℕ) → j < n → getD (containersFrom b i n) j noContainer ≡ containerAt b (placeOf (i + j))
 unfolding containersFrom
@@ -41,24 +41,24 @@ container-of b i zero j h = absurd (none j h)
 container-of b i (suc n) zero h = rw (add-zero i)
 container-of b i (suc n) (suc j) h = container-of b (suc i) n j (omega arith) ∙ rw (add-suc i j, suc-add i j)
 
-pub container-is : (b : List ℕ) (j : ℕ) → j < 32 → getD (containersFrom b 0 32) j noContainer ≡ containerAt b (placeOf j)
-container-is b j h = container-of b 0 32 j h ∙ rw (zero-add j)
+pub container-is : (b : List ℕ) (j : ℕ) → j < mostOpen → getD (containersFrom b 0 mostOpen) j noContainer ≡ containerAt b (placeOf j)
+container-is b j h = container-of b 0 mostOpen j h ∙ rw (zero-add j)
 
 pub length-containers : (b : List ℕ) (i n : ℕ) → length (containersFrom b i n) ≡ n
 unfolding containersFrom
 length-containers b i zero = refl
 length-containers b i (suc n) = ap suc (length-containers b (suc i) n)
 
-pub container-past : (b : List ℕ) (j : ℕ) → 32 ≤ j → noContainer ≡ getD (containersFrom b 0 32) j noContainer
-container-past b j h = sym (List·getD-eq-default (containersFrom b 0 32) noContainer (omega (arith, length-containers b 0 32)))
+pub container-past : (b : List ℕ) (j : ℕ) → mostOpen ≤ j → noContainer ≡ getD (containersFrom b 0 mostOpen) j noContainer
+container-past b j h = sym (List·getD-eq-default (containersFrom b 0 mostOpen) noContainer (omega (arith, length-containers b 0 mostOpen)))
 
 -- the container that is read before the place i
-pub container-at : (b : List ℕ) (i : ℕ) (c : Container) → length b ≡ 296 → 0 < i → i ≤ 32 → c ≡ containerAt b (placeOf (i - 1)) → c ≡ getD (stateOf b .containers) (i - 1) noContainer
+pub container-at : (b : List ℕ) (i : ℕ) (c : Container) → length b ≡ stateSize → 0 < i → i ≤ mostOpen → c ≡ containerAt b (placeOf (i - 1)) → c ≡ getD (stateOf b .containers) (i - 1) noContainer
 container-at b i c h p q e = e ∙ (rw (state-is b h) (sym (container-is b (i - 1) (omega arith))))
 
 -- each container of the state that does not fit is one of zeros
 pub container-unfit : (j : ℕ) → noContainer ≡ getD (unfitState .containers) j noContainer
-container-unfit j = of-zeros 32 j
+container-unfit j = of-zeros mostOpen j
   where
     of-zeros : (n k : ℕ) → noContainer ≡ getD (replicate n noContainer) k noContainer
     of-zeros zero k = refl
@@ -74,13 +74,13 @@ pub inStruct-none : (l : List Container) (n : ℕ) → n ≤ 0 → false ≡ inS
 inStruct-none l n h = rw (innermost-none l n h)
 
 -- the code of the container below d; at 0 the byte there belongs to none
-pub struct-below : (b : List ℕ) (d : ℕ) → length b ≡ 296 → d ≤ 32 → (not (eqb d 0) && eqb (getD b (7 + 9 * d) 0) 0xD0) ≡ inStruct (innermostFirst (stateOf b .containers) d)
+pub struct-below : (b : List ℕ) (d : ℕ) → length b ≡ stateSize → d ≤ mostOpen → (not (eqb d 0) && eqb (getD b (headSize + recordSize * d - 1) 0) 0xD0) ≡ inStruct (innermostFirst (stateOf b .containers) d)
 struct-below b d h k =
     by-cases (eqb d 0)
     (λ p. rw p (inStruct-none (stateOf b .containers) d (omega (arith, eqb-true d 0 p))))
     (λ p.
     let q : 0 < d = positive (eqb-false d 0 p) in
-    let e : 7 + 9 * d ≡ placeOf (d - 1) + 8 = omega arith in
+    let e : headSize + recordSize * d - 1 ≡ placeOf (d - 1) + 8 = omega arith in
     rw (p, e) (sym (ap (λ (c : Container). eqb (c .code) 0xD0) (ap (λ (s : State). getD (s .containers) (d - 1) noContainer) (state-is b h) ∙ container-is b (d - 1) (omega arith))) ∙ inStruct-step (stateOf b .containers) d q))
   where
     positive : (d ≡ 0 → ⊥) → 0 < d
@@ -95,12 +95,12 @@ outer-none l n h = rw (innermost-none l n h)
 -- ---- whether it fits
 
 -- a slice of another length
-pub unfit : (b : List ℕ) (room : ℕ) → (length b ≡ 296 → ⊥) → false ≡ fits (stateOf b) room
+pub unfit : (b : List ℕ) (room : ℕ) → (length b ≡ stateSize → ⊥) → false ≡ fits (stateOf b) room
 unfit b room h = rw (state-none b h) (fits-overopen unfitState room (omega arith) (omega arith))
 
 -- what can be read has the right length
-pub readable-size : (b : List ℕ) → leb (stateOf b .depth) 32 ≡ true → length b ≡ 296
-readable-size b e = by-cases (eqb (length b) 296) (λ p. eqb-true (length b) 296 p) (λ p. absurd (false≢true (rw (state-none b (eqb-false (length b) 296 p)) at e)))
+pub readable-size : (b : List ℕ) → leb (stateOf b .depth) mostOpen ≡ true → length b ≡ stateSize
+readable-size b e = by-cases (eqb (length b) stateSize) (λ p. eqb-true (length b) stateSize p) (λ p. absurd (false≢true (rw (state-none b (eqb-false (length b) stateSize p)) at e)))
 
 -- a header that is the start or lies four beyond it
 pub apart : (header start : ℕ) → (not (eqb header start) && ltb header (start + 4)) ≡ false → (eqb header start || leb (start + 4) header) ≡ true
@@ -124,30 +124,30 @@ pub laid-four : (b : List ℕ) (at v w x y : ℕ) → at + 4 ≤ length b → se
 laid-four b at v w x y h =
     rw (laid-one b at v (omega arith), laid-snoc b at (v ∷ []) (at + 1) w refl (omega arith), laid-snoc b at (v ∷ w ∷ []) (at + 2) x refl (omega arith), laid-snoc b at (v ∷ w ∷ x ∷ []) (at + 3) y refl (omega arith))
 
-pub stored-head : (b l m n : List ℕ) (used depth f : ℕ) (waiting : Bool) → length b ≡ 296 → l ≡ laid b 0 (fourBytes used) → m ≡ laid l 4 (depth % 256 ∷ []) → n ≡ laid m 5 (f ∷ []) → f ≡ flag waiting → n ≡ storedHead used depth waiting b
+pub stored-head : (b l m n : List ℕ) (used depth f : ℕ) (waiting : Bool) → length b ≡ stateSize → l ≡ laid b 0 (fourBytes used) → m ≡ laid l 4 (depth % 256 ∷ []) → n ≡ laid m 5 (f ∷ []) → f ≡ flag waiting → n ≡ storedHead used depth waiting b
 unfolding storedHead
 stored-head b l m n used depth f waiting h p q r e =
     let a : m ≡ laid b 0 (fourBytes used ++ (depth % 256 ∷ [])) = q ∙ ap (λ (x : List ℕ). laid x 4 (depth % 256 ∷ [])) p ∙ laid-more b 0 (fourBytes used) (omega arith) (depth % 256 ∷ []) in
-    rw (eq-eqb (length b) 296 h, storedHead, ← e) (r ∙ ap (λ (x : List ℕ). laid x 5 (f ∷ [])) a ∙ laid-more b 0 (fourBytes used ++ (depth % 256 ∷ [])) (omega arith) (f ∷ []))
+    rw (eq-eqb (length b) stateSize h, storedHead, ← e) (r ∙ ap (λ (x : List ℕ). laid x 5 (f ∷ [])) a ∙ laid-more b 0 (fourBytes used ++ (depth % 256 ∷ [])) (omega arith) (f ∷ []))
 
-pub stored-container : (b l m n : List ℕ) (i : ℕ) (c : Container) → length b ≡ 296 → i < 32 → l ≡ laid b (placeOf i) (fourBytes (c .start)) → m ≡ laid l (placeOf i + 4) (fourBytes (c .header)) → n ≡ laid m (placeOf i + 8) (c .code ∷ []) → n ≡ storedContainer i c b
+pub stored-container : (b l m n : List ℕ) (i : ℕ) (c : Container) → length b ≡ stateSize → i < mostOpen → l ≡ laid b (placeOf i) (fourBytes (c .start)) → m ≡ laid l (placeOf i + 4) (fourBytes (c .header)) → n ≡ laid m (placeOf i + 8) (c .code ∷ []) → n ≡ storedContainer i c b
 unfolding storedContainer
 stored-container b l m n i c h k p q r =
     let a : m ≡ laid b (placeOf i) (fourBytes (c .start) ++ fourBytes (c .header)) = q ∙ ap (λ (x : List ℕ). laid x (placeOf i + 4) (fourBytes (c .header))) p ∙ laid-more b (placeOf i) (fourBytes (c .start)) (omega arith) (fourBytes (c .header)) in
-    rw (eq-eqb (length b) 296 h, lt-ltb i 32 k, storedContainer)
+    rw (eq-eqb (length b) stateSize h, lt-ltb i mostOpen k, storedContainer)
     (r ∙ ap (λ (x : List ℕ). laid x (placeOf i + 8) (c .code ∷ [])) a ∙ laid-more b (placeOf i) (fourBytes (c .start) ++ fourBytes (c .header)) (omega arith) (c .code ∷ []))
 
-pub unstored-head : (b : List ℕ) (used depth : ℕ) (waiting : Bool) → (length b ≡ 296 → ⊥) → b ≡ storedHead used depth waiting b
+pub unstored-head : (b : List ℕ) (used depth : ℕ) (waiting : Bool) → (length b ≡ stateSize → ⊥) → b ≡ storedHead used depth waiting b
 unfolding storedHead
-unstored-head b used depth waiting h = rw (ne-eqb (length b) 296 h, storedHead)
+unstored-head b used depth waiting h = rw (ne-eqb (length b) stateSize h, storedHead)
 
-pub unstored-short : (b : List ℕ) (i : ℕ) (c : Container) → (length b ≡ 296 → ⊥) → b ≡ storedContainer i c b
+pub unstored-short : (b : List ℕ) (i : ℕ) (c : Container) → (length b ≡ stateSize → ⊥) → b ≡ storedContainer i c b
 unfolding storedContainer
-unstored-short b i c h = rw (ne-eqb (length b) 296 h, storedContainer)
+unstored-short b i c h = rw (ne-eqb (length b) stateSize h, storedContainer)
 
-pub unstored-past : (b : List ℕ) (i : ℕ) (c : Container) → length b ≡ 296 → 32 ≤ i → b ≡ storedContainer i c b
+pub unstored-past : (b : List ℕ) (i : ℕ) (c : Container) → length b ≡ stateSize → mostOpen ≤ i → b ≡ storedContainer i c b
 unfolding storedContainer
-unstored-past b i c h k = rw (eq-eqb (length b) 296 h, le-ltb i 32 k, storedContainer)
+unstored-past b i c h k = rw (eq-eqb (length b) stateSize h, le-ltb i mostOpen k, storedContainer)
 
 -- ---- whether no line fails
 
@@ -158,31 +158,31 @@ tests true true true m = sym (and-true (not m))
 tests true true false m = refl
 
 module _ (s : State) (room : ℕ) (m : Bool) where
-  accepted-is : isAccepted (placeVerdict s room m) ≡ (leb room 16777215 && (fits s room && not m))
+  accepted-is : isAccepted (placeVerdict s room m) ≡ (leb room longestBuffer && (fits s room && not m))
   unfolding placeVerdict
   accepted-is =
-      by-cases (leb room 16777215)
-      (λ p. rw (p, le-ltb 16777215 room (leb-true room 16777215 p)) (by-cases (fits s room) (λ f. rw f (by-cases m (λ q. rw q) (λ q. rw q))) (λ f. rw f)))
-      (λ p. rw (p, lt-ltb 16777215 room (leb-false room 16777215 p)))
+      by-cases (leb room longestBuffer)
+      (λ p. rw (p, le-ltb longestBuffer room (leb-true room longestBuffer p)) (by-cases (fits s room) (λ f. rw f (by-cases m (λ q. rw q) (λ q. rw q))) (λ f. rw f)))
+      (λ p. rw (p, lt-ltb longestBuffer room (leb-false room longestBuffer p)))
 
-  pub unreadable : leb (s .depth) 32 ≡ false → false ≡ isAccepted (placeVerdict s room m)
-  unreadable d = sym (accepted-is ∙ rw (overopen, and-false (leb room 16777215)))
+  pub unreadable : leb (s .depth) mostOpen ≡ false → false ≡ isAccepted (placeVerdict s room m)
+  unreadable d = sym (accepted-is ∙ rw (overopen, and-false (leb room longestBuffer)))
     where
       overopen : fits s room ≡ false
       overopen =
           by-cases (leb (s .used) room)
-          (λ u. sym (fits-overopen s room (leb-true (s .used) room u) (leb-false (s .depth) 32 d)))
+          (λ u. sym (fits-overopen s room (leb-true (s .used) room u) (leb-false (s .depth) mostOpen d)))
           (λ u. sym (fits-overused s room (leb-false (s .used) room u)))
 
   -- of a state with no more containers than fit: the lines in the order in which they are asked
-  pub passes-is : leb (s .depth) 32 ≡ true
+  pub passes-is : leb (s .depth) mostOpen ≡ true
       → isAccepted (placeVerdict s room m)
-      ≡ (leb room 16777215 && (leb (s .used) room && (not ((s .waiting && not (inStruct (openContainers s))) || m) && containersFit (s .used) (openContainers s))))
+      ≡ (leb room longestBuffer && (leb (s .used) room && (not ((s .waiting && not (inStruct (openContainers s))) || m) && containersFit (s .used) (openContainers s))))
   unfolding fits
   passes-is h =
       accepted-is
       ∙ rw h
-      (ap (λ (x : Bool). leb room 16777215 && x)
+      (ap (λ (x : Bool). leb room longestBuffer && x)
       (by-cases (leb (s .used) room)
       (λ u. rw u (tests (containersFit (s .used) (openContainers s)) (s .waiting) (inStruct (openContainers s)) m))
       (λ u. rw u)))

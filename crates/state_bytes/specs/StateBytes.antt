@@ -1,29 +1,34 @@
--- A writer's state as 296 lent bytes: used in four bytes, least significant first; how many containers are open; whether a name waits, zero for no;
--- two bytes that mean nothing; and 32 containers of nine bytes: start and header in four bytes each, least significant first, and the type code.
+-- A writer's state as lent bytes. The head: used in four bytes, least significant first; how many containers are open; whether a name waits, zero for no;
+-- two bytes that mean nothing. Then a record of each container: start and header in four bytes each, least significant first, and the type code.
 -- Assumes nothing.
 use Prim.Native.Nat.{ℕ, zero, suc, _+_, _-_, _*_, _/_, _%_}
 use mathlib.Core.Bool.{Bool, true, false, not, _&&_}
 use mathlib.Core.List.{List, [], _∷_, _++_}
 use lib.Dec.{ltb, eqb}
 use lib.ListN.{length, getD, replicate}
-use Rattle.buffer.specs.Laid.{laid}
+use Rattle.buffer.specs.Laid.{laid, placed}
 use Rattle.machine.specs.declared.State.{State}
 use Rattle.machine.specs.declared.Container.{Container}
 use Rattle.machine.specs.Call.{Call, write, name, opening, closing, abandonment, versionMarker, taking, emptying}
-use Rattle.machine.specs.Machine.{noContainer, Verdict, accepted, refused}
-use Rattle.machine.specs.Numbers.{Outcome, run}
+use Rattle.machine.specs.Machine.{config, mostOpen, noContainer, Figures, Verdict, accepted, refused, Outcome, run}
+
+abbrev pub headSize : ℕ
+headSize = 8
+
+abbrev pub recordSize : ℕ
+recordSize = 9
 
 abbrev pub stateSize : ℕ
-stateSize = 296
+stateSize = headSize + recordSize * mostOpen
 
 -- ---- the state that bytes spell
 
 abbrev pub four : List ℕ → ℕ → ℕ
 four b at = getD b at 0 + 256 * getD b (at + 1) 0 + 65536 * getD b (at + 2) 0 + 16777216 * getD b (at + 3) 0
 
--- where the container i lies
+-- where the record of the container i lies
 abbrev pub placeOf : ℕ → ℕ
-placeOf i = 8 + 9 * i
+placeOf i = headSize + recordSize * i
 
 abbrev pub containerAt : List ℕ → ℕ → Container
 containerAt b at = record { start = four b at; header = four b (at + 4); code = getD b (at + 8) 0 }
@@ -35,13 +40,13 @@ containersFrom b i (suc n) = containerAt b (placeOf i) ∷ containersFrom b (suc
 
 -- more containers than a state that fits can have
 abbrev pub unfitState : State
-unfitState = record { used = 0; depth = 33; waiting = false; containers = replicate 32 noContainer }
+unfitState = record { used = 0; depth = mostOpen + 1; waiting = false; containers = replicate mostOpen noContainer }
 
 -- a slice of another length spells a state that does not fit
 unfoldable pub stateOf : List ℕ → State
 stateOf b =
     elim (eqb (length b) stateSize) [
-      | true ↦ record { used = four b 0; depth = getD b 4 0; waiting = not (eqb (getD b 5 0) 0); containers = containersFrom b 0 32 }
+      | true ↦ record { used = four b 0; depth = getD b 4 0; waiting = not (eqb (getD b 5 0) 0); containers = containersFrom b 0 mostOpen }
       | false ↦ unfitState
     ]
 
@@ -66,7 +71,7 @@ storedHead used depth waiting b = elim (eqb (length b) stateSize) [ true ↦ lai
 
 -- the container i stored
 unfoldable pub storedContainer : ℕ → Container → List ℕ → List ℕ
-storedContainer i c b = elim (eqb (length b) stateSize && ltb i 32) [ true ↦ laid b (placeOf i) (containerBytes c) | false ↦ b ]
+storedContainer i c b = elim (eqb (length b) stateSize && ltb i mostOpen) [ true ↦ laid b (placeOf i) (containerBytes c) | false ↦ b ]
 
 -- ---- a call over lent bytes
 
@@ -100,7 +105,24 @@ pub record Entered : Type 0 where
   pub buffer : List ℕ
 
 abbrev pub enteredBy : Call → List ℕ → Outcome → Entered
-enteredBy c st o = record { number = numberOf (o .verdict); state = storedIf (o .verdict) c (o .state) st; buffer = o .buffer }
+enteredBy c st o = record { number = numberOf (o .verdict); state = storedIf (o .verdict) c (o .config .state) st; buffer = o .config .buffer }
 
 unfoldable pub entered : Call → List ℕ → List ℕ → Entered
-entered c st b = enteredBy c st (run c (stateOf st) b)
+entered c st b = enteredBy c st (run c (config (stateOf st) b))
+
+-- ---- what a closing answers in a slice that is lent for it
+
+abbrev pub numbers : Figures → List ℕ
+numbers f = f .size ∷ []
+
+-- four bytes each, least significant first, one behind the other, as many of them as the slice holds whole
+unfoldable pub numbersLaid : ℕ → List ℕ → List ℕ → List ℕ
+numbersLaid at [] b = b
+numbersLaid at (n ∷ ns) b = numbersLaid (at + 4) ns (placed b at (fourBytes n) .1)
+
+abbrev pub answeredBy : Outcome → List ℕ → List ℕ
+answeredBy o b = elim (o .verdict) [ accepted ↦ numbersLaid 0 (numbers (o .figures)) b | refused n ↦ b ]
+
+-- a refused closing leaves the slice as it was
+unfoldable pub answered : List ℕ → List ℕ → List ℕ → List ℕ
+answered st b lent = answeredBy (run closing (config (stateOf st) b)) lent

@@ -6,27 +6,42 @@ ghost use Prim.Native.Nat.{_+_, _-_, _*_, _^_, _≤_, _<_};
 ghost use lib.Dec.{leb};
 ghost use lib.ListN.{length, getD};
 ghost use Rattle.buffer.specs.Laid.{laid};
-ghost use Rattle.machine.specs.Machine.{noContainer, innermostFirst, openContainers, isOpen, inStruct, outer, containerFits, containersFit};
+ghost use Rattle.machine.specs.Machine.{mostOpen, noContainer, innermostFirst, openContainers, isOpen, inStruct, outer, containerFits, containersFit};
 ghost use Rattle.machine.specs.Machine.{longestBuffer, fits, lacksName, placeVerdict, isAccepted, finishedLength};
 ghost use Rattle.machine.specs.Numbers.{verdictOf};
-ghost use Rattle.state_bytes.specs.StateBytes.{four, placeOf, containerAt, stateOf, fourBytes, storedHead, storedContainer};
+ghost use Rattle.state_bytes.specs.StateBytes.{stateSize, four, placeOf, containerAt, stateOf, fourBytes, storedHead, storedContainer, numbersLaid};
 use machine::Answer;
 use machine::Container;
+use machine::LIST;
+use machine::LONGEST_BUFFER;
+use machine::MOST_OPEN;
+use machine::SEXP;
+use machine::STRUCT;
 
-const STATE_SIZE: usize = 296;
+// The head, the record of a container, and the state whole.
+const HEAD_SIZE: usize = 8;
 
-const LONGEST_BUFFER: usize = 16_777_215;
+const RECORD_SIZE: usize = 9;
 
-const MOST_OPEN: usize = 32;
+pub const STATE_SIZE: usize = HEAD_SIZE + RECORD_SIZE * MOST_OPEN;
+
+// Behind `used`, in the head; behind the start, in a record.
+const DEPTH: usize = 4;
+
+const WAITING: usize = 5;
+
+const HEADER: usize = 4;
+
+const CODE: usize = 8;
+
+// From the code on to the record's end.
+const CODE_AND_AFTER: usize = RECORD_SIZE - CODE;
 
 // More containers than a state that fits can have.
-const UNFIT_DEPTH: usize = 33;
+const UNFIT_DEPTH: usize = MOST_OPEN + 1;
 
-const LIST: u8 = 0xB0;
-
-const SEXP: u8 = 0xC0;
-
-const STRUCT: u8 = 0xD0;
+// The bytes of a number that a closing answers.
+const NUMBER_SIZE: usize = 4;
 
 fn wide(x: u8) -> usize
     ensures { λ r. ⌜ (r ≡ x) × (r < 256) ⌝ }
@@ -42,14 +57,14 @@ fn get_four(st: &[u8], at: usize) -> usize
 }
 
 fn get_container(st: &[u8], i: usize) -> Container
-    requires { ⌜ (i < 32) × (length (now st) ≡ 296) ⌝ }
+    requires { ⌜ (i < mostOpen) × (length (now st) ≡ stateSize) ⌝ }
     ensures { λ r. ⌜ (r ≡ containerAt (now (st .entry)) (placeOf i)) × (r .start < 2 ^ 32) × (r .header < 2 ^ 32) ⌝ }
 {
-    let at = 8 + 9 * i;
+    let at = HEAD_SIZE + RECORD_SIZE * i;
     Container {
         start: get_four(st, at),
-        header: get_four(st, at + 4),
-        code: st[at + 8],
+        header: get_four(st, at + HEADER),
+        code: st[at + CODE],
     }
 }
 
@@ -70,7 +85,7 @@ pub fn depth(st: &[u8]) -> usize
     if st.len() != STATE_SIZE {
         return UNFIT_DEPTH;
     }
-    wide(st[4])
+    wide(st[DEPTH])
 }
 
 // Whether a name waits.
@@ -80,7 +95,7 @@ pub fn waiting(st: &[u8]) -> bool
     if st.len() != STATE_SIZE {
         return false;
     }
-    st[5] != 0
+    st[WAITING] != 0
 }
 
 // The container i of the array; one of zeros past its end.
@@ -145,7 +160,7 @@ fn container_fits(c: Container, limit: usize) -> bool
 
 // From the innermost container outwards: each has to end before the next begins.
 fn containers_fit(st: &[u8], used: usize, depth: usize) -> bool
-    requires { ⌜ (depth ≤ 32) × (length (now st) ≡ 296) ⌝ }
+    requires { ⌜ (depth ≤ mostOpen) × (length (now st) ≡ stateSize) ⌝ }
     ensures { λ r. ⌜ r ≡ containersFit used (innermostFirst (stateOf (now (st .entry)) .containers) depth) ⌝ }
 {
     let mut i = depth;
@@ -238,25 +253,25 @@ pub fn top_place(st: &[u8], room: usize) -> Answer
 
 // Whether the slice has the length of a state, and its depth is one that fits.
 fn readable(st: &[u8]) -> bool
-    ensures { λ r. ⌜ r ≡ leb (stateOf (now (st .entry)) .depth) 32 ⌝ }
+    ensures { λ r. ⌜ r ≡ leb (stateOf (now (st .entry)) .depth) mostOpen ⌝ }
 {
     if st.len() != STATE_SIZE {
         return false;
     }
-    wide(st[4]) <= MOST_OPEN
+    wide(st[DEPTH]) <= MOST_OPEN
 }
 
 // Whether the container below `depth` is a struct. At depth 0 the byte that is read belongs to none.
 fn innermost_is_struct(st: &[u8], depth: usize) -> bool
-    requires { ⌜ (depth ≤ 32) × (length (now st) ≡ 296) ⌝ }
+    requires { ⌜ (depth ≤ mostOpen) × (length (now st) ≡ stateSize) ⌝ }
     ensures { λ r. ⌜ r ≡ inStruct (innermostFirst (stateOf (now (st .entry)) .containers) depth) ⌝ }
 {
-    (depth != 0) & (st[7 + 9 * depth] == STRUCT)
+    (depth != 0) & (st[HEAD_SIZE + RECORD_SIZE * depth - CODE_AND_AFTER] == STRUCT)
 }
 
 // Whether no line fails; `barred` says that a name waits outside a struct or that line 3 fails.
 fn passes(st: &[u8], room: usize, depth: usize, barred: bool) -> bool
-    requires { ⌜ (depth ≤ 32) × (length (now st) ≡ 296) ⌝ }
+    requires { ⌜ (depth ≤ mostOpen) × (length (now st) ≡ stateSize) ⌝ }
     ensures { λ r. ⌜ r ≡ (leb room longestBuffer && (leb (stateOf (now (st .entry)) .used) room
         && (not barred && containersFit (stateOf (now (st .entry)) .used) (innermostFirst (stateOf (now (st .entry)) .containers) depth)))) ⌝ }
 {
@@ -382,8 +397,8 @@ pub fn store(st: &mut [u8], used: usize, depth: usize, waiting: bool)
         return;
     }
     put_four(st, 0, used);
-    put_one(st, 4, (depth % 256) as u8);
-    put_one(st, 5, waiting as u8);
+    put_one(st, DEPTH, (depth % 256) as u8);
+    put_one(st, WAITING, waiting as u8);
 }
 
 // The container i is stored.
@@ -396,8 +411,18 @@ pub fn store_container(st: &mut [u8], i: usize, c: Container)
     if MOST_OPEN <= i {
         return;
     }
-    let at = 8 + 9 * i;
+    let at = HEAD_SIZE + RECORD_SIZE * i;
     put_four(st, at, c.start);
-    put_four(st, at + 4, c.header);
-    put_one(st, at + 8, c.code);
+    put_four(st, at + HEADER, c.header);
+    put_one(st, at + CODE, c.code);
+}
+
+// The numbers that a closing answers, in a slice that is lent for them.
+pub fn answer(lent: &mut [u8], size: usize)
+    ensures { λ r. ⌜ now (lent .exit) ≡ numbersLaid 0 (size ∷ []) (now (lent .entry)) ⌝ }
+{
+    if lent.len() < NUMBER_SIZE {
+        return;
+    }
+    put_four(lent, 0, size);
 }

@@ -8,7 +8,7 @@ use lib.Dec.{leb}
 use borrow.Author.Tests.{not-true, not-false}
 use Rattle.annotations.specs.Sids.{sidsOf}
 use Rattle.machine.specs.Call.{opening}
-use Rattle.machine.specs.Machine.{lacksName}
+use Rattle.machine.specs.Machine.{mostOpen, lacksName}
 use Rattle.writer.specs.Kinds.{kindOf}
 use Rattle.state_bytes.specs.StateBytes.{stateOf}
 use Rattle.goatminute.proofs.Entered.{barred-entry}
@@ -30,7 +30,7 @@ same-length : tie.Need-same-length
 same-length c = search needs
 
 returns : tie.Need-returns
-returns c = barred-entry (opening (sidsOf (c .before .before .before .before .before .before .before .before .before .args .annotations .now)) (kindOf (c .before .before .before .before .before .before .before .before .before .args .kind))) (c .before .before .before .before .before .before .before .before .before .args .state .now) (c .before .before .before .before .before .before .before .before .before .args .buf .now) (lacksName (stateOf (c .before .before .before .before .before .before .before .before .before .args .state .now))) ((leb 32 ((stateOf (c .before .before .before .before .before .before .before .before .before .args .state .now)) .depth), 4) ∷ roomLine (opening (sidsOf (c .before .before .before .before .before .before .before .before .before .args .annotations .now)) (kindOf (c .before .before .before .before .before .before .before .before .before .args .kind))) (c .before .before .before .before .before .before .before .before .before .args .state .now) (c .before .before .before .before .before .before .before .before .before .args .buf .now)) refl (c .before .value-place .result) (c .answered .result) (sym (c .before .before .before .before .value-passes .ensures) ∙ not-true _ (c .before .before .before .if1 .taken)) (c .before .value-place .ensures) (c .answered .ensures)
+returns c = barred-entry (opening (sidsOf (c .before .before .before .before .before .before .before .before .before .args .annotations .now)) (kindOf (c .before .before .before .before .before .before .before .before .before .args .kind))) (c .before .before .before .before .before .before .before .before .before .args .state .now) (c .before .before .before .before .before .before .before .before .before .args .buf .now) (lacksName (stateOf (c .before .before .before .before .before .before .before .before .before .args .state .now))) ((leb mostOpen ((stateOf (c .before .before .before .before .before .before .before .before .before .args .state .now)) .depth), 4) ∷ roomLine (opening (sidsOf (c .before .before .before .before .before .before .before .before .before .args .annotations .now)) (kindOf (c .before .before .before .before .before .before .before .before .before .args .kind))) (c .before .before .before .before .before .before .before .before .before .args .state .now) (c .before .before .before .before .before .before .before .before .before .args .buf .now)) refl (c .before .value-place .result) (c .answered .result) (sym (c .before .before .before .before .value-passes .ensures) ∙ not-true _ (c .before .before .before .if1 .taken)) (c .before .value-place .ensures) (c .answered .ensures)
 
 depth-requires : tie.Need-depth-requires
 depth-requires c κs = search needs

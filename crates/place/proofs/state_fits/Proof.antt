@@ -5,7 +5,7 @@ use native.Mathlib.Omega.{arith}
 use mathlib.Core.Path.{_≡_, refl, sym, _∙_}
 use borrow.Author.Needs.{needs}
 use borrow.Author.Tests.{not-true, not-false}
-use Rattle.machine.specs.Machine.{innermostFirst, containersFit, fits}
+use Rattle.machine.specs.Machine.{mostOpen, innermostFirst, containersFit, fits}
 use Rattle.place.proofs.Laws.{chain-step, chain-none, fits-overused, fits-overopen, fits-nameless, fits-containers}
 use Rattle.place.proofs.state_fits.Statement.{statement}
 use Rattle.place.proofs.state_fits.Tie as tie
@@ -15,7 +15,7 @@ use Rattle.place.proofs.container_fits.Reads as container-fits-reads
 use Rattle.place.proofs.in_struct.Reads as in-struct-reads
 
 abbrev Inv-loop : tie.InvT-loop
-Inv-loop room s used depth i₀ limit₀ i limit = (i ≤ 32) × (fits s room ≡ containersFit limit (innermostFirst (s .containers) i))
+Inv-loop room s used depth i₀ limit₀ i limit = (i ≤ mostOpen) × (fits s room ≡ containersFit limit (innermostFirst (s .containers) i))
 
 abbrev μ-loop : tie.MeasureT-loop
 μ-loop room s used depth i₀ limit₀ i limit = i

@@ -4,7 +4,7 @@ use Prim.Native.Nat.{_≤_}
 use mathlib.Core.Path.{_≡_, refl, sym, _∙_}
 use native.Mathlib.Omega.{arith}
 use borrow.Author.Tests.{not-true, not-false}
-use Rattle.machine.specs.Machine.{innermostFirst, containersFit}
+use Rattle.machine.specs.Machine.{mostOpen, innermostFirst, containersFit}
 use Rattle.place.proofs.Laws.{chain-step, chain-none}
 use Rattle.state_bytes.specs.StateBytes.{stateOf}
 use Rattle.state_bytes.proofs.Laws.{container-at}
@@ -12,7 +12,7 @@ use Rattle.state_bytes.proofs.containers_fit.Statement.{statement}
 use Rattle.state_bytes.proofs.containers_fit.Tie as tie
 
 abbrev Inv-loop : tie.InvT-loop
-Inv-loop st used depth i₀ limit₀ i limit = (i ≤ 32) × (containersFit used (innermostFirst (stateOf st .containers) depth) ≡ containersFit limit (innermostFirst (stateOf st .containers) i))
+Inv-loop st used depth i₀ limit₀ i limit = (i ≤ mostOpen) × (containersFit used (innermostFirst (stateOf st .containers) depth) ≡ containersFit limit (innermostFirst (stateOf st .containers) i))
 
 abbrev μ-loop : tie.MeasureT-loop
 μ-loop st used depth i₀ limit₀ i limit = i

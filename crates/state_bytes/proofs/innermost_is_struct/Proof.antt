@@ -11,6 +11,9 @@ mul-result c = search needs
 add-result : tie.Need-add-result
 add-result c = search needs
 
+sub-result : tie.Need-sub-result
+sub-result c = search needs
+
 shared-slice-read-result : tie.Need-shared-slice-read-result
 shared-slice-read-result c = search needs
 
@@ -19,4 +22,4 @@ returns c = struct-below (c .before .args .st .now) (c .before .args .depth) (c 
 
 pub innermost-is-struct-spec : {M : Type 1} → statement M
 innermost-is-struct-spec =
-    tie.close (tie.spec mul-result add-result shared-slice-read-result returns)
+    tie.close (tie.spec mul-result add-result sub-result shared-slice-read-result returns)

@@ -2,7 +2,7 @@
 -- Assumes nothing.
 use mathlib.Core.Path.{sym, _∙_}
 use borrow.Author.Tests.{not-true, not-false, leb-true}
-use Rattle.machine.specs.Machine.{openContainers, isOpen}
+use Rattle.machine.specs.Machine.{mostOpen, openContainers, isOpen}
 use Rattle.place.proofs.Laws.{open-of}
 use Rattle.state_bytes.specs.StateBytes.{stateOf}
 use Rattle.state_bytes.proofs.Laws.{readable-size, unreadable, passes-is}
@@ -20,13 +20,13 @@ depth-requires : tie.Need-depth-requires
 depth-requires c κs = search needs
 
 innermost-is-struct-requires : tie.Need-innermost-is-struct-requires
-innermost-is-struct-requires c κs = let h = sym (c .before .before .readable .ensures) ∙ not-false _ (c .before .if1 .left) in (rw (c .depth .ensures) (leb-true _ 32 h), readable-size (c .before .before .before .before .args .st .now) h)
+innermost-is-struct-requires c κs = let h = sym (c .before .before .readable .ensures) ∙ not-false _ (c .before .if1 .left) in (rw (c .depth .ensures) (leb-true _ mostOpen h), readable-size (c .before .before .before .before .args .st .now) h)
 
 waiting-requires : tie.Need-waiting-requires
 waiting-requires c κs = search needs
 
 passes-requires : tie.Need-passes-requires
-passes-requires c κs = let h = sym (c .before .before .before .before .readable .ensures) ∙ not-false _ (c .before .before .before .if1 .left) in (rw (c .before .before .depth .ensures) (leb-true _ 32 h), readable-size (c .before .before .before .before .before .before .args .st .now) h)
+passes-requires c κs = let h = sym (c .before .before .before .before .readable .ensures) ∙ not-false _ (c .before .before .before .if1 .left) in (rw (c .before .before .depth .ensures) (leb-true _ mostOpen h), readable-size (c .before .before .before .before .before .before .args .st .now) h)
 
 returns-2 : tie.Need-returns-2
 returns-2 c = c .passes .ensures ∙ (rw (c .before .before .innermost-is-struct .ensures, c .before .waiting .ensures, c .before .before .before .depth .ensures, open-of (stateOf (c .before .before .before .before .before .before .before .args .st .now) .containers) (stateOf (c .before .before .before .before .before .before .before .args .st .now) .depth)) (sym (passes-is (stateOf (c .before .before .before .before .before .before .before .args .st .now)) (c .before .before .before .before .before .before .before .args .room) (isOpen (openContainers (stateOf (c .before .before .before .before .before .before .before .args .st .now)))) (sym (c .before .before .before .before .before .readable .ensures) ∙ not-false _ (c .before .before .before .before .if1 .left)))))
