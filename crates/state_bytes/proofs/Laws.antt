@@ -1,8 +1,8 @@
 -- The state that bytes spell, part by part, and whether a check by place passes over them.
 -- Assumes nothing.
-use Prim.Native.Nat.{ℕ, zero, suc, _+_, _-_, _*_, _%_, _<_, _≤_}
+use Prim.Native.Nat.{ℕ, zero, suc, _+_, _-_, _*_, _%_, _<_, _≤_, _/_}
 use native.Mathlib.Omega.{arith}
-use native.Mathlib.Nat.{add-zero, add-suc, suc-add, zero-add}
+use native.Mathlib.Nat.{add-zero, add-suc, suc-add, zero-add, add-mul-div-left, add-mul-mod-self-left}
 use mathlib.Core.Path.{_≡_, refl, sym, _∙_, ap}
 use mathlib.Core.Bool.{Bool, true, false, false≢true, not, _&&_, _||_, and-false, and-true}
 use mathlib.Core.List.{List, [], _∷_, _++_}
@@ -136,6 +136,32 @@ stored-container b l m n i c h k p q r =
     let a : m ≡ laid b (placeOf i) (fourBytes (c .start) ++ fourBytes (c .header)) = q ∙ ap (λ (x : List ℕ). laid x (placeOf i + 4) (fourBytes (c .header))) p ∙ laid-more b (placeOf i) (fourBytes (c .start)) (omega arith) (fourBytes (c .header)) in
     rw (eq-eqb (length b) stateSize h, lt-ltb i mostOpen k, storedContainer)
     (r ∙ ap (λ (x : List ℕ). laid x (placeOf i + 8) (c .code ∷ [])) a ∙ laid-more b (placeOf i) (fourBytes (c .start) ++ fourBytes (c .header)) (omega arith) (c .code ∷ []))
+
+-- a multiple of 256 d leaves the byte behind d as it is
+byte-kept : (d x k : ℕ) → 0 < d → (x + d * (256 * k)) / d % 256 ≡ x / d % 256
+byte-kept d x k h = ap (λ (n : ℕ). n % 256) (add-mul-div-left x (256 * k) h) ∙ add-mul-mod-self-left (x / d) 256 k
+
+-- four bytes of a sum are those of its parts' four bytes
+fourBytes-sum : (a b : ℕ) → fourBytes (a % 4294967296 + b % 4294967296) ≡ fourBytes (a + b)
+fourBytes-sum a b =
+    let x = a % 4294967296 + b % 4294967296 in
+    let k = a / 4294967296 + b / 4294967296 in
+    let e : a + b ≡ x + 256 * (16777216 * k) = omega arith in
+    let f : a + b ≡ x + 256 * (256 * (65536 * k)) = omega arith in
+    let g : a + b ≡ x + 65536 * (256 * (256 * k)) = omega arith in
+    let h : a + b ≡ x + 16777216 * (256 * k) = omega arith in
+    let p : x % 256 ≡ (a + b) % 256 = sym (ap (λ (n : ℕ). n % 256) e ∙ add-mul-mod-self-left x 256 (16777216 * k)) in
+    let q : x / 256 % 256 ≡ (a + b) / 256 % 256 = sym (ap (λ (n : ℕ). n / 256 % 256) f ∙ byte-kept 256 x (65536 * k) (omega arith)) in
+    let r : x / 65536 % 256 ≡ (a + b) / 65536 % 256 = sym (ap (λ (n : ℕ). n / 65536 % 256) g ∙ byte-kept 65536 x (256 * k) (omega arith)) in
+    let s : x / 16777216 % 256 ≡ (a + b) / 16777216 % 256 = sym (ap (λ (n : ℕ). n / 16777216 % 256) h ∙ byte-kept 16777216 x k (omega arith)) in
+    cc (p, q, r, s)
+
+pub stored-sum : (a b depth : ℕ) (waiting : Bool) (st : List ℕ) → storedHead (a % 4294967296 + b % 4294967296) depth waiting st ≡ storedHead (a + b) depth waiting st
+unfolding storedHead
+stored-sum a b depth waiting st =
+    by-cases (eqb (length st) stateSize)
+    (λ p. rw (p, storedHead) (ap (λ (l : List ℕ). laid st 0 (l ++ (depth % 256 ∷ flag waiting ∷ []))) (fourBytes-sum a b)))
+    (λ p. rw (p, storedHead))
 
 pub unstored-head : (b : List ℕ) (used depth : ℕ) (waiting : Bool) → (length b ≡ stateSize → ⊥) → b ≡ storedHead used depth waiting b
 unfolding storedHead

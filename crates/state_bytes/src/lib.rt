@@ -40,6 +40,9 @@ const CODE_AND_AFTER: usize = RECORD_SIZE - CODE;
 // More containers than a state that fits can have.
 const UNFIT_DEPTH: usize = MOST_OPEN + 1;
 
+// The least number that four bytes do not hold.
+const FOUR_BYTES: usize = 0x1_0000_0000;
+
 // The bytes of a number that a closing answers.
 const NUMBER_SIZE: usize = 4;
 
@@ -399,6 +402,15 @@ pub fn store(st: &mut [u8], used: usize, depth: usize, waiting: bool)
     put_four(st, 0, used);
     put_one(st, DEPTH, (depth % 256) as u8);
     put_one(st, WAITING, waiting as u8);
+}
+
+// `put` more bytes are used, and whether a name waits is stored. Four bytes hold the used length, so that nothing is lost by cutting both numbers to them.
+pub fn grow(st: &mut [u8], put: usize, waiting: bool)
+    ensures { λ r. let b = now (st .entry) in ⌜ now (st .exit) ≡ storedHead (stateOf b .used + put) (stateOf b .depth) waiting b ⌝ }
+{
+    let used = used(st);
+    let depth = depth(st);
+    store(st, used % FOUR_BYTES + put % FOUR_BYTES, depth, waiting);
 }
 
 // The container i is stored.

@@ -7,7 +7,7 @@ use lib.ListN.{length, replicate, length-set}
 use Rattle.buffer.specs.Laid.{laid}
 use Rattle.buffer.proofs.Laid.{laid-nil}
 use Rattle.containers.proofs.Moves.{clear-turn}
-use Rattle.goatminute.proofs.Start.{laid-over}
+use Rattle.entry_steps.proofs.Start.{laid-over}
 use Rattle.goatminute.proofs.clear.Statement.{statement}
 use Rattle.goatminute.proofs.clear.Tie as tie
 

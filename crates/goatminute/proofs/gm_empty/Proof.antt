@@ -7,8 +7,8 @@ use borrow.Author.Tests.{not-true, not-false}
 use Rattle.machine.specs.Call.{emptying}
 use Rattle.machine.specs.Machine.{openContainers, isOpen}
 use Rattle.state_bytes.specs.StateBytes.{stateOf}
-use Rattle.goatminute.proofs.Entered.{barred-entry}
-use Rattle.goatminute.proofs.Calls.{roomLine, empty-done}
+use Rattle.entry_steps.proofs.Entered.{barred-entry}
+use Rattle.entry_steps.proofs.Calls.{roomLine, empty-done}
 use borrow.Author.Needs.{needs}
 use Rattle.goatminute.proofs.gm_empty.Statement.{statement}
 use Rattle.goatminute.proofs.gm_empty.Tie as tie

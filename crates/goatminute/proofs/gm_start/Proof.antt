@@ -3,9 +3,9 @@
 use native.Mathlib.Omega.{arith}
 use Rattle.machine.specs.Machine.{accepted, refused, emptyState}
 use Rattle.encoding.specs.Headers.{markerBytes}
-use Rattle.writer.proofs.Run.{outcome, placed-some}
-use Rattle.writer.proofs.Started.{start-long, start-full, start-put}
-use Rattle.goatminute.proofs.Start.{start-short-long, start-short, start-entry, cleared, begun}
+use Rattle.steps.proofs.Run.{outcome, placed-some}
+use Rattle.steps.proofs.Started.{start-long, start-full, start-put}
+use Rattle.entry_steps.proofs.Start.{start-short-long, start-short, start-entry, cleared, begun}
 use borrow.Author.Needs.{needs}
 use Rattle.goatminute.proofs.gm_start.Statement.{statement}
 use Rattle.goatminute.proofs.gm_start.Tie as tie

@@ -7,10 +7,10 @@ use borrow.Author.Tests.{not-true, not-false}
 use Rattle.encoding.specs.Headers.{markerBytes}
 use Rattle.machine.specs.Call.{versionMarker}
 use Rattle.machine.specs.Machine.{openContainers, isOpen}
-use Rattle.writer.proofs.Run.{put-fits}
+use Rattle.steps.proofs.Run.{put-fits}
 use Rattle.state_bytes.specs.StateBytes.{stateOf}
-use Rattle.goatminute.proofs.Entered.{barred-entry}
-use Rattle.goatminute.proofs.Calls.{roomLine, end-entry}
+use Rattle.entry_steps.proofs.Entered.{barred-entry}
+use Rattle.entry_steps.proofs.Calls.{roomLine, end-entry}
 use borrow.Author.Needs.{needs}
 use Rattle.goatminute.proofs.gm_version_marker.Statement.{statement}
 use Rattle.goatminute.proofs.gm_version_marker.Tie as tie
@@ -45,9 +45,7 @@ waiting-requires : tie.Need-waiting-requires
 waiting-requires c κs = search needs
 
 ended-requires : tie.Need-ended-requires
-ended-requires c κs =
-    let a = c .before .before .before .before .before .before .before .before .before .before .before .before .before .before .before .args in
-    λ h. omega (arith, put-fits (a .buf .now) (stateOf (a .state .now) .used) (markerBytes) (c .before .before .before .before .before .copy .result) (c .before .before .before .before .before .copy .last .0) (rw (c .before .before .before .before .before .before .before .used .ensures) at (c .before .before .before .before .before .copy .ensures)) h)
+ended-requires c κs = search needs
 
 same-length-2 : tie.Need-same-length-2
 same-length-2 c = search needs
