@@ -4,12 +4,13 @@
 use Prim.Native.Nat.{ℕ, suc, _≤_}
 use native.Mathlib.Omega.{arith}
 use mathlib.Core.Path.{_≡_, refl, sym, _∙_, ap, ap₂, subst₂}
-use mathlib.Core.Bool.{Bool, true, false≢true, not, _&&_}
+use mathlib.Core.Bool.{Bool, true, false≢true, not}
 use mathlib.Core.List.{List, [], _∷_, _++_}
 use lib.Dec.{eqb, ltb}
 use lib.ListN.{length}
 use borrow.Author.Tests.{eq-eqb, eqb-true, ltb-false}
 use Rattle.ion.proofs.Tests.{by-cases}
+use Rattle.buffer.specs.Laid.{laid}
 use Rattle.ion.specs.Value.{Scalar}
 use Rattle.encoding.specs.Headers.{markerBytes}
 use Rattle.encoding.specs.Argument.{Argument, meaning, anyHolds}
@@ -17,18 +18,17 @@ use Rattle.encoding.specs.Stream.{streamBytes}
 use Rattle.machine.specs.declared.State.{State}
 use Rattle.machine.specs.Call.{Call, AllTyped}
 use Rattle.machine.specs.Machine.{Config, longestBuffer, emptyState, splice, effect, Verdict, accepted, refused, firstFailing, verdict, isAccepted, ifAccepted}
-use Rattle.machine.specs.Machine.{after, startVerdict, started, taken}
-use Rattle.machine.specs.Numbers.{run}
+use Rattle.machine.specs.Machine.{ruleOf, after, startVerdict, started, taken, run}
 use Rattle.machine.specs.Model.{Model, modelStep, startedModel}
-use Rattle.machine.specs.Demands.{isEmptying, partOf, joined, modelAfter, spelling, spelled, Run, ReadsOnlyAs}
+use Rattle.machine.specs.Demands.{partOf, joined, modelAfter, spelling, spelled, Run, ReadsOnlyAs}
 use Rattle.machine.proofs.Splice.{length-splice}
 use Rattle.machine.proofs.Steps.{none-failing}
 use Rattle.machine.proofs.Demands.{demand2, demand3}
-use Rattle.state_bytes.specs.StateBytes.{stateSize, stateOf, containersFrom, numberOf, storedIf, entered}
+use Rattle.state_bytes.specs.StateBytes.{stateSize, stateOf, containersFrom, storedHead, numberOf, storedIf, entered}
 use Rattle.entry_numbers.specs.EntryCall.{callOf, HostCall}
 use Rattle.entry_numbers.proofs.Typed.{entry-typed}
-use Rattle.goatminute.specs.Entries.{emptyBytes, startEntered}
-use Rattle.goatminute.proofs.Entered.{accepted-is}
+use Rattle.entry_steps.specs.Entries.{emptyBytes, startEntered}
+use Rattle.entry_steps.proofs.Entered.{accepted-is}
 use Rattle.entry_lists.specs.Demands.{Lent, configOf, tableOf, EntryDemand1, lentStarted, lentJoined, lentModelAfter, lentSpelling, LentRun, EntryDemand2, EntryDemand3}
 use Rattle.entry_lists.proofs.Steps.{Spells, number-accepts, answer-is, lentBy, call-spells}
 
@@ -77,7 +77,7 @@ joined-is [] w m s = ap taken (s .config)
 joined-is (h ∷ hs) w m s =
     let c = callOf (h .entry) in
     ap₂ (λ (x y : List ℕ). x ++ y)
-    (ap₂ (λ (t : Bool) (x : Config). partOf (isEmptying c && t) (taken x)) (accepts w m s c) (s .config))
+    (ap₂ (λ (t : Bool) (x : Config). partOf t (ruleOf c x .flushes)) (accepts w m s c) (s .config))
     (joined-is hs (lentBy c w) (after c m) (step w m s c))
 
 model-is : {S : Type 0} (f : Argument → S) (hs : List HostCall) (w : Lent) (m : Config) (x : Model S) → Spells w m → lentModelAfter f hs w x ≡ modelAfter f (calls hs) m x
@@ -92,8 +92,12 @@ model-is f (h ∷ hs) w m x s =
 
 -- the bytes of the empty state spell it
 empty-spelled : stateOf (emptyBytes 4) ≡ emptyState 4
-unfolding stateOf containersFrom
+unfolding stateOf containersFrom storedHead laid
 empty-spelled = refl
+
+empty-size : length (emptyBytes 4) ≡ stateSize
+unfolding storedHead laid
+empty-size = refl
 
 abbrev startLines : List ℕ → List (Bool × ℕ)
 startLines b = (ltb longestBuffer (length b), 1) ∷ (ltb (length b) 4, 10) ∷ []
@@ -127,7 +131,7 @@ started-spells st b e =
     let room : 4 ≤ length b = ltb-false (length b) 4 (h .1 .0) in
     let l : length (splice 0 0 markerBytes b) ≡ length b = length-splice 0 0 markerBytes b (omega arith) (omega arith) (omega arith) in
     rw (lent-started st b (a .0) (a .1), a .1) (record {
-      sound = record { size = refl; short = omega arith; fit = rw empty-spelled (omega arith); depth = rw empty-spelled (omega arith) };
+      sound = record { size = empty-size; short = omega arith; fit = rw empty-spelled (omega arith); depth = rw empty-spelled (omega arith) };
       config = ap (λ (x : State). record { state = x; buffer = splice 0 0 markerBytes b }) empty-spelled;
     })
 

@@ -20,16 +20,15 @@ use Rattle.encoding.specs.Timestamp.{dayBefore, dayAfter, isTimestamp, timestam
 use Rattle.encoding.specs.Argument.{float32Bytes, narrows, float64Bytes, argumentBytes, meaning}
 use Rattle.encoding.specs.Stream.{streamBytes}
 use Rattle.annotations.specs.Sids.{leastFirst, sidAt, sidsUpTo, sidsOf}
-use Rattle.machine.specs.Machine.{closedBytes, splice, containerFits, containersFit, fits, verdict, startVerdict, finishedLength}
-use Rattle.machine.specs.Numbers.{run}
+use Rattle.machine.specs.Machine.{closedBytes, splice, containerFits, containersFit, fits, verdict, startVerdict, finishedLength, run}
 use Rattle.machine.specs.Demands.{ReadsOnlyAs}
 use Rattle.machine.proofs.Instances.{most, nines, bytes, items}
-use Rattle.state_bytes.specs.StateBytes.{stateOf, containersFrom, storedHead, storedContainer, entered}
+use Rattle.state_bytes.specs.StateBytes.{stateSize, stateOf, containersFrom, storedHead, storedContainer, entered}
 use Rattle.entry_numbers.specs.Lent.{typeCoded, precisionNumbered, offsetLent, fractionLent}
 use Rattle.entry_numbers.specs.EntryCall.{gmWriteNull, gmWriteBool, gmWriteI64, gmWriteInt, gmWriteF32, gmWriteF64, gmWriteDecimal, gmWriteTimestamp, gmWriteSymbol}
 use Rattle.entry_numbers.specs.EntryCall.{gmWriteString, gmWriteClob, gmWriteBlob, gmFieldName, gmOpenList, gmOpenSexp, gmOpenStruct}
 use Rattle.entry_numbers.specs.EntryCall.{gmClose, gmAbandon, gmVersionMarker, gmFinished, gmEmpty, TimestampNumbers, AllU8, TimestampTyped, HostCall}
-use Rattle.goatminute.specs.Entries.{startEntered}
+use Rattle.entry_steps.specs.Entries.{startEntered}
 use Rattle.entry_lists.specs.Demands.{lentStarted, lentJoined, lentModelAfter, lentSpelling, lentWritten, LentRun}
 use Rattle.entry_lists.proofs.Demands.{entry-demand2, entry-demand3}
 
@@ -133,24 +132,26 @@ hostLimits =
     ∷ []
 
 abbrev sevens : List ℕ
-sevens = replicate 296 7
+sevens = replicate stateSize 7
 
 -- ---- what the demands say of them
 
-run-limits : LentRun hostLimits sevens nines
-unfolding lentJoined lentModelAfter startEntered entered run stateOf containersFrom storedHead storedContainer laid sidsOf sidsUpTo sidAt leastFirst typeCoded precisionNumbered offsetLent fractionLent verdict startVerdict finishedLength fits containerFits containersFit splice closedBytes meaning argumentBytes annotatedBytes annotationBytes framedBytes headerBytes float32Bytes narrows float64Bytes fixedBytes uintBytes trimmed intBytes decimalBody timestampBody isTimestamp areFields dayBefore dayAfter varIntBytes varIntGroups varUIntsBytes varUIntBytes digits digitCount countDigits lowDigits bigEndian begun utf8From utf8 floatOf ofBits toBits holds isNan
-run-limits = record { starts = refl; ends = refl }
+-- what is computed of them
+record Limits : Type 0 where
+  run : LentRun hostLimits sevens nines
+  joined : lentJoined hostLimits (lentStarted sevens nines) ≡ bytes
+  spelled : lentSpelling hostLimits sevens nines .items ≡ items
 
-joined-bytes : lentJoined hostLimits (lentStarted sevens nines) ≡ bytes
-unfolding lentJoined lentModelAfter startEntered entered run stateOf containersFrom storedHead storedContainer laid sidsOf sidsUpTo sidAt leastFirst typeCoded precisionNumbered offsetLent fractionLent verdict startVerdict finishedLength fits containerFits containersFit splice closedBytes meaning argumentBytes annotatedBytes annotationBytes framedBytes headerBytes float32Bytes narrows float64Bytes fixedBytes uintBytes trimmed intBytes decimalBody timestampBody isTimestamp areFields dayBefore dayAfter varIntBytes varIntGroups varUIntsBytes varUIntBytes digits digitCount countDigits lowDigits bigEndian begun utf8From utf8 floatOf ofBits toBits holds isNan
-joined-bytes = refl
-
-spelled-items : lentSpelling hostLimits sevens nines .items ≡ items
-unfolding lentJoined lentModelAfter startEntered entered run stateOf containersFrom storedHead storedContainer laid sidsOf sidsUpTo sidAt leastFirst typeCoded precisionNumbered offsetLent fractionLent verdict startVerdict finishedLength fits containerFits containersFit splice closedBytes meaning argumentBytes annotatedBytes annotationBytes framedBytes headerBytes float32Bytes narrows float64Bytes fixedBytes uintBytes trimmed intBytes decimalBody timestampBody isTimestamp areFields dayBefore dayAfter varIntBytes varIntGroups varUIntsBytes varUIntBytes digits digitCount countDigits lowDigits bigEndian begun utf8From utf8 floatOf ofBits toBits holds isNan
-spelled-items = refl
+limits : Limits
+unfolding lentJoined lentModelAfter startEntered entered run stateOf containersFrom storedHead storedContainer laid sidsOf sidsUpTo sidAt leastFirst
+    typeCoded precisionNumbered offsetLent fractionLent verdict startVerdict finishedLength fits containerFits containersFit splice closedBytes
+    meaning argumentBytes annotatedBytes annotationBytes framedBytes headerBytes float32Bytes narrows float64Bytes fixedBytes uintBytes trimmed
+    intBytes decimalBody timestampBody isTimestamp areFields dayBefore dayAfter varIntBytes varIntGroups varUIntsBytes varUIntBytes digits digitCount
+    countDigits lowDigits bigEndian begun utf8From utf8 floatOf ofBits toBits holds isNan
+limits = record { run = record { starts = refl; ends = refl }; joined = refl; spelled = refl }
 
 entry-instance2 : streamBytes (lentWritten hostLimits sevens nines) ≡ bytes
-entry-instance2 = sym (entry-demand2 hostLimits sevens nines run-limits) ∙ joined-bytes
+entry-instance2 = sym (entry-demand2 hostLimits sevens nines (limits .run)) ∙ limits .joined
 
 entry-instance3 : ReadsOnlyAs bytes items
-entry-instance3 = subst₂ ReadsOnlyAs joined-bytes spelled-items (entry-demand3 hostLimits sevens nines run-limits)
+entry-instance3 = subst₂ ReadsOnlyAs (limits .joined) (limits .spelled) (entry-demand3 hostLimits sevens nines (limits .run))

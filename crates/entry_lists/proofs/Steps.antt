@@ -17,8 +17,7 @@ use Rattle.encoding.proofs.Writable.{NoneHolds}
 use Rattle.machine.specs.declared.State.{State}
 use Rattle.machine.specs.declared.Container.{Container}
 use Rattle.machine.specs.Call.{Call, ContainerType, write, name, opening, closing, abandonment, versionMarker, taking, emptying}
-use Rattle.machine.specs.Machine.{mostOpen, longestBuffer, Config, noContainer, openContainers, reserve, headerPlace, containerCode, closedInnermost, live, splice, effect, lines, checks, Verdict, accepted, refused, firstFailing, verdict, isAccepted, ifAccepted, after}
-use Rattle.machine.specs.Numbers.{run}
+use Rattle.machine.specs.Machine.{mostOpen, longestBuffer, Config, noContainer, openContainers, reserve, headerPlace, containerCode, closedInnermost, live, splice, effect, lines, checks, Verdict, accepted, refused, firstFailing, verdict, isAccepted, ifAccepted, after, run}
 use Rattle.machine.proofs.Splice.{length-splice}
 use Rattle.machine.proofs.Steps.{none-failing}
 use Rattle.state_bytes.specs.StateBytes.{stateSize, stateOf, storedContainer, numberOf, storedState, storedBy, storedIf, entered}

@@ -3,18 +3,17 @@
 -- Assumes nothing.
 use Prim.Native.Nat.{ℕ, _+_}
 use native.Mathlib.Omega.{arith}
-use mathlib.Core.Path.{_≡_, refl, ap}
+use mathlib.Core.Path.{_≡_, refl, sym, _∙_, ap}
 use mathlib.Core.List.{List, [], _∷_}
 use lib.ListN.{replicate, getD}
 use Rattle.buffer.specs.Laid.{laid}
 use Rattle.encoding.specs.Headers.{annotatedBytes}
 use Rattle.encoding.specs.Argument.{argumentBytes}
 use Rattle.annotations.specs.Sids.{sidsUpTo, sidsOf}
-use Rattle.machine.specs.Machine.{splice, containersFit, fits, verdict, startVerdict}
-use Rattle.machine.specs.Numbers.{run}
+use Rattle.machine.specs.Machine.{splice, containersFit, fits, verdict, startVerdict, run}
 use Rattle.state_bytes.specs.StateBytes.{stateSize, four, stateOf, containersFrom, storedHead, entered}
 use Rattle.entry_numbers.specs.EntryCall.{gmWriteBool}
-use Rattle.goatminute.specs.Entries.{startEntered}
+use Rattle.entry_steps.specs.Entries.{startEntered}
 use Rattle.entry_lists.specs.Demands.{Lent, answer, lentAfter, lentStarted}
 
 abbrev started : Lent
@@ -26,51 +25,40 @@ once = lentAfter (gmWriteBool [] 1) started
 abbrev twice : Lent
 twice = lentAfter (gmWriteBool [] 0) once
 
--- ---- the right side of the contracts
+-- what the contracts say of them
+record Said : Type 0 where
+  answers : answer (gmWriteBool [] 1) started ∷ answer (gmWriteBool [] 0) once ∷ [] ≡ 0 ∷ 0 ∷ []
+  begun : started .buffer ≡ 0xE0 ∷ 0x01 ∷ 0x00 ∷ 0xEA ∷ 9 ∷ 9 ∷ 9 ∷ 9 ∷ []
+  one : once .buffer ≡ 0xE0 ∷ 0x01 ∷ 0x00 ∷ 0xEA ∷ 0x11 ∷ 9 ∷ 9 ∷ 9 ∷ []
+  two : twice .buffer ≡ 0xE0 ∷ 0x01 ∷ 0x00 ∷ 0xEA ∷ 0x11 ∷ 0x10 ∷ 9 ∷ 9 ∷ []
+  used : four (once .state) 0 ∷ four (twice .state) 0 ∷ [] ≡ 5 ∷ 6 ∷ []
 
-answers : answer (gmWriteBool [] 1) started ∷ answer (gmWriteBool [] 0) once ∷ [] ≡ 0 ∷ 0 ∷ []
-unfolding startEntered entered run stateOf containersFrom storedHead laid sidsOf sidsUpTo verdict startVerdict fits containersFit splice argumentBytes annotatedBytes
-answers = refl
-
-after-one : once .buffer ≡ 0xE0 ∷ 0x01 ∷ 0x00 ∷ 0xEA ∷ 0x11 ∷ 9 ∷ 9 ∷ 9 ∷ []
-unfolding startEntered entered run stateOf containersFrom storedHead laid sidsOf sidsUpTo verdict startVerdict fits containersFit splice argumentBytes annotatedBytes
-after-one = refl
-
-after-two : twice .buffer ≡ 0xE0 ∷ 0x01 ∷ 0x00 ∷ 0xEA ∷ 0x11 ∷ 0x10 ∷ 9 ∷ 9 ∷ []
-unfolding startEntered entered run stateOf containersFrom storedHead laid sidsOf sidsUpTo verdict startVerdict fits containersFit splice argumentBytes annotatedBytes
-after-two = refl
-
-used-lengths : four (once .state) 0 ∷ four (twice .state) 0 ∷ [] ≡ 5 ∷ 6 ∷ []
-unfolding startEntered entered run stateOf containersFrom storedHead laid sidsOf sidsUpTo verdict startVerdict fits containersFit splice argumentBytes annotatedBytes
-used-lengths = refl
+said : Said
+unfolding startEntered entered run stateOf containersFrom storedHead laid sidsOf sidsUpTo verdict startVerdict fits containersFit splice argumentBytes
+    annotatedBytes
+said = record { answers = refl; begun = refl; one = refl; two = refl; used = refl }
 
 -- ---- the programs
 
 -- keeps the first value and only advances its state afterwards
 first-value-kept : twice .buffer ≡ once .buffer → ⊥
-unfolding startEntered entered run stateOf containersFrom storedHead laid sidsOf sidsUpTo verdict startVerdict fits containersFit splice argumentBytes annotatedBytes
-first-value-kept e = let z : _≡_ {A = ℕ} 0x10 9 = ap (λ (b : List ℕ). getD b 5 0) e in omega arith
+first-value-kept e = let z : _≡_ {A = ℕ} 0x10 9 = ap (λ (b : List ℕ). getD b 5 0) (sym (said .two) ∙ e ∙ said .one) in omega arith
 
 -- its used length is invented
 used-invented : (n : ℕ) → four (twice .state) 0 ≡ 7 + n → ⊥
-unfolding startEntered entered run stateOf containersFrom storedHead laid sidsOf sidsUpTo verdict startVerdict fits containersFit splice argumentBytes annotatedBytes
-used-invented n e = let z : _≡_ {A = ℕ} 6 (7 + n) = e in omega arith
+used-invented n e = let z : _≡_ {A = ℕ} 6 (7 + n) = sym (ap (λ (b : List ℕ). getD b 1 0) (said .used)) ∙ e in omega arith
 
 -- says 10 while bytes remain, or refuses each call
 ten-with-room : answer (gmWriteBool [] 0) once ≡ 10 → ⊥
-unfolding startEntered entered run stateOf containersFrom storedHead laid sidsOf sidsUpTo verdict startVerdict fits containersFit splice argumentBytes annotatedBytes
-ten-with-room e = let z : _≡_ {A = ℕ} 0 10 = e in omega arith
+ten-with-room e = let z : _≡_ {A = ℕ} 0 10 = sym (ap (λ (b : List ℕ). getD b 1 0) (said .answers)) ∙ e in omega arith
 
 each-refused : (n : ℕ) → answer (gmWriteBool [] 1) started ≡ 1 + n → ⊥
-unfolding startEntered entered run stateOf containersFrom storedHead laid sidsOf sidsUpTo verdict startVerdict fits containersFit splice argumentBytes annotatedBytes
-each-refused n e = let z : _≡_ {A = ℕ} 0 (1 + n) = e in omega arith
+each-refused n e = let z : _≡_ {A = ℕ} 0 (1 + n) = sym (ap (λ (b : List ℕ). getD b 0 0) (said .answers)) ∙ e in omega arith
 
 -- emits null for each value
 null-for-each : once .buffer ≡ 0xE0 ∷ 0x01 ∷ 0x00 ∷ 0xEA ∷ 0x0F ∷ 9 ∷ 9 ∷ 9 ∷ [] → ⊥
-unfolding startEntered entered run stateOf containersFrom storedHead laid sidsOf sidsUpTo verdict startVerdict fits containersFit splice argumentBytes annotatedBytes
-null-for-each e = let z : _≡_ {A = ℕ} 0x11 0x0F = ap (λ (b : List ℕ). getD b 4 0) e in omega arith
+null-for-each e = let z : _≡_ {A = ℕ} 0x11 0x0F = ap (λ (b : List ℕ). getD b 4 0) (sym (said .one) ∙ e) in omega arith
 
 -- leaves the buffer untouched
 untouched : once .buffer ≡ started .buffer → ⊥
-unfolding startEntered entered run stateOf containersFrom storedHead laid sidsOf sidsUpTo verdict startVerdict fits containersFit splice argumentBytes annotatedBytes
-untouched e = let z : _≡_ {A = ℕ} 0x11 9 = ap (λ (b : List ℕ). getD b 4 0) e in omega arith
+untouched e = let z : _≡_ {A = ℕ} 0x11 9 = ap (λ (b : List ℕ). getD b 4 0) (sym (said .one) ∙ e ∙ said .begun) in omega arith

@@ -1,22 +1,22 @@
--- What is promised of what a host calls: demands 1, 2 and 3 over the entry points of crate goatminute, on one page. The proofs are in proofs/Demands.antt.
+-- What is promised of what a host calls: demands 1, 2 and 3 over the entry points, on one page. The proofs are in proofs/Demands.antt.
 -- Each entry point is lent the state's bytes and the buffer. Its contract says that it answers and leaves what `entered` does; `gm_start`'s names
 -- `startEntered`, and `gm_finished` answers `finishedLength`.
 -- Assumes nothing.
 use Prim.Native.Nat.{ℕ}
 use mathlib.Core.Path.{_≡_}
-use mathlib.Core.Bool.{Bool, not, _&&_}
+use mathlib.Core.Bool.{Bool, not}
 use mathlib.Core.List.{List, [], _∷_, _++_}
 use lib.Dec.{eqb}
 use lib.ListN.{length, take}
 use Rattle.ion.specs.Value.{Scalar, Item}
 use Rattle.encoding.specs.Argument.{Argument, meaning, anyHolds}
 use Rattle.encoding.specs.Stream.{streamBytes}
-use Rattle.machine.specs.Machine.{Config, checks, firstFailing, finishedLength}
+use Rattle.machine.specs.Machine.{Config, config, ruleOf, checks, firstFailing, finishedLength}
 use Rattle.machine.specs.Model.{Model, modelStep, startedModel}
-use Rattle.machine.specs.Demands.{isEmptying, partOf, ReadsOnlyAs}
+use Rattle.machine.specs.Demands.{partOf, ReadsOnlyAs}
 use Rattle.state_bytes.specs.StateBytes.{stateOf, numberOf, Entered, entered}
 use Rattle.entry_numbers.specs.EntryCall.{EntryCall, callOf, HostCall}
-use Rattle.goatminute.specs.Entries.{startEntered}
+use Rattle.entry_steps.specs.Entries.{startEntered}
 
 -- what is lent
 pub record Lent : Type 0 where
@@ -25,7 +25,7 @@ pub record Lent : Type 0 where
 
 -- the state that the slice spells, with the buffer
 abbrev pub configOf : Lent → Config
-configOf w = record { state = stateOf (w .state); buffer = w .buffer }
+configOf w = config (stateOf (w .state)) (w .buffer)
 
 -- ---- one call
 
@@ -67,7 +67,7 @@ lentTaken w = take (finishedLength (stateOf (w .state)) (length (w .buffer))) (w
 -- The finished bytes just before each accepted emptying and at the end, joined.
 unfoldable pub lentJoined : List HostCall → Lent → List ℕ
 lentJoined [] w = lentTaken w
-lentJoined (h ∷ hs) w = partOf (isEmptying (callOf (h .entry)) && isEntered (h .entry) w) (lentTaken w) ++ lentJoined hs (lentAfter (h .entry) w)
+lentJoined (h ∷ hs) w = partOf (isEntered (h .entry) w) (ruleOf (callOf (h .entry)) (configOf w) .flushes) ++ lentJoined hs (lentAfter (h .entry) w)
 
 -- The model is fed each call, its arguments and whether it was accepted.
 unfoldable pub lentModelAfter : {S : Type 0} → (Argument → S) → List HostCall → Lent → Model S → Model S

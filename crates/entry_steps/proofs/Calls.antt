@@ -18,12 +18,12 @@ use Rattle.machine.specs.Call.{Call, ContainerType, opening, closing, abandonme
 use Rattle.machine.specs.Machine.{mostOpen, noContainer, openContainers, isOpen, inStruct, lacksName, reserve, containerCode, put, atEnd, effect}
 use Rattle.machine.specs.Machine.{config, noFigures, ruleOf, placeLines, checks, accepted, refused, firstFailing, isAccepted, outer, placeVerdict, Outcome, run}
 use Rattle.containers.specs.Containers.{closedOn, abandonedOn}
-use Rattle.steps.proofs.Run.{outcome, accepted-with, run-accepted, past-place, placed-some, end-run}
+use Rattle.steps.proofs.Run.{outcome, accepted-with, run-misplaced, run-accepted, past-place, placed-some, end-run}
 use Rattle.steps.proofs.Containers.{accepted-fits, accepted-placed, opened-not, either-not, some-open, innermost, reserve-least, openedState, opening-refused, opening-accepted, opening-deep, closing-refused, closing-start, closing-accepted, abandonment-run}
 use Rattle.state_bytes.specs.StateBytes.{stateSize, stateOf, storedHead, storedContainer, storedState, storedBy, enteredBy, entered, numbersLaid, answeredBy, answered}
 use Rattle.state_bytes.proofs.Laws.{state-is, state-none, length-containers, outer-step}
 use Rattle.entry_steps.specs.Entries.{enteredAs}
-use Rattle.entry_steps.proofs.Entered.{accepted-is, entered-run, entered-ended}
+use Rattle.entry_steps.proofs.Entered.{refused-is, accepted-is, entered-run, entered-ended}
 
 -- ---- bytes that are never none, put at the end of the used ones, with no check of their own but 10
 
@@ -86,6 +86,15 @@ module _ (an : List ℕ) (k : ContainerType) (st b : List ℕ) (t : isAccepted (
 
 -- ---- a closing
 
+-- a place that does not pass: nothing is answered in the lent slice
+pub close-barred : (st b : List ℕ) → isAccepted (placeVerdict (stateOf st) (length b) (not (isOpen (openContainers (stateOf st))) || stateOf st .waiting)) ≡ false
+    → (lent : List ℕ) → lent ≡ answered st b lent
+unfolding answered
+close-barred st b f lent =
+    let m = not (isOpen (openContainers (stateOf st))) || stateOf st .waiting in
+    ap (λ (x : Outcome). answeredBy x lent)
+    (sym (run-misplaced closing (stateOf st) b m (roomLine closing st b) _ refl (refused-is (placeVerdict (stateOf st) (length b) m) f)))
+
 module _ (st b : List ℕ) (t : isAccepted (placeVerdict (stateOf st) (length b) (not (isOpen (openContainers (stateOf st))) || stateOf st .waiting)) ≡ true) where
   closing-place : placeVerdict (stateOf st) (length b) (not (isOpen (openContainers (stateOf st))) || stateOf st .waiting) ≡ accepted
   closing-place = accepted-is _ t
@@ -97,7 +106,7 @@ module _ (st b : List ℕ) (t : isAccepted (placeVerdict (stateOf st) (length b)
   close-open = some-open (stateOf st) (length b) (accepted-fits (stateOf st) (length b) _ closing-place) (either-not (isOpen (openContainers (stateOf st))) (stateOf st .waiting) (accepted-placed (stateOf st) (length b) _ closing-place))
 
   module _ (n : ℕ) (l : List ℕ) (e : _≡_ {A = ℕ × List ℕ} (n, l) (closedOn (innermost (stateOf st)) (stateOf st .used) b)) where
-    -- r is what the entry leaves in a slice that is lent for its answer, where it is refused and where it is done
+    -- what it leaves in the slice that is lent for its answer
     close-answers : (o : Outcome) → o ≡ run closing (config (stateOf st) b) → (lent : List ℕ) → answeredBy o lent ≡ answered st b lent
     unfolding answered
     close-answers o r lent = ap (λ (x : Outcome). answeredBy x lent) r

@@ -18,7 +18,7 @@ use Rattle.state_bytes.specs.StateBytes.{stateOf, storedHead, numberOf, storedS
 use Rattle.entry_steps.specs.Entries.{enteredAs}
 use Rattle.steps.proofs.Run.{outcome, run-misplaced, grown, Ends}
 
-refused-is : (v : Verdict) → isAccepted v ≡ false → v ≡ refused (numberOf v)
+pub refused-is : (v : Verdict) → isAccepted v ≡ false → v ≡ refused (numberOf v)
 refused-is accepted e = absurd (false≢true (sym e))
 refused-is (refused n) e = refl
 

@@ -51,7 +51,7 @@ same-length-3 c = search needs
 returns-2 : tie.Need-returns-2
 returns-2 c =
     let a = c .before .before .before .before .before .before .before .before .before .before .before .before .before .before .before .args in
-    end-entry (name (a .sid)) (a .state .now) (a .buf .now) (not (inStruct (openContainers (stateOf (a .state .now)))) || (stateOf (a .state .now)) .waiting) (varUIntBytes (a .sid)) true refl (λ s. refl) (varUInt-least (a .sid)) refl (sym (c .before .before .before .before .before .before .before .before .before .before .before .name-passes .ensures) ∙ not-false _ (c .before .before .before .before .before .before .before .before .before .before .if1 .left)) (c .before .before .before .before .before .before .write .result) (c .before .before .before .before .before .before .write .last .0) (rw (c .before .before .before .before .before .before .before .used .ensures) at (c .before .before .before .before .before .before .write .ensures)) (c .before .before .ended .result) (c .before .before .ended .last .0) (c .before .before .ended .ensures .0) (c .before .before .ended .ensures .1)
+    end-entry (name (a .sid)) (a .state .now) (a .buf .now) (not (inStruct (openContainers (stateOf (a .state .now)))) || (stateOf (a .state .now)) .waiting) (varUIntBytes (a .sid)) true refl (λ s. refl) (varUInt-least (a .sid)) refl refl (sym (c .before .before .before .before .before .before .before .before .before .before .before .name-passes .ensures) ∙ not-false _ (c .before .before .before .before .before .before .before .before .before .before .if1 .left)) (c .before .before .before .before .before .before .write .result) (c .before .before .before .before .before .before .write .last .0) (rw (c .before .before .before .before .before .before .before .used .ensures) at (c .before .before .before .before .before .before .write .ensures)) (c .before .before .ended .result) (c .before .before .ended .last .0) (c .before .before .ended .ensures .0) (c .before .before .ended .ensures .1)
 
 pub gm-field-name-spec : {M : Type 1} → statement M
 gm-field-name-spec =

@@ -56,7 +56,7 @@ same-length-3 c = search needs
 returns-2 : tie.Need-returns-2
 returns-2 c =
     let a = c .before .before .before .before .before .before .before .before .before .before .before .before .before .before .before .before .before .before .args in
-    end-entry (versionMarker) (a .state .now) (a .buf .now) (isOpen (openContainers (stateOf (a .state .now)))) (markerBytes) ((stateOf (a .state .now)) .waiting) refl (λ s. refl) (omega arith) refl (sym (c .before .before .before .before .before .before .before .before .before .before .before .before .before .before .top-passes .ensures) ∙ not-false _ (c .before .before .before .before .before .before .before .before .before .before .before .before .before .if1 .left)) (c .before .before .before .before .before .before .before .before .copy .result) (c .before .before .before .before .before .before .before .before .copy .last .0) (rw (c .before .before .before .before .before .before .before .before .before .before .used .ensures) at (c .before .before .before .before .before .before .before .before .copy .ensures)) (c .before .before .ended .result) (c .before .before .ended .last .0) (c .before .before .ended .ensures .0) (rw (c .before .before .before .waiting .ensures) at (c .before .before .ended .ensures .1))
+    end-entry (versionMarker) (a .state .now) (a .buf .now) (isOpen (openContainers (stateOf (a .state .now)))) (markerBytes) ((stateOf (a .state .now)) .waiting) refl (λ s. refl) (omega arith) refl refl (sym (c .before .before .before .before .before .before .before .before .before .before .before .before .before .before .top-passes .ensures) ∙ not-false _ (c .before .before .before .before .before .before .before .before .before .before .before .before .before .if1 .left)) (c .before .before .before .before .before .before .before .before .copy .result) (c .before .before .before .before .before .before .before .before .copy .last .0) (rw (c .before .before .before .before .before .before .before .before .before .before .used .ensures) at (c .before .before .before .before .before .before .before .before .copy .ensures)) (c .before .before .ended .result) (c .before .before .ended .last .0) (c .before .before .ended .ensures .0) (rw (c .before .before .before .waiting .ensures) at (c .before .before .ended .ensures .1))
 
 pub gm-version-marker-spec : {M : Type 1} → statement M
 gm-version-marker-spec =
