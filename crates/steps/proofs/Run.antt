@@ -1,6 +1,7 @@
 -- What the machine answers and leaves, by how far a call gets: refused by place, refused by its own lines, or accepted.
 -- Assumes nothing.
-use Prim.Native.Nat.{ℕ, _+_, _<_, _≤_}
+use Prim.Native.Nat.{ℕ, _+_, _%_, _^_, _<_, _≤_}
+use native.Mathlib.Nat.{mod-eq-of-lt}
 use native.Mathlib.Omega.{arith}
 use mathlib.Core.Path.{_≡_, refl, sym, _∙_, ap, ap₂}
 use mathlib.Core.Bool.{Bool, true, false, false≢true}
@@ -157,14 +158,22 @@ end-run c s b out n l waits e past pos f g = record {
   some = λ h. end-accepted c s b out n l e past (s .depth) waits (s .containers) f g h;
 }
 
--- what `ended` says of its answer
+-- what `ended` says of its answer: the used length is cut to 64 bits, which alters none that fits
 abbrev pub Ended : Written → State → ℕ → Bool → Refusal → Type 0
 Ended r s n waits why =
-    (n ≡ 0 → r ≡ record { answer = Refused why; state = s }) × ((n ≡ 0 → ⊥) → r ≡ record { answer = Accepted; state = grown s n waits })
+    (n ≡ 0 → r ≡ record { answer = Refused why; state = s })
+    × ((n ≡ 0 → ⊥) → r ≡ record {
+      answer = Accepted;
+      state = record { used = (s .used + n) % 2 ^ 64; depth = s .depth; waiting = waits; containers = s .containers };
+    })
 
 pub ended-run : (r : Written) (c : Call) (s : State) (b : List ℕ) (n : ℕ) (l : List ℕ) (waits : Bool) (why : Refusal)
-    → Ended r s n waits why → Ends c s b n l waits why → outcomeOf r l ≡ run c (config s b)
-ended-run r c s b n l waits why e h =
+    → ((n ≡ 0 → ⊥) → s .used + n < 2 ^ 64) → Ended r s n waits why → Ends c s b n l waits why → outcomeOf r l ≡ run c (config s b)
+ended-run r c s b n l waits why small e h =
     by-cases (eqb n 0)
     (λ p. let z = eqb-true n 0 p in ap (λ (x : Written). outcomeOf x l) (e .0 z) ∙ h .none z)
-    (λ p. let z = eqb-false n 0 p in ap (λ (x : Written). outcomeOf x l) (e .1 z) ∙ h .some z)
+    (λ p.
+    let z = eqb-false n 0 p in
+    ap (λ (x : Written). outcomeOf x l) (e .1 z)
+    ∙ ap (λ (u : ℕ). outcome accepted (record { used = u; depth = s .depth; waiting = waits; containers = s .containers }) l) (mod-eq-of-lt (small z))
+    ∙ h .some z)

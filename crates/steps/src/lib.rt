@@ -1,16 +1,21 @@
-// What the calls share, whether their state comes by value or as lent bytes: the kinds of containers, and why a value that may stand where it stands was not put.
+// What the calls share: the kinds of containers, why a value that may stand where it stands was not put, and the answer of a call that puts bytes.
 // The laws in proofs/ say what the machine answers and leaves, by how far a call gets.
 ghost use mathlib.Core.Path.{_≡_};
+ghost use Prim.Native.Nat.{_+_, _%_, _^_};
 ghost use Rattle.encoding.specs.Argument.{writeInt, writeDecimal, writeString};
 ghost use Rattle.machine.specs.Machine.{containerCode, refused};
 ghost use Rattle.machine.specs.Numbers.{number};
+ghost use Rattle.machine.specs.declared.Answer.the-variants.{Accepted, Refused};
 ghost use Rattle.timestamp.specs.Arguments.{argumentOf};
 ghost use Rattle.steps.specs.Kinds.{kindOf};
 ghost use Rattle.steps.specs.Refused.{ownRefusal};
+use machine::Answer;
 use machine::LIST;
 use machine::Refusal;
 use machine::SEXP;
 use machine::STRUCT;
+use machine::State;
+use machine::Written;
 use timestamp::Timestamp;
 
 // Check 8.
@@ -71,4 +76,27 @@ pub fn string_refusal(bytes: &[u8]) -> Refusal
         return Refusal::NoRoom;
     }
     Refusal::NotUtf8
+}
+
+// The answer of a call that has put `put` bytes at the end of the used ones, or none for the reason `why`.
+pub fn ended(s: State, put: usize, waiting: bool, why: Refusal) -> Written
+    ensures { λ r. ⌜ (put ≡ 0 → r ≡ record { answer = Refused why; state = s })
+        × ((put ≡ 0 → ⊥) → r ≡ record {
+          answer = Accepted;
+          state = record { used = (s .used + put) % 2 ^ 64; depth = s .depth; waiting = waiting; containers = s .containers };
+        }) ⌝ }
+{
+    if put == 0 {
+        return Written {
+            answer: Answer::Refused(why),
+            state: s,
+        };
+    }
+    let mut next = s;
+    next.used = std::num::wrapping_add_usize(s.used, put);
+    next.waiting = waiting;
+    Written {
+        answer: Answer::Accepted,
+        state: next,
+    }
 }

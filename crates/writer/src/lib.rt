@@ -1,19 +1,13 @@
-// The writer: its calls over a state by value and a lent buffer.
+// The writer: its calls over a state by value and a lent buffer. Those that write a scalar are crate value_writer's, handed on.
 // Each call checks its place, hands the work on numbers to a leaf, and answers with the next state.
 ghost use mathlib.Core.Path.{_≡_};
 ghost use mathlib.Core.Bool.{false};
 ghost use Prim.Native.Nat.{_+_, _-_, _<_, _≤_, _^_};
-ghost use lib.Ieee.{binary32, binary64, toBits};
 ghost use lib.ListN.{length, set};
-ghost use Rattle.encoding.specs.Argument.{writeNull, writeBool, writeI64, writeInt, writeF32, writeF64, writeDecimal};
-ghost use Rattle.encoding.specs.Argument.{writeSymbol, writeString, writeClob, writeBlob};
 ghost use Rattle.machine.specs.Machine.{config, mostOpen, innermostFirst, inStruct, emptyState, finishedLength, run};
 ghost use Rattle.machine.specs.Numbers.{outcomeOf, closedOutcome};
-ghost use Rattle.machine.specs.declared.Answer.the-variants.{Accepted, Refused};
-ghost use Rattle.machine.specs.Call.{write, name, opening, closing, abandonment, versionMarker, emptying};
+ghost use Rattle.machine.specs.Call.{name, opening, closing, abandonment, versionMarker, emptying};
 ghost use Rattle.annotations.specs.Sids.{sidsOf};
-ghost use Rattle.scalars.specs.Types.{typeOf, scalarArgument};
-ghost use Rattle.timestamp.specs.Arguments.{argumentOf};
 ghost use Rattle.steps.specs.Kinds.{kindOf};
 ghost use Rattle.steps.specs.Start.{startRun, takenFrom};
 use machine::Answer;
@@ -26,34 +20,21 @@ use machine::Refusal;
 use machine::STRUCT;
 use machine::State;
 use machine::Written;
-use scalars::IonType;
-use scalars::Scalar;
 pub use steps::ContainerType;
-use timestamp::Timestamp;
-
-// The answer of a call that has put `put` bytes at the end of the used ones, or none for the reason `why`.
-fn ended(s: State, put: usize, waiting: bool, why: Refusal) -> Written
-    requires { ⌜ ((put ≡ 0 → ⊥) → s .used + put < 2 ^ 64) ⌝ }
-    ensures { λ r. ⌜ (put ≡ 0 → r ≡ record { answer = Refused why; state = s })
-        × ((put ≡ 0 → ⊥) → r ≡ record {
-          answer = Accepted;
-          state = record { used = s .used + put; depth = s .depth; waiting = waiting; containers = s .containers };
-        }) ⌝ }
-{
-    if put == 0 {
-        return Written {
-            answer: Answer::Refused(why),
-            state: s,
-        };
-    }
-    let mut next = s;
-    next.used = s.used + put;
-    next.waiting = waiting;
-    Written {
-        answer: Answer::Accepted,
-        state: next,
-    }
-}
+pub use value_writer::write_blob;
+pub use value_writer::write_bool;
+pub use value_writer::write_clob;
+pub use value_writer::write_decimal;
+pub use value_writer::write_f32;
+pub use value_writer::write_f32_bits;
+pub use value_writer::write_f64;
+pub use value_writer::write_f64_bits;
+pub use value_writer::write_i64;
+pub use value_writer::write_int;
+pub use value_writer::write_null;
+pub use value_writer::write_string;
+pub use value_writer::write_symbol;
+pub use value_writer::write_timestamp;
 
 fn empty_state(used: usize) -> State
     ensures { λ r. ⌜ r ≡ emptyState used ⌝ }
@@ -93,206 +74,6 @@ pub fn start(buf: &mut [u8]) -> Written
     }
 }
 
-// A scalar that no check of its own refuses.
-fn write_scalar(s: State, buf: &mut [u8], annotations: &[u8], value: Scalar) -> Written
-    ensures { λ r. ⌜ outcomeOf r (now (buf .exit)) ≡ run (write (sidsOf (now (annotations .entry))) (scalarArgument value)) (config s (now (buf .entry))) ⌝ }
-{
-    let place = place::value_place(s, buf.len());
-    let Answer::Accepted = place else {
-        return Written {
-            answer: place,
-            state: s,
-        };
-    };
-    let put = values::write_scalar(buf, s.used, annotations, value);
-    ended(s, put, false, Refusal::NoRoom)
-}
-
-// A null of each type.
-pub fn write_null(s: State, buf: &mut [u8], annotations: &[u8], t: IonType) -> Written
-    ensures { λ r. ⌜ outcomeOf r (now (buf .exit)) ≡ run (write (sidsOf (now (annotations .entry))) (writeNull (typeOf t))) (config s (now (buf .entry))) ⌝ }
-{
-    write_scalar(s, buf, annotations, Scalar::Null(t))
-}
-
-// 10 or 11.
-pub fn write_bool(s: State, buf: &mut [u8], annotations: &[u8], value: bool) -> Written
-    ensures { λ r. ⌜ outcomeOf r (now (buf .exit)) ≡ run (write (sidsOf (now (annotations .entry))) (writeBool value)) (config s (now (buf .entry))) ⌝ }
-{
-    write_scalar(s, buf, annotations, Scalar::Bool(value))
-}
-
-// An int of 64 bits with its sign.
-pub fn write_i64(s: State, buf: &mut [u8], annotations: &[u8], value: i64) -> Written
-    ensures { λ r. ⌜ outcomeOf r (now (buf .exit)) ≡ run (write (sidsOf (now (annotations .entry))) (writeI64 value)) (config s (now (buf .entry))) ⌝ }
-{
-    write_scalar(s, buf, annotations, Scalar::I64(value))
-}
-
-// An int of any size: its sign, and its magnitude from the highest byte on.
-pub fn write_int(
-    s: State,
-    buf: &mut [u8],
-    annotations: &[u8],
-    negative: bool,
-    magnitude: &[u8],
-) -> Written
-    ensures { λ r. ⌜ outcomeOf r (now (buf .exit))
-        ≡ run (write (sidsOf (now (annotations .entry))) (writeInt negative (now (magnitude .entry)))) (config s (now (buf .entry))) ⌝ }
-{
-    let place = place::value_place(s, buf.len());
-    let Answer::Accepted = place else {
-        return Written {
-            answer: place,
-            state: s,
-        };
-    };
-    let put = values::write_int(buf, s.used, annotations, negative, magnitude);
-    if put == 0 {
-        return Written {
-            answer: Answer::Refused(steps::int_refusal(negative, magnitude)),
-            state: s,
-        };
-    }
-    ended(s, put, false, Refusal::NoRoom)
-}
-
-// A float by the bits of binary32; a NaN keeps its own.
-pub fn write_f32_bits(s: State, buf: &mut [u8], annotations: &[u8], bits: u32) -> Written
-    ensures { λ r. ⌜ outcomeOf r (now (buf .exit)) ≡ run (write (sidsOf (now (annotations .entry))) (writeF32 bits)) (config s (now (buf .entry))) ⌝ }
-{
-    write_scalar(s, buf, annotations, Scalar::F32Bits(bits))
-}
-
-// A float by the bits of binary64, in four bytes where binary32 holds it; a NaN keeps its own.
-pub fn write_f64_bits(s: State, buf: &mut [u8], annotations: &[u8], bits: u64) -> Written
-    ensures { λ r. ⌜ outcomeOf r (now (buf .exit)) ≡ run (write (sidsOf (now (annotations .entry))) (writeF64 bits)) (config s (now (buf .entry))) ⌝ }
-{
-    write_scalar(s, buf, annotations, Scalar::F64Bits(bits))
-}
-
-// A float by its value; a NaN has the bits 7FC00000.
-pub fn write_f32(s: State, buf: &mut [u8], annotations: &[u8], value: f32) -> Written
-    ensures { λ r. ⌜ outcomeOf r (now (buf .exit)) ≡ run (write (sidsOf (now (annotations .entry))) (writeF32 (toBits binary32 value))) (config s (now (buf .entry))) ⌝ }
-{
-    write_scalar(s, buf, annotations, Scalar::F32(value))
-}
-
-// A float by its value; a NaN has the bits 7FF8000000000000.
-pub fn write_f64(s: State, buf: &mut [u8], annotations: &[u8], value: f64) -> Written
-    ensures { λ r. ⌜ outcomeOf r (now (buf .exit)) ≡ run (write (sidsOf (now (annotations .entry))) (writeF64 (toBits binary64 value))) (config s (now (buf .entry))) ⌝ }
-{
-    write_scalar(s, buf, annotations, Scalar::F64(value))
-}
-
-// A decimal: sign, coefficient from the highest byte on, exponent.
-pub fn write_decimal(
-    s: State,
-    buf: &mut [u8],
-    annotations: &[u8],
-    negative: bool,
-    coefficient: &[u8],
-    exponent: i64,
-) -> Written
-    ensures { λ r. ⌜ outcomeOf r (now (buf .exit))
-        ≡ run (write (sidsOf (now (annotations .entry))) (writeDecimal negative (now (coefficient .entry)) exponent)) (config s (now (buf .entry))) ⌝ }
-{
-    let place = place::value_place(s, buf.len());
-    let Answer::Accepted = place else {
-        return Written {
-            answer: place,
-            state: s,
-        };
-    };
-    let put = values::write_decimal(buf, s.used, annotations, negative, coefficient, exponent);
-    if put == 0 {
-        return Written {
-            answer: Answer::Refused(steps::decimal_refusal(negative, coefficient, exponent)),
-            state: s,
-        };
-    }
-    ended(s, put, false, Refusal::NoRoom)
-}
-
-// A timestamp by its local fields and its offset.
-pub fn write_timestamp(s: State, buf: &mut [u8], annotations: &[u8], value: Timestamp) -> Written
-    ensures { λ r. ⌜ outcomeOf r (now (buf .exit)) ≡ run (write (sidsOf (now (annotations .entry))) (argumentOf value)) (config s (now (buf .entry))) ⌝ }
-{
-    let place = place::value_place(s, buf.len());
-    let Answer::Accepted = place else {
-        return Written {
-            answer: place,
-            state: s,
-        };
-    };
-    let put = values::write_timestamp(buf, s.used, annotations, value);
-    if put == 0 {
-        return Written {
-            answer: Answer::Refused(steps::timestamp_refusal(value)),
-            state: s,
-        };
-    }
-    ended(s, put, false, Refusal::NoRoom)
-}
-
-// A symbol by its sid.
-pub fn write_symbol(s: State, buf: &mut [u8], annotations: &[u8], sid: u64) -> Written
-    ensures { λ r. ⌜ outcomeOf r (now (buf .exit)) ≡ run (write (sidsOf (now (annotations .entry))) (writeSymbol sid)) (config s (now (buf .entry))) ⌝ }
-{
-    write_scalar(s, buf, annotations, Scalar::Symbol(sid))
-}
-
-// A string, in UTF-8.
-pub fn write_string(s: State, buf: &mut [u8], annotations: &[u8], bytes: &[u8]) -> Written
-    ensures { λ r. ⌜ outcomeOf r (now (buf .exit)) ≡ run (write (sidsOf (now (annotations .entry))) (writeString (now (bytes .entry)))) (config s (now (buf .entry))) ⌝ }
-{
-    let place = place::value_place(s, buf.len());
-    let Answer::Accepted = place else {
-        return Written {
-            answer: place,
-            state: s,
-        };
-    };
-    let put = values::write_string(buf, s.used, annotations, bytes);
-    if put == 0 {
-        return Written {
-            answer: Answer::Refused(steps::string_refusal(bytes)),
-            state: s,
-        };
-    }
-    ended(s, put, false, Refusal::NoRoom)
-}
-
-// A clob.
-pub fn write_clob(s: State, buf: &mut [u8], annotations: &[u8], bytes: &[u8]) -> Written
-    ensures { λ r. ⌜ outcomeOf r (now (buf .exit)) ≡ run (write (sidsOf (now (annotations .entry))) (writeClob (now (bytes .entry)))) (config s (now (buf .entry))) ⌝ }
-{
-    let place = place::value_place(s, buf.len());
-    let Answer::Accepted = place else {
-        return Written {
-            answer: place,
-            state: s,
-        };
-    };
-    let put = values::write_clob(buf, s.used, annotations, bytes);
-    ended(s, put, false, Refusal::NoRoom)
-}
-
-// A blob.
-pub fn write_blob(s: State, buf: &mut [u8], annotations: &[u8], bytes: &[u8]) -> Written
-    ensures { λ r. ⌜ outcomeOf r (now (buf .exit)) ≡ run (write (sidsOf (now (annotations .entry))) (writeBlob (now (bytes .entry)))) (config s (now (buf .entry))) ⌝ }
-{
-    let place = place::value_place(s, buf.len());
-    let Answer::Accepted = place else {
-        return Written {
-            answer: place,
-            state: s,
-        };
-    };
-    let put = values::write_blob(buf, s.used, annotations, bytes);
-    ended(s, put, false, Refusal::NoRoom)
-}
-
 // A field name: its sid as a VarUInt.
 pub fn field_name(s: State, buf: &mut [u8], sid: u64) -> Written
     ensures { λ r. ⌜ outcomeOf r (now (buf .exit)) ≡ run (name sid) (config s (now (buf .entry))) ⌝ }
@@ -305,7 +86,7 @@ pub fn field_name(s: State, buf: &mut [u8], sid: u64) -> Written
         };
     };
     let put = fields::var_uint::write(buf, s.used, sid);
-    ended(s, put, true, Refusal::NoRoom)
+    steps::ended(s, put, true, Refusal::NoRoom)
 }
 
 // The state behind an opening that has put `put` bytes, its header's reserve last.
@@ -443,7 +224,7 @@ pub fn version_marker(s: State, buf: &mut [u8]) -> Written
         };
     };
     let put = buffer::copy(buf, s.used, &MARKER);
-    ended(s, put, s.waiting, Refusal::NoRoom)
+    steps::ended(s, put, s.waiting, Refusal::NoRoom)
 }
 
 // An emptying: the used length becomes zero, and no byte alters.

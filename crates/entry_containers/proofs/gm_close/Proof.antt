@@ -45,10 +45,11 @@ returns c =
     let p = c .before .before .before .before in
     let a = p .before .before .before .before .before .args in
     let s = stateOf (a .state .now) in
-    let f = sym (p .close-passes .ensures) ∙ not-true _ (c .before .before .before .if1 .taken) in
-    (barred-entry closing (a .state .now) (a .buf .now) (not (isOpen (openContainers s)) || s .waiting) (roomLine closing (a .state .now) (a .buf .now)) refl
-    (c .before .close-place .result) (c .answered .result) f (c .before .close-place .ensures) (c .answered .ensures),
-    close-barred (a .state .now) (a .buf .now) f (a .closed .now))
+    let f = sym (p .close-passes .ensures) ∙ not-true _ (c .before .before .before .if1 .taken) in (
+      barred-entry closing (a .state .now) (a .buf .now) (not (isOpen (openContainers s)) || s .waiting) (roomLine closing (a .state .now) (a .buf .now)) refl
+          (c .before .close-place .result) (c .answered .result) f (c .before .close-place .ensures) (c .answered .ensures),
+      close-barred (a .state .now) (a .buf .now) f (a .closed .now),
+    )
 
 depth-requires : tie.Need-depth-requires
 depth-requires c κs = search needs
@@ -82,9 +83,10 @@ returns-2 c =
     let w = c .before .before .before .before in
     let e = w .before .before .before .before .before .before .before .before in
     let a = e .before .before .before .before .before .before .args in
-    let t = c .before .if2 .taken in
-    (rw (c .number-of .ensures) (close-full (a .state .now) (a .buf .now) (passed e) (w .close .result) (w .close .last .0) (spliced w) t),
-    close-silent (a .state .now) (a .buf .now) (passed e) (w .close .result) (w .close .last .0) (spliced w) t (a .closed .now))
+    let t = c .before .if2 .taken in (
+      rw (c .number-of .ensures) (close-full (a .state .now) (a .buf .now) (passed e) (w .close .result) (w .close .last .0) (spliced w) t),
+      close-silent (a .state .now) (a .buf .now) (passed e) (w .close .result) (w .close .last .0) (spliced w) t (a .closed .now),
+    )
 
 sub-answer : tie.Need-sub-answer
 sub-answer c =
@@ -120,12 +122,13 @@ returns-3 c =
     let w = c .before .before .before .before .before .before .before .before .before .before .before .before in
     let e = w .before .before .before .before .before .before .before .before in
     let a = e .before .before .before .before .before .before .args in
-    let h = c .before .before .before .before .before .before .before .before .before .if2 .left in
-    (rw (c .before .before .store .ensures, w .before .before .before .before .before .before .depth .ensures)
-    (close-done (a .state .now) (a .buf .now) (passed e) (w .close .result) (w .close .last .0) (spliced w) h),
-    c .before .before .before .before .before .before .answer .ensures
-    ∙ rw (w .before .before .before .before .container .ensures, w .before .before .before .before .before .before .depth .ensures)
-    (close-answered (a .state .now) (a .buf .now) (passed e) (w .close .result) (w .close .last .0) (spliced w) h (a .closed .now)))
+    let h = c .before .before .before .before .before .before .before .before .before .if2 .left in (
+      rw (c .before .before .store .ensures, w .before .before .before .before .before .before .depth .ensures)
+          (close-done (a .state .now) (a .buf .now) (passed e) (w .close .result) (w .close .last .0) (spliced w) h),
+      c .before .before .before .before .before .before .answer .ensures
+          ∙ rw (w .before .before .before .before .container .ensures, w .before .before .before .before .before .before .depth .ensures)
+          (close-answered (a .state .now) (a .buf .now) (passed e) (w .close .result) (w .close .last .0) (spliced w) h (a .closed .now)),
+    )
 
 pub gm-close-spec : {M : Type 1} → statement M
 gm-close-spec =

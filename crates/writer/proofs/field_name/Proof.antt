@@ -33,10 +33,7 @@ write-requires : tie.Need-write-requires
 write-requires c κs = search needs
 
 ended-requires : tie.Need-ended-requires
-ended-requires c κs = λ h.
-    let w = c .before .before in
-    let a = w .before .before .before .before .before .before .args in
-    omega (arith, put-fits (a .buf .now) (a .s .used) (varUIntBytes (a .sid)) (w .write .result) (w .write .last .0) (w .write .ensures) h)
+ended-requires c κs = search needs
 
 same-length : tie.Need-same-length
 same-length c = search needs
@@ -49,7 +46,8 @@ returns-2 c =
     let past =
     passed-place (name (a .sid)) (a .s) (a .buf .now) (not (inStruct (openContainers (a .s))) || a .s .waiting) (roomLine (name (a .sid)) (a .s) (a .buf .now))
     refl (p .name-place .result) (p .name-place .ensures) (w .before .before .enum-told .given .1) in
-    ended-run (c .ended .result) (name (a .sid)) (a .s) (a .buf .now) (w .write .result) (w .write .last .0) true NoRoom (c .ended .ensures)
+    ended-run (c .ended .result) (name (a .sid)) (a .s) (a .buf .now) (w .write .result) (w .write .last .0) true NoRoom
+    (λ h. omega (arith, put-fits (a .buf .now) (a .s .used) (varUIntBytes (a .sid)) (w .write .result) (w .write .last .0) (w .write .ensures) h)) (c .ended .ensures)
     (end-run (name (a .sid)) (a .s) (a .buf .now) (varUIntBytes (a .sid)) _ _ true (w .write .ensures) past (varUInt-least (a .sid)) refl refl)
 
 pub field-name-spec : {M : Type 1} → statement M

@@ -1,10 +1,10 @@
--- `writer::write_i64` meets its contract: the scalar's, its number read back from its bits.
+-- `value_writer::write_i64` meets its contract: the scalar's, its number read back from its bits.
 -- Assumes nothing.
 use mir.Syntax.{w64}
 use mir.ValLaws.{toZ-ofZ}
 use borrow.Author.Needs.{needs}
-use Rattle.writer.proofs.write_i64.Statement.{statement}
-use Rattle.writer.proofs.write_i64.Tie as tie
+use Rattle.value_writer.proofs.write_i64.Statement.{statement}
+use Rattle.value_writer.proofs.write_i64.Tie as tie
 
 write-scalar-requires : tie.Need-write-scalar-requires
 write-scalar-requires c κs = search needs

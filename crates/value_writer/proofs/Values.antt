@@ -1,6 +1,7 @@
 -- What the calls that write a scalar cite: refused by place, by one of the value's own checks or for room, or put at the end of the used bytes.
 -- Assumes nothing.
-use Prim.Native.Nat.{ℕ, _+_, _≤_}
+use Prim.Native.Nat.{ℕ, _+_, _^_, _<_, _≤_}
+use native.Mathlib.Omega.{arith}
 use mathlib.Core.Path.{_≡_, refl}
 use mathlib.Core.Bool.{false}
 use mathlib.Core.List.{List}
@@ -45,6 +46,6 @@ module _ {an : List ℕ} {a : Argument} {s : State} {b : List ℕ} {n : ℕ} {l 
   pub value-refused : (why : Refusal) → n ≡ 0 → refused (number why) ≡ ownRefusal a → outcome (refused (number why)) s l ≡ run (write an a) (config s b)
   value-refused why z r = ends why (λ y. r) .none z
 
-  pub value-ended : (why : Refusal) → (n ≡ 0 → refused (number why) ≡ ownRefusal a) → (r : Written) → Ended r s n false why
+  pub value-ended : length b < 2 ^ 64 → (why : Refusal) → (n ≡ 0 → refused (number why) ≡ ownRefusal a) → (r : Written) → Ended r s n false why
       → outcomeOf r l ≡ run (write an a) (config s b)
-  value-ended why own r e = ended-run r (write an a) s b n l false why e (ends why own)
+  value-ended short why own r e = ended-run r (write an a) s b n l false why (λ h. omega (arith, value-fits h)) e (ends why own)

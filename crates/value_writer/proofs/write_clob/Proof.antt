@@ -1,4 +1,4 @@
--- `writer::write_clob` meets its contract: refused by place, or for room, or put at the end of the used bytes.
+-- `value_writer::write_clob` meets its contract: refused by place, or for room, or put at the end of the used bytes.
 -- Assumes nothing.
 use native.Mathlib.Omega.{arith}
 use mathlib.Core.Path.{refl}
@@ -6,10 +6,10 @@ use Rattle.encoding.specs.Argument.{writeClob}
 use Rattle.steps.proofs.Scalars.{unchecked}
 use Rattle.annotations.specs.Sids.{sidsOf}
 use Rattle.machine.specs.declared.Refusal.the-variants.{NoRoom}
-use Rattle.writer.proofs.Values.{Put, value-barred, value-put, value-fits, value-ended}
+use Rattle.value_writer.proofs.Values.{Put, value-barred, value-put, value-ended}
 use borrow.Author.Needs.{needs}
-use Rattle.writer.proofs.write_clob.Statement.{statement}
-use Rattle.writer.proofs.write_clob.Tie as tie
+use Rattle.value_writer.proofs.write_clob.Statement.{statement}
+use Rattle.value_writer.proofs.write_clob.Tie as tie
 
 -- what the leaf has put
 put : (c : tie.After-write-clob) → let a = c .before .before .before .before .before .before .before .before .args in
@@ -39,13 +39,13 @@ write-clob-requires : tie.Need-write-clob-requires
 write-clob-requires c κs = search needs
 
 ended-requires : tie.Need-ended-requires
-ended-requires c κs = λ h. omega (arith, value-fits (put (c .before .before)) h)
+ended-requires c κs = search needs
 
 same-length : tie.Need-same-length
 same-length c = search needs
 
 returns-2 : tie.Need-returns-2
-returns-2 c = value-ended (put (c .before .before .before)) NoRoom (λ z. unchecked _ refl) (c .ended .result) (c .ended .ensures)
+returns-2 c = value-ended (put (c .before .before .before)) (omega arith) NoRoom (λ z. unchecked _ refl) (c .ended .result) (c .ended .ensures)
 
 pub write-clob-spec : {M : Type 1} → statement M
 write-clob-spec =

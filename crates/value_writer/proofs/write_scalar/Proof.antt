@@ -1,14 +1,14 @@
--- `writer::write_scalar` meets its contract: refused by place, or for room, or put at the end of the used bytes.
+-- `value_writer::write_scalar` meets its contract: refused by place, or for room, or put at the end of the used bytes.
 -- Assumes nothing.
 use native.Mathlib.Omega.{arith}
 use Rattle.scalars.specs.Types.{scalarArgument}
 use Rattle.steps.proofs.Scalars.{unchecked, scalar-unchecked}
 use Rattle.annotations.specs.Sids.{sidsOf}
 use Rattle.machine.specs.declared.Refusal.the-variants.{NoRoom}
-use Rattle.writer.proofs.Values.{Put, value-barred, value-put, value-fits, value-ended}
+use Rattle.value_writer.proofs.Values.{Put, value-barred, value-put, value-ended}
 use borrow.Author.Needs.{needs}
-use Rattle.writer.proofs.write_scalar.Statement.{statement}
-use Rattle.writer.proofs.write_scalar.Tie as tie
+use Rattle.value_writer.proofs.write_scalar.Statement.{statement}
+use Rattle.value_writer.proofs.write_scalar.Tie as tie
 
 -- what the leaf has put
 put : (c : tie.After-write-scalar) → let a = c .before .before .before .before .before .before .before .args in
@@ -38,13 +38,13 @@ write-scalar-requires : tie.Need-write-scalar-requires
 write-scalar-requires c κs = search needs
 
 ended-requires : tie.Need-ended-requires
-ended-requires c κs = λ h. omega (arith, value-fits (put (c .before .before)) h)
+ended-requires c κs = search needs
 
 same-length : tie.Need-same-length
 same-length c = search needs
 
 returns-2 : tie.Need-returns-2
-returns-2 c = value-ended (put (c .before .before .before)) NoRoom (λ z. unchecked _ (scalar-unchecked (c .before .before .before .before .before .before .before .before .before .before .args .value))) (c .ended .result) (c .ended .ensures)
+returns-2 c = value-ended (put (c .before .before .before)) (omega arith) NoRoom (λ z. unchecked _ (scalar-unchecked (c .before .before .before .before .before .before .before .before .before .before .args .value))) (c .ended .result) (c .ended .ensures)
 
 pub write-scalar-spec : {M : Type 1} → statement M
 write-scalar-spec =
