@@ -1,4 +1,4 @@
--- `entry_scalars::gm_write_blob` meets its contract: refused by place or for room, or put at the end of the used bytes.
+-- `entry_slices::gm_write_blob` meets its contract: refused by place or for room, or put at the end of the used bytes.
 -- Assumes nothing.
 use mathlib.Core.Path.{refl, sym, _∙_}
 use borrow.Author.Tests.{not-true, not-false}
@@ -8,8 +8,8 @@ use Rattle.machine.specs.declared.Refusal.the-variants.{NoRoom}
 use Rattle.steps.specs.Refused.{ownRefusal}
 use Rattle.entry_steps.proofs.Values.{value-barred, value-ended}
 use borrow.Author.Needs.{needs}
-use Rattle.entry_scalars.proofs.gm_write_blob.Statement.{statement}
-use Rattle.entry_scalars.proofs.gm_write_blob.Tie as tie
+use Rattle.entry_slices.proofs.gm_write_blob.Statement.{statement}
+use Rattle.entry_slices.proofs.gm_write_blob.Tie as tie
 
 value-passes-requires : tie.Need-value-passes-requires
 value-passes-requires c κs = search needs
