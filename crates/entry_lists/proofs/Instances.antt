@@ -8,7 +8,7 @@ use lib.ListN.{replicate}
 use lib.IntN.{pos, negsuc}
 use lib.Ieee.{ofBits, toBits, isNan}
 use lib.Ieee.{fits as holds}
-use Rattle.buffer.specs.Laid.{laid}
+use Rattle.buffer.specs.Laid.{laid, placed}
 use Rattle.ion.specs.Fields.{bigEndian}
 use Rattle.ion.specs.Text.{begun, utf8From, utf8}
 use Rattle.ion.specs.Scalars.{floatOf, areFields}
@@ -23,13 +23,13 @@ use Rattle.annotations.specs.Sids.{leastFirst, sidAt, sidsUpTo, sidsOf}
 use Rattle.machine.specs.Machine.{closedBytes, splice, containerFits, containersFit, fits, verdict, startVerdict, finishedLength, run}
 use Rattle.machine.specs.Demands.{ReadsOnlyAs}
 use Rattle.machine.proofs.Instances.{most, nines, bytes, items}
-use Rattle.state_bytes.specs.StateBytes.{stateSize, stateOf, containersFrom, storedHead, storedContainer, entered}
+use Rattle.state_bytes.specs.StateBytes.{stateSize, stateOf, containersFrom, storedHead, storedContainer, entered, numbersLaid, answered}
 use Rattle.entry_numbers.specs.Lent.{typeCoded, precisionNumbered, offsetLent, fractionLent}
 use Rattle.entry_numbers.specs.EntryCall.{gmWriteNull, gmWriteBool, gmWriteI64, gmWriteInt, gmWriteF32, gmWriteF64, gmWriteDecimal, gmWriteTimestamp, gmWriteSymbol}
 use Rattle.entry_numbers.specs.EntryCall.{gmWriteString, gmWriteClob, gmWriteBlob, gmFieldName, gmOpenList, gmOpenSexp, gmOpenStruct}
 use Rattle.entry_numbers.specs.EntryCall.{gmClose, gmAbandon, gmVersionMarker, gmFinished, gmEmpty, TimestampNumbers, AllU8, TimestampTyped, HostCall}
 use Rattle.entry_steps.specs.Entries.{startEntered}
-use Rattle.entry_lists.specs.Demands.{lentStarted, lentJoined, lentModelAfter, lentSpelling, lentWritten, LentRun}
+use Rattle.entry_lists.specs.Demands.{Lent, lentAfter, lentStarted, lentJoined, lentModelAfter, lentSpelling, lentWritten, LentRun}
 use Rattle.entry_lists.proofs.Demands.{entry-demand2, entry-demand3}
 
 -- ---- the calls
@@ -155,3 +155,20 @@ entry-instance2 = sym (entry-demand2 hostLimits sevens nines (limits .run)) ∙ 
 
 entry-instance3 : ReadsOnlyAs bytes items
 entry-instance3 = subst₂ ReadsOnlyAs (limits .joined) (limits .spelled) (entry-demand3 hostLimits sevens nines (limits .run))
+
+-- ---- what a closing answers in the slice that is lent for it: E3 81 8A B0 is four bytes long
+
+abbrev opened : Lent
+opened = lentAfter (gmOpenList (10 ∷ [])) (lentStarted sevens nines)
+
+-- whole; a slice of three bytes holds no number; with none open the closing is refused
+record Answers : Type 0 where
+  whole : answered (opened .state) (opened .buffer) (9 ∷ 9 ∷ 9 ∷ 9 ∷ 9 ∷ []) ≡ 4 ∷ 0 ∷ 0 ∷ 0 ∷ 9 ∷ []
+  short : answered (opened .state) (opened .buffer) (9 ∷ 9 ∷ 9 ∷ []) ≡ 9 ∷ 9 ∷ 9 ∷ []
+  refused : let w = lentStarted sevens nines in answered (w .state) (w .buffer) (9 ∷ 9 ∷ 9 ∷ 9 ∷ []) ≡ 9 ∷ 9 ∷ 9 ∷ 9 ∷ []
+
+answers : Answers
+unfolding answered numbersLaid placed entered startEntered run stateOf containersFrom storedHead storedContainer laid sidsOf sidsUpTo sidAt leastFirst
+    verdict startVerdict fits containerFits containersFit splice closedBytes annotatedBytes annotationBytes framedBytes headerBytes varUIntsBytes
+    varUIntBytes digits digitCount countDigits lowDigits
+answers = record { whole = refl; short = refl; refused = refl }

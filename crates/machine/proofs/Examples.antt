@@ -18,7 +18,7 @@ use Rattle.encoding.specs.Decimal.{decimalBody}
 use Rattle.encoding.specs.Timestamp.{dayBefore, dayAfter, isTimestamp, timestampBody}
 use Rattle.encoding.specs.Argument.{writeBool, writeI64, writeInt, writeDecimal, writeTimestamp, writeString, argumentBytes}
 use Rattle.machine.specs.Call.{sequenceType, structType, Call, write, name, opening, closing, abandonment, versionMarker, taking, emptying}
-use Rattle.machine.specs.Machine.{Config, closedBytes, splice, containerFits, containersFit, fits, Verdict, accepted, refused, verdict, after, emptyState, startVerdict, started, finishedLength, taken}
+use Rattle.machine.specs.Machine.{Config, closedBytes, splice, containerFits, containersFit, fits, Verdict, accepted, refused, verdict, after, emptyState, startVerdict, started, finishedLength, taken, run}
 use Rattle.machine.specs.Demands.{joined}
 
 -- the answers to a list of calls
@@ -42,6 +42,15 @@ calls-joined = refl
 calls-verdicts : verdicts calls (started nines) ≡ accepted ∷ accepted ∷ accepted ∷ refused 3 ∷ accepted ∷ accepted ∷ accepted ∷ accepted ∷ accepted ∷ accepted ∷ accepted ∷ accepted ∷ []
 unfolding verdicts calls nines verdict startVerdict fits containerFits containersFit splice closedBytes argumentBytes annotatedBytes annotationBytes framedBytes headerBytes uintBytes varUIntsBytes varUIntBytes digits digitCount countDigits lowDigits
 calls-verdicts = refl
+
+-- what each call answers of a container: only the closing does
+unfoldable pub sizes : List Call → Config → List ℕ
+sizes [] w = []
+sizes (c ∷ cs) w = run c w .figures .size ∷ sizes cs (after c w)
+
+calls-sizes : sizes calls (started nines) ≡ 0 ∷ 0 ∷ 0 ∷ 0 ∷ 6 ∷ 0 ∷ 0 ∷ 0 ∷ 0 ∷ 0 ∷ 0 ∷ 0 ∷ []
+unfolding sizes run calls nines verdict startVerdict fits containerFits containersFit splice closedBytes argumentBytes annotatedBytes annotationBytes framedBytes headerBytes uintBytes varUIntsBytes varUIntBytes digits digitCount countDigits lowDigits
+calls-sizes = refl
 
 -- a list of 128 bytes: its header grows by one byte over the reserve
 long : List Call
