@@ -45,13 +45,21 @@ pub allHold-append : (rs ts : List TimestampRule) → allHold (rs ++ ts) ≡ (al
 allHold-append [] ts = refl
 allHold-append (r ∷ rs) ts = rw (allHold-append rs ts, and-assoc)
 
-offset-rules : (o : Option ℤ) (fs : List ℕ) → allHold (offsetRules o fs) ≡ offsetFits o fs
+pub offset-rules : (o : Option ℤ) (fs : List ℕ) → isNone (firstBad (offsetRules o fs)) ≡ offsetFits o fs
 offset-rules none fs = refl
-offset-rules (some z) fs = and-true (offsetFits (some z) fs)
+offset-rules (some z) fs = none-bad (offsetRules (some z) fs) ∙ and-true (offsetFits (some z) fs)
 
-fraction-rules : (x : Fraction) (fs : List ℕ) → allHold (fractionRules x fs) ≡ fractionFits x fs
+pub fraction-rules : (x : Fraction) (fs : List ℕ) → isNone (firstBad (fractionRules x fs)) ≡ fractionFits x fs
 fraction-rules noFraction fs = refl
-fraction-rules (fraction k c) fs = simp (and-true, and-assoc)
+fraction-rules (fraction k c) fs = none-bad (fractionRules (fraction k c) fs) ∙ simp (and-true, and-assoc)
+
+pub isTimestamp-rules : (o : Option ℤ) (fs : List ℕ) (x : Fraction) →
+    isTimestamp o fs x ≡ (isPrecision (length fs) && (allHold (fieldRules fs) && (offsetFits o fs && fractionFits x fs)))
+unfolding isTimestamp
+isTimestamp-rules o fs x =
+    let os = offsetRules o fs in
+    let xs = fractionRules x fs in
+    rw (none-bad (timestampRules o fs x), allHold-append (fieldRules fs) (os ++ xs), allHold-append os xs, ← offset-rules o fs, ← fraction-rules x fs, none-bad os, none-bad xs)
 
 -- a year that the writer takes is one that the grammar has
 year-first : (y : ℕ) (b : Bool) → ((isYear y && b) && (leb 1 y && leb y 9999)) ≡ ((leb 1 y && leb y 9999) && b)
@@ -72,11 +80,13 @@ field-rules (y ∷ m ∷ d ∷ h ∷ i ∷ []) = sym (year-first y (isDay y m d 
 field-rules (y ∷ m ∷ d ∷ h ∷ i ∷ s ∷ []) = sym (year-first y (isDay y m d && (ltb h 24 && (ltb i 60 && ltb s 60))) ∙ simp (and-true, and-assoc))
 field-rules (y ∷ m ∷ d ∷ h ∷ i ∷ s ∷ x ∷ r) = let n = length (y ∷ m ∷ d ∷ h ∷ i ∷ s ∷ x ∷ r) in rw (le-leb 1 n (omega arith), lt-leb n 6 (omega arith))
 
-pub isTimestamp-areFields : (o : Option ℤ) (fs : List ℕ) (x : Fraction) → isTimestamp o fs x ≡ (areFields fs && (isLocalYear fs && (offsetFits o fs && fractionFits x fs)))
-unfolding isTimestamp
+pub isTimestamp-areFields : (o : Option ℤ) (fs : List ℕ) (x : Fraction) →
+    isTimestamp o fs x ≡ (areFields fs && (isLocalYear fs && (offsetFits o fs && fractionFits x fs)))
 isTimestamp-areFields o fs x =
-    rw (none-bad (timestampRules o fs x), allHold-append (fieldRules fs) (offsetRules o fs ++ fractionRules x fs), allHold-append (offsetRules o fs) (fractionRules x fs), offset-rules o fs, fraction-rules x fs)
-    (sym (and-assoc (isPrecision (length fs)) (allHold (fieldRules fs)) (offsetFits o fs && fractionFits x fs)) ∙ rw (field-rules fs) (and-assoc (areFields fs) (isLocalYear fs) (offsetFits o fs && fractionFits x fs)))
+    let r = offsetFits o fs && fractionFits x fs in
+    isTimestamp-rules o fs x
+    ∙ sym (and-assoc (isPrecision (length fs)) (allHold (fieldRules fs)) r)
+    ∙ rw (field-rules fs) (and-assoc (areFields fs) (isLocalYear fs) r)
 
 -- what a timestamp that passes tells
 pub record Passed (o : Option ℤ) (fs : List ℕ) (x : Fraction) : Type 0 where
