@@ -8,7 +8,7 @@ ghost use lib.Dec.{ltb, leb};
 ghost use lib.ListN.{length};
 ghost use lib.IntN.{natAbs};
 ghost use Rattle.ion.specs.Calendar.{isLeapYear, daysInMonth};
-ghost use Rattle.buffer.specs.Laid.{placed, fitted};
+ghost use Rattle.buffer.specs.Laid.{placed};
 ghost use Rattle.encoding.specs.Fields.{varUIntBytes, varUIntsBytes};
 ghost use Rattle.encoding.specs.Argument.{checkedBytes};
 ghost use Rattle.encoding.specs.Timestamp.{offsetBytes, fractionBytes, dayBefore, dayAfter, utcMinutes, utcDay, utcFields, utc};
@@ -464,21 +464,17 @@ fn put_value(buf: &mut [u8], at: usize, t: Timestamp) -> usize
     header + put_body(buf, at + header, t)
 }
 
-// The bytes that `t` takes, header and body, where they are at most `room`; none where it does not pass check 7.
+// The bytes that `t` takes, header and body; none where it does not pass check 7.
 // Of the UTC fields only the year can take another count of bytes than the local one.
-pub fn size(t: Timestamp, room: usize) -> usize
-    ensures { λ r. ⌜ r ≡ fitted room (checkedBytes (argumentOf t)) ⌝ }
+pub fn size(t: Timestamp) -> usize
+    ensures { λ r. ⌜ r ≡ length (checkedBytes (argumentOf t)) ⌝ }
 {
     if !is_valid(t) {
         return 0;
     }
     let mut by_year = t;
     by_year.year = utc_year(t);
-    let size = value_size(by_year);
-    if room < size {
-        return 0;
-    }
-    size
+    value_size(by_year)
 }
 
 // Header and body: the offset as a VarInt, the UTC fields as VarUInts, then any fraction as a decimal's body.
