@@ -15,7 +15,7 @@ use Rattle.ion.proofs.Readings.{bytesBefore, hex}
 use Rattle.encoding.specs.Digits.{lowDigits}
 use Rattle.encoding.specs.Fields.{fixedBytes}
 use Rattle.encoding.specs.Timestamp.{TimestampField, yearField, monthField, dayField, hourField, minuteField, secondField, offsetField}
-use Rattle.encoding.specs.Timestamp.{digitCountField, coefficientField, TimestampRule, timestampRules, firstBad}
+use Rattle.encoding.specs.Timestamp.{digitCountField, coefficientField, timestampRules, firstBad}
 use Rattle.encoding.specs.Argument.{writeNull, writeF64, float32Bytes, narrows, float64Bytes, argumentBytes}
 
 abbrev types : List IonType

@@ -1,14 +1,14 @@
 -- Check 7 by the fields of the grammar: a timestamp that the writer takes has fields that the grammar has, with a year of 1 to 9999, and an offset
 -- and a fraction that fit them. By cases on how many fields there are. Assumes nothing.
-use Prim.Native.Nat.{ℕ, suc, _^_}
+use Prim.Native.Nat.{ℕ, _^_}
 use native.Mathlib.Omega.{arith}
-use mathlib.Core.Path.{_≡_, refl, sym, _∙_, ap}
+use mathlib.Core.Path.{_≡_, refl, sym, _∙_}
 use mathlib.Core.Bool.{Bool, true, false, _&&_, and-assoc, and-true, and-false}
 use mathlib.Core.List.{List, [], _∷_, _++_}
 use mathlib.Core.Option.{Option, none, some}
 use lib.Dec.{ltb, leb, eqb}
 use lib.ListN.{length}
-use lib.IntN.{ℤ, pos, negsuc, natAbs}
+use lib.IntN.{ℤ, natAbs}
 use borrow.Author.Tests.{leb-true, le-leb, lt-leb}
 use Rattle.ion.specs.Value.{Fraction, noFraction, fraction}
 use Rattle.ion.specs.Calendar.{isMonth, isDay}

@@ -94,13 +94,10 @@ secondRule s = record { field = secondField; value = pos s; holds = ltb s 60 }
 
 -- as far as the precision goes
 abbrev pub fieldRules : List ℕ → List TimestampRule
-fieldRules [] = []
-fieldRules (y ∷ []) = yearRule y ∷ []
-fieldRules (y ∷ m ∷ []) = yearRule y ∷ monthRule m ∷ []
-fieldRules (y ∷ m ∷ d ∷ []) = yearRule y ∷ monthRule m ∷ dayRule y m d ∷ []
-fieldRules (y ∷ m ∷ d ∷ h ∷ []) = yearRule y ∷ monthRule m ∷ dayRule y m d ∷ hourRule h ∷ []
-fieldRules (y ∷ m ∷ d ∷ h ∷ i ∷ []) = yearRule y ∷ monthRule m ∷ dayRule y m d ∷ hourRule h ∷ minuteRule i ∷ []
-fieldRules (y ∷ m ∷ d ∷ h ∷ i ∷ s ∷ r) = yearRule y ∷ monthRule m ∷ dayRule y m d ∷ hourRule h ∷ minuteRule i ∷ secondRule s ∷ []
+fieldRules fs =
+    let at : ℕ → ℕ = λ i. getD fs i 0 in
+    take (length fs)
+    (yearRule (at 0) ∷ monthRule (at 1) ∷ dayRule (at 0) (at 1) (at 2) ∷ hourRule (at 3) ∷ minuteRule (at 4) ∷ secondRule (at 5) ∷ [])
 
 -- offset unknown or -1439 to 1439 minutes; a known offset needs minute or second precision
 abbrev pub offsetRules : Option ℤ → List ℕ → List TimestampRule
@@ -115,6 +112,7 @@ fractionRules (fraction k c) fs =
     ∷ record { field = coefficientField; value = pos c; holds = ltb c (10 ^ k) }
     ∷ []
 
+-- in the order in which they answer
 abbrev pub timestampRules : Option ℤ → List ℕ → Fraction → List TimestampRule
 timestampRules offset fs x = fieldRules fs ++ (offsetRules offset fs ++ fractionRules x fs)
 

@@ -3,16 +3,14 @@
 use Prim.Native.Nat.{ℕ, zero, suc, _^_, _≤_, _<_}
 use native.Mathlib.Omega.{arith}
 use mathlib.Core.Path.{_≡_, refl, sym, _∙_}
-use mathlib.Core.Bool.{Bool, true, false, cond, _&&_, _||_, and-assoc, and-true, and-false}
-use mathlib.Core.List.{List, [], _∷_}
+use mathlib.Core.Bool.{Bool, true, false, cond, _&&_, _||_, and-assoc, and-true}
 use mathlib.Core.Option.{Option, some}
-use borrow.Author.Tests.{leb-true, ltb-true, le-leb, lt-leb, le-ltb}
+use borrow.Author.Tests.{leb-true, ltb-true, lt-leb, le-ltb}
 use lib.Dec.{leb, ltb}
 use lib.ListN.{length}
-use lib.IntN.{ℤ, pos, negsuc, natAbs}
+use lib.IntN.{ℤ, natAbs}
 use Rattle.ion.specs.Value.{Fraction}
 use Rattle.ion.specs.Calendar.{daysInMonth, isMonth}
-use Rattle.ion.specs.Scalars.{isYear, areFields}
 use Rattle.ion.proofs.Tests.{both}
 use Rattle.encoding.specs.Timestamp.{timestampRules, firstBad, isNone, isTimestamp}
 use Rattle.encoding.proofs.Rules.{offsetFits, fractionFits, isTimestamp-rules}
