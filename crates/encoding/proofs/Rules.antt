@@ -2,7 +2,7 @@
 -- and a fraction that fit them. By cases on how many fields there are. Assumes nothing.
 use Prim.Native.Nat.{ℕ, _^_}
 use native.Mathlib.Omega.{arith}
-use mathlib.Core.Path.{_≡_, refl, sym, _∙_}
+use mathlib.Core.Path.{_≡_, refl, sym, _∙_, ap}
 use mathlib.Core.Bool.{Bool, true, false, _&&_, and-assoc, and-true, and-false}
 use mathlib.Core.List.{List, [], _∷_, _++_}
 use mathlib.Core.Option.{Option, none, some}
@@ -59,7 +59,10 @@ unfolding isTimestamp
 isTimestamp-rules o fs x =
     let os = offsetRules o fs in
     let xs = fractionRules x fs in
-    rw (none-bad (timestampRules o fs x), allHold-append (fieldRules fs) (os ++ xs), allHold-append os xs, ← offset-rules o fs, ← fraction-rules x fs, none-bad os, none-bad xs)
+    ap (λ (b : Bool). isPrecision (length fs) && b)
+    (none-bad (timestampRules o fs x)
+    ∙ allHold-append (fieldRules fs) (os ++ xs)
+    ∙ rw (allHold-append os xs, ← offset-rules o fs, ← fraction-rules x fs, none-bad os, none-bad xs))
 
 -- a year that the writer takes is one that the grammar has
 year-first : (y : ℕ) (b : Bool) → ((isYear y && b) && (leb 1 y && leb y 9999)) ≡ ((leb 1 y && leb y 9999) && b)

@@ -1,6 +1,6 @@
 -- `timestamp::size` meets its contract: none where check 7 refuses, else header and body by the UTC year.
 -- Assumes nothing.
-use mathlib.Core.Path.{_≡_, sym, _∙_, ap}
+use mathlib.Core.Path.{_≡_, sym, _∙_, ap, subst}
 use Prim.Native.Nat.{ℕ}
 use mathlib.Core.Bool.{true}
 use mathlib.Core.List.{[], _∷_}
@@ -9,7 +9,7 @@ use lib.ListN.{length}
 use Rattle.encoding.specs.Timestamp.{isTimestamp}
 use Rattle.timestamp.specs.Arguments.{offsetMinutes, fractionDigits, fieldsOf}
 use Rattle.timestamp.specs.Utc.{withFields}
-use Rattle.timestamp.specs.Small.{valueOf}
+use Rattle.timestamp.specs.Small.{Small, valueOf}
 use Rattle.timestamp.proofs.Small.{utc-year-small}
 use Rattle.timestamp.proofs.Checked.{refused, accepted-size}
 use borrow.Author.Needs.{needs}
@@ -31,7 +31,9 @@ utc-year-requires c κs = passes c
 
 value-size-requires : tie.Need-value-size-requires
 unfolding withFields
-value-size-requires c κs = rw (c .utc-year .ensures) (utc-year-small (c .before .before .before .args .t) (passes (c .before)))
+value-size-requires c κs =
+    let t = c .before .before .before .args .t in
+    subst (λ (y : ℕ). Small (withFields t (y ∷ []))) (sym (c .utc-year .ensures)) (utc-year-small t (passes (c .before)))
 
 returns-2 : tie.Need-returns-2
 unfolding withFields
