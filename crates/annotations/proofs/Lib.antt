@@ -1,3 +1,2 @@
-pub mod Fitted
 pub mod Prefix
 pub mod Sids

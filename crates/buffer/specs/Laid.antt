@@ -13,7 +13,3 @@ laid b at out = take at b ++ (out ++ drop (at + length out) b)
 -- How many bytes were put, and the buffer; where they do not fit, none, and the buffer as it was.
 unfoldable pub placed : List ℕ → ℕ → List ℕ → ℕ × List ℕ
 placed b at out = elim (leb (at + length out) (length b)) [ true ↦ (length out, laid b at out) | false ↦ (0, b) ]
-
--- How many bytes there are, where they fit into `room`; none otherwise.
-unfoldable pub fitted : ℕ → List ℕ → ℕ
-fitted room out = elim (leb (length out) room) [ true ↦ length out | false ↦ 0 ]

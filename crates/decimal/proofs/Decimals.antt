@@ -1,6 +1,6 @@
 -- The body of a decimal: none for positive zero with exponent 0, else the exponent and the coefficient side by side.
 -- By the length of the coefficient, which is none only for positive zero. Assumes nothing.
-use Prim.Native.Nat.{ℕ, zero, suc, _+_, _≤_, _<_, min}
+use Prim.Native.Nat.{ℕ, zero, suc, _+_, _≤_, _<_}
 use native.Mathlib.Omega.{arith}
 use mathlib.Core.Path.{_≡_, refl, _∙_, ap}
 use mathlib.Core.Bool.{Bool, true, false, _&&_}
@@ -58,23 +58,20 @@ module _ (s : Bool) (m : List ℕ) (e : ℤ) where
       empty [] z = refl
       empty (b ∷ bs) z = absurd (omega arith)
 
-  -- ---- check 8, by the length of the body up to 33
+  -- ---- check 8, by the length of the body
 
-  module _ (body : ℕ) (q : body ≡ min 33 (length (decimalBody s m e))) where
+  module _ (body : ℕ) (q : body ≡ length (decimalBody s m e)) where
     pub refused : 32 < body → checkedBytes (writeDecimal s m e) ≡ []
     refused h = checkedBytes-refused (writeDecimal s m e) (rw (lt-ltb 32 (length (decimalBody s m e)) (omega arith)))
 
     module _ (h : body ≤ 32) where
-      pub body-length : body ≡ length (decimalBody s m e)
-      body-length = omega arith
-
       pub accepted : checkedBytes (writeDecimal s m e) ≡ framedBytes (typeByte decimalCode) (decimalBody s m e)
       unfolding argumentBytes
       accepted = checkedBytes-accepted (writeDecimal s m e) (rw (le-ltb 32 (length (decimalBody s m e)) (omega arith)))
 
       module _ (header : ℕ) (k : header ≡ length (headerBytes 0 body)) where
         pub value-length : header + body ≡ length (checkedBytes (writeDecimal s m e))
-        value-length = rw (accepted, length-framed (typeByte decimalCode) (decimalBody s m e), ← body-length, k)
+        value-length = rw (accepted, length-framed (typeByte decimalCode) (decimalBody s m e), ← q, k)
 
         pub value-fits : Fits w64 (header + body)
         value-fits = record { fits = omega (arith, header-most 0 body (omega arith)) }

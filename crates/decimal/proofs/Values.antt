@@ -1,13 +1,12 @@
 -- A value of a header and a body: how many bytes it takes, how it is put, and when it is put at all.
 -- By the header and the body side by side. Assumes nothing.
-use Prim.Native.Nat.{ℕ, _+_, _≤_, _<_}
+use Prim.Native.Nat.{ℕ, _+_, _≤_}
 use native.Mathlib.Omega.{arith}
 use mathlib.Core.Path.{_≡_, _∙_}
 use mathlib.Core.Bool.{true, false}
 use mathlib.Core.List.{List, []}
-use borrow.Author.Tests.{le-leb, lt-leb}
 use lib.ListN.{length, length-append}
-use Rattle.buffer.specs.Laid.{placed, fitted}
+use Rattle.buffer.specs.Laid.{placed}
 use Rattle.buffer.proofs.Laid.{placed-then, placed-count, placed-length}
 use Rattle.encoding.specs.Headers.{headerBytes, framedBytes}
 use Rattle.encoding.specs.Argument.{Argument, argumentBytes, argumentChecks, anyHolds, checkedBytes}
@@ -28,17 +27,6 @@ checkedBytes-accepted a e = rw (e, checkedBytes)
 pub length-framed : (t : ℕ) (body : List ℕ) → length (framedBytes t body) ≡ length (headerBytes 0 (length body)) + length body
 unfolding framedBytes
 length-framed t body = length-append (headerBytes t (length body)) body ∙ rw (length-header t (length body))
-
-pub fitted-fits : (room : ℕ) (out : List ℕ) → length out ≤ room → length out ≡ fitted room out
-unfolding fitted
-fitted-fits room out h = rw (le-leb (length out) room h, fitted)
-
-pub fitted-full : (room : ℕ) (out : List ℕ) → room < length out → 0 ≡ fitted room out
-unfolding fitted
-fitted-full room out h = rw (lt-leb (length out) room h, fitted)
-
-pub fitted-nil : (room : ℕ) → 0 ≡ fitted room []
-fitted-nil room = fitted-fits room [] (omega arith)
 
 -- ---- how it is put
 

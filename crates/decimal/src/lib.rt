@@ -2,9 +2,9 @@
 // The coefficient is given as a sign and a big-endian magnitude, whose leading zero bytes do not count.
 ghost use mathlib.Core.Path.{_≡_};
 ghost use mathlib.Core.List.{List};
-ghost use Prim.Native.Nat.{ℕ, _+_, _≤_, min};
+ghost use Prim.Native.Nat.{ℕ, _+_, _≤_};
 ghost use lib.ListN.{length};
-ghost use Rattle.buffer.specs.Laid.{placed, fitted};
+ghost use Rattle.buffer.specs.Laid.{placed};
 ghost use Rattle.encoding.specs.Decimal.{decimalBody};
 ghost use Rattle.encoding.specs.Argument.{writeDecimal, checkedBytes};
 
@@ -13,35 +13,27 @@ const TYPE_CODE: u8 = 0x50;
 // Check 8.
 const MAX_BODY: usize = 32;
 
-// The length of the body; 33 for one that is longer than 32 bytes.
+// The length of the body. That of a slice is below 2 to the 63, so the sum does not wrap.
 pub fn body_size(negative: bool, magnitude: &[u8], exponent: i64) -> usize
-    ensures { λ r. ⌜ r ≡ min 33 (length (decimalBody negative (now (magnitude .entry)) exponent)) ⌝ }
+    ensures { λ r. ⌜ r ≡ length (decimalBody negative (now (magnitude .entry)) exponent) ⌝ }
 {
     let coefficient = fields::int::encoded_size_of(negative, magnitude);
     let scale = fields::sign::magnitude(exponent);
     if (coefficient == 0) & (scale == 0) {
         return 0;
     }
-    let size = fields::var_int::encoded_size_of(scale) + coefficient;
-    if MAX_BODY < size {
-        return MAX_BODY + 1;
-    }
-    size
+    fields::var_int::encoded_size_of(scale) + coefficient
 }
 
-// The bytes that the decimal takes, header and body, where they are at most `room`; none where the body is longer than 32 bytes.
-pub fn size(negative: bool, magnitude: &[u8], exponent: i64, room: usize) -> usize
-    ensures { λ r. ⌜ r ≡ fitted room (checkedBytes (writeDecimal negative (now (magnitude .entry)) exponent)) ⌝ }
+// The bytes that the decimal takes, header and body; none where the body is longer than 32 bytes.
+pub fn size(negative: bool, magnitude: &[u8], exponent: i64) -> usize
+    ensures { λ r. ⌜ r ≡ length (checkedBytes (writeDecimal negative (now (magnitude .entry)) exponent)) ⌝ }
 {
     let body = body_size(negative, magnitude, exponent);
     if MAX_BODY < body {
         return 0;
     }
-    let size = fields::header::encoded_size_of(body) + body;
-    if room < size {
-        return 0;
-    }
-    size
+    fields::header::encoded_size_of(body) + body
 }
 
 // The body, given its length.

@@ -15,7 +15,8 @@ use Rattle.ion.specs.Value.{Fraction}
 use Rattle.ion.specs.Calendar.{isLeapYear, daysInMonth, isMonth, isDay, daysBeforeMonth, daysBeforeYear, dayNumber, minuteNumber}
 use Rattle.ion.specs.Scalars.{areFields}
 use Rattle.ion.proofs.Tests.{by-cases, both}
-use Rattle.encoding.specs.Timestamp.{Date, date, dayBefore, dayAfter, utcMinutes, utcDay, fieldsAt, utc, isLocalYear, offsetFits, isTimestamp, minuteOf, UtcIsLocalMinusOffset, MinuteUnique}
+use Rattle.encoding.specs.Timestamp.{Date, date, dayBefore, dayAfter, utcMinutes, utcDay, fieldsAt, utc, isTimestamp, minuteOf, UtcIsLocalMinusOffset, MinuteUnique}
+use Rattle.encoding.proofs.Rules.{isLocalYear, offsetFits, passed}
 
 -- ---- real days
 
@@ -227,8 +228,7 @@ day-positive y m d g = omega (arith, g .day-least)
 
 -- a known offset needs the minute
 minute-given : (z : ℤ) (fs : List ℕ) → offsetFits (some z) fs ≡ true → 5 ≤ length fs
-minute-given (pos n) fs e = leb-true 5 (length fs) (both {a = leb 5 (length fs)} e .0)
-minute-given (negsuc n) fs e = leb-true 5 (length fs) (both {a = leb 5 (length fs)} e .0)
+minute-given z fs e = leb-true 5 (length fs) (both {a = leb 5 (length fs)} e .0)
 
 -- fields with a minute, and those behind it
 front : (fs : List ℕ) → 5 ≤ length fs → fs ≡ getD fs 0 0 ∷ getD fs 1 0 ∷ getD fs 2 0 ∷ getD fs 3 0 ∷ getD fs 4 0 ∷ drop 5 fs
@@ -241,24 +241,19 @@ front (y ∷ m ∷ d ∷ h ∷ i ∷ r) k = refl
 
 local-minus-offset : (z : ℤ) (y m d h i : ℕ) (r : List ℕ) (x : Fraction) → isTimestamp (some z) (y ∷ m ∷ d ∷ h ∷ i ∷ r) x ≡ true →
     minuteOf (utc (some z) (y ∷ m ∷ d ∷ h ∷ i ∷ r)) ≡ minuteOf (y ∷ m ∷ d ∷ h ∷ i ∷ r) -ℤ z
-unfolding isTimestamp
 local-minus-offset z y m d h i r x e =
     let fs = y ∷ m ∷ d ∷ h ∷ i ∷ r in
-    let a = both {a = areFields fs} e in
-    let b = both {a = isLocalYear fs} (a .1) in
-    let o = both {a = offsetFits (some z) fs} (b .1) .0 in
-    let w = with-minute y m d h i r (a .0) in
+    let a = passed (some z) fs x e in
+    let w = with-minute y m d h i r (a .fields) in
     let t = utcMinutes z h i in
-    let q = utcDay-minute t y m d (local-year y (m ∷ d ∷ h ∷ i ∷ r) (b .0) .0) (w .real) (within-days z h i fs o (w .hour) (w .minute)) in
+    let q = utcDay-minute t y m d (local-year y (m ∷ d ∷ h ∷ i ∷ r) (a .year) .0) (w .real) (within-days z h i fs (a .offset) (w .hour) (w .minute)) in
     fields-minute (utcDay t y m d) t r
-    ∙ minus-offset z (dayNumber y m d * 1440) h i (minuteAt (utcDay t y m d) t) fs o (day-positive y m d (w .real)) q
+    ∙ minus-offset z (dayNumber y m d * 1440) h i (minuteAt (utcDay t y m d) t) fs (a .offset) (day-positive y m d (w .real)) q
     ∙ unfold minuteNumber in refl
 
 pub utc-is-local-minus-offset : UtcIsLocalMinusOffset
-unfolding isTimestamp
 utc-is-local-minus-offset z fs x e =
-    let o = both {a = offsetFits (some z) fs} (both {a = isLocalYear fs} (both {a = areFields fs} e .1) .1) .0 in
-    let q = front fs (minute-given z fs o) in
+    let q = front fs (minute-given z fs (passed (some z) fs x e .offset)) in
     let v = subst (λ (l : List ℕ). isTimestamp (some z) l x ≡ true) q e in
     subst (λ (l : List ℕ). minuteOf (utc (some z) l) ≡ minuteOf l -ℤ z) (sym q)
     (local-minus-offset z (getD fs 0 0) (getD fs 1 0) (getD fs 2 0) (getD fs 3 0) (getD fs 4 0) (drop 5 fs) x v)

@@ -1,15 +1,21 @@
--- What scalar calls put, where the grammar leaves a choice or a value is at the edge of binary32: document 01, "value_writer".
--- Computation. Assumes nothing.
+-- What scalar calls put, where the grammar leaves a choice or a value is at the edge of binary32: document 01, "value_writer". The field that check 7
+-- answers: "types/timestamp". Computation. Assumes nothing.
 use Prim.Native.Nat.{ℕ}
+use mathlib.Core.Bool.{false}
 use mathlib.Core.Path.{_≡_, refl}
 use mathlib.Core.List.{List, [], _∷_, map}
+use mathlib.Core.Option.{Option, none, some}
+use lib.IntN.{ℤ, pos, negsuc}
 use lib.Ieee.{ofBits, toBits, isNan}
 use lib.Ieee.{fits as holds}
 use Rattle.ion.specs.Value.{IonType, ionNull, ionBool, ionInt, ionFloat, ionDecimal, ionTimestamp, ionSymbol, ionString, ionClob, ionBlob}
 use Rattle.ion.specs.Value.{ionList, ionSexp, ionStruct}
+use Rattle.ion.specs.Value.{Fraction, noFraction, fraction}
 use Rattle.ion.proofs.Readings.{bytesBefore, hex}
 use Rattle.encoding.specs.Digits.{lowDigits}
 use Rattle.encoding.specs.Fields.{fixedBytes}
+use Rattle.encoding.specs.Timestamp.{TimestampField, yearField, monthField, dayField, hourField, minuteField, secondField, offsetField}
+use Rattle.encoding.specs.Timestamp.{digitCountField, coefficientField, timestampRules, firstBad}
 use Rattle.encoding.specs.Argument.{writeNull, writeF64, float32Bytes, narrows, float64Bytes, argumentBytes}
 
 abbrev types : List IonType
@@ -43,3 +49,46 @@ floats =
 pub floats-written : map (λ (c : ℕ × ℕ). argumentBytes (writeF64 (c .0))) floats ≡ map (λ (c : ℕ × ℕ). hex (c .1)) floats
 unfolding bytesBefore argumentBytes float32Bytes narrows float64Bytes fixedBytes lowDigits ofBits toBits holds isNan
 floats-written = refl
+
+-- offset, local fields and fraction of a timestamp, and the field that check 7 answers, with its value
+abbrev bad : List (Option ℤ × List ℕ × Fraction × TimestampField × ℤ)
+bad =
+    (none, 0 ∷ [], noFraction, yearField, pos 0)
+    ∷ (none, 10000 ∷ 1 ∷ [], noFraction, yearField, pos 10000)
+    ∷ (none, 2000 ∷ 13 ∷ [], noFraction, monthField, pos 13)
+    ∷ (none, 1900 ∷ 2 ∷ 29 ∷ [], noFraction, dayField, pos 29)
+    ∷ (none, 2000 ∷ 1 ∷ 1 ∷ 24 ∷ 0 ∷ [], noFraction, hourField, pos 24)
+    ∷ (none, 2000 ∷ 1 ∷ 1 ∷ 23 ∷ 60 ∷ [], noFraction, minuteField, pos 60)
+    ∷ (none, 2000 ∷ 1 ∷ 1 ∷ 23 ∷ 59 ∷ 60 ∷ [], noFraction, secondField, pos 60)
+    ∷ (some (pos 1440), 2000 ∷ 1 ∷ 1 ∷ 0 ∷ 0 ∷ [], noFraction, offsetField, pos 1440)
+    ∷ (some (negsuc 1439), 2000 ∷ 1 ∷ 1 ∷ 0 ∷ 0 ∷ [], noFraction, offsetField, negsuc 1439)
+    -- known, with no time
+    ∷ (some (pos 0), 2000 ∷ 1 ∷ 1 ∷ [], noFraction, offsetField, pos 0)
+    ∷ (none, 2000 ∷ 1 ∷ 1 ∷ 0 ∷ 0 ∷ 0 ∷ [], fraction 0 0, digitCountField, pos 0)
+    ∷ (none, 2000 ∷ 1 ∷ 1 ∷ 0 ∷ 0 ∷ 0 ∷ [], fraction 19 0, digitCountField, pos 19)
+    -- no seconds that carry it
+    ∷ (none, 2000 ∷ 1 ∷ 1 ∷ 0 ∷ 0 ∷ [], fraction 1 0, digitCountField, pos 1)
+    ∷ (none, 2000 ∷ 1 ∷ 1 ∷ 0 ∷ 0 ∷ 0 ∷ [], fraction 2 100, coefficientField, pos 100)
+    -- of two or more, the first
+    ∷ (some (pos 1440), 2000 ∷ 2 ∷ 30 ∷ 24 ∷ 0 ∷ [], noFraction, dayField, pos 30)
+    ∷ (some (negsuc 1439), 2000 ∷ 1 ∷ 1 ∷ 0 ∷ 0 ∷ 0 ∷ [], fraction 19 0, offsetField, negsuc 1439)
+    ∷ (none, 2000 ∷ 1 ∷ 1 ∷ 0 ∷ 0 ∷ [], fraction 1 10, digitCountField, pos 1)
+    ∷ []
+
+pub bad-answered : map (λ (c : Option ℤ × List ℕ × Fraction × TimestampField × ℤ). firstBad (timestampRules (c .0) (c .1) (c .2))) bad
+    ≡ map (λ (c : Option ℤ × List ℕ × Fraction × TimestampField × ℤ). some (record { field = c .3; value = c .4; holds = false })) bad
+bad-answered = refl
+
+-- at the ends of each range, as far as the precision goes
+abbrev good : List (Option ℤ × List ℕ × Fraction)
+good =
+    (none, 1 ∷ [], noFraction)
+    ∷ (none, 9999 ∷ 12 ∷ [], noFraction)
+    ∷ (none, 2000 ∷ 2 ∷ 29 ∷ [], noFraction)
+    ∷ (some (pos 1439), 9999 ∷ 12 ∷ 31 ∷ 23 ∷ 59 ∷ [], noFraction)
+    ∷ (some (negsuc 1438), 1 ∷ 1 ∷ 1 ∷ 0 ∷ 0 ∷ 0 ∷ [], fraction 1 0)
+    ∷ (none, 9999 ∷ 12 ∷ 31 ∷ 23 ∷ 59 ∷ 59 ∷ [], fraction 18 999999999999999999)
+    ∷ []
+
+pub good-answered : map (λ (c : Option ℤ × List ℕ × Fraction). firstBad (timestampRules (c .0) (c .1) (c .2))) good ≡ map (λ (c : Option ℤ × List ℕ × Fraction). none) good
+good-answered = refl

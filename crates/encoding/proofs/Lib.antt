@@ -3,6 +3,7 @@ pub mod Digits
 pub mod Fields
 pub mod Headers
 pub mod Decimal
+pub mod Rules
 pub mod Calendar
 pub mod Timestamp
 pub mod Narrowing

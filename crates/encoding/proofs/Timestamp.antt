@@ -19,8 +19,9 @@ use Rattle.ion.proofs.Tests.{both, and-true}
 use Rattle.ion.proofs.Fields.{varUInt-append}
 use Rattle.encoding.specs.Fields.{varUIntBytes, varUIntsBytes, varIntBytes, signedOf, uintBytes, trimmed, intBytes, AllU64}
 use Rattle.encoding.specs.Decimal.{isZeroDecimal, decimalBody}
-use Rattle.encoding.specs.Timestamp.{Date, date, utcMinutes, utcDay, fieldsAt, utc, isLocalYear, offsetFits, fractionFits, isTimestamp, offsetBytes, fractionBytes, timestampBody, UtcKeepsSeconds, UtcAreFields}
+use Rattle.encoding.specs.Timestamp.{Date, date, utcMinutes, utcDay, fieldsAt, utc, isTimestamp, offsetBytes, fractionBytes, timestampBody, UtcKeepsSeconds, UtcAreFields}
 use Rattle.encoding.proofs.Fields.{varUIntBytes-reads, varIntBytes-reads, signed-reads, uintBytes-reads, trimmed-same, intBytes-reads}
+use Rattle.encoding.proofs.Rules.{isLocalYear, offsetFits, fractionFits, passed}
 use Rattle.encoding.proofs.Calendar.{RealDay, RealDate, real-of, month-days, utcDay-real, with-minute, local-year}
 
 -- ---- the UTC fields are fields of the grammar
@@ -67,10 +68,7 @@ fields-moved (some z) (y ∷ m ∷ d ∷ h ∷ i ∷ s ∷ []) e k =
 fields-moved (some z) (y ∷ m ∷ d ∷ h ∷ i ∷ s ∷ x ∷ r) e k = absurd (false≢true (unfold areFields in e))
 
 pub utc-areFields : UtcAreFields
-unfolding isTimestamp
-utc-areFields o fs x e =
-    let a = both {a = areFields fs} e in
-    fields-moved o fs (a .0) (both {a = isLocalYear fs} (a .1) .0)
+utc-areFields o fs x e = let a = passed o fs x e in fields-moved o fs (a .fields) (a .year)
 
 fieldsAt-length : (x : Date) (t : ℕ) (r : List ℕ) → length (fieldsAt x t r) ≡ 5 + length r
 fieldsAt-length (date y m d) t r = omega arith
@@ -223,15 +221,13 @@ body-parts b r us fr g x p q s t = rw (p, q, s, t)
 
 pub timestampBody-reads : (o : Option ℤ) (fs : List ℕ) (x : Fraction) → isTimestamp o fs x ≡ true →
     timestampOf (timestampBody o fs x) ≡ some (timestamp o (utc o fs) x)
-unfolding isTimestamp timestampBody
+unfolding timestampBody
 timestampBody-reads o fs x e =
-    let a = both {a = areFields fs} e in
-    let b = both {a = isLocalYear fs} (a .1) in
-    let c = both {a = offsetFits o fs} (b .1) in
+    let a = passed o fs x e in
     let us = utc o fs in
     let g : areFields us ≡ true = utc-areFields o fs x e in
     let s = fields-small us g in
     body-parts (offsetBytes o ++ (varUIntsBytes us ++ fractionBytes x)) (varUIntsBytes us ++ fractionBytes x) us (fractionBytes x) (offsetSigned o) x
-    (offset-reads o fs (varUIntsBytes us ++ fractionBytes x) (c .0))
-    (fields-read us x (s .0) (s .1) (fraction-utc x us fs (utc-length o fs) (c .1))) g (fraction-reads x fs (c .1))
+    (offset-reads o fs (varUIntsBytes us ++ fractionBytes x) (a .offset))
+    (fields-read us x (s .0) (s .1) (fraction-utc x us fs (utc-length o fs) (a .fraction))) g (fraction-reads x fs (a .fraction))
     ∙ ap (λ (q : Option ℤ). some (timestamp q us x)) (offset-is o)

@@ -3,14 +3,14 @@
 -- Assumes nothing.
 use Prim.Native.Nat.{ℕ, suc, _+_, _-_, _*_, _/_, _%_, _^_, _≤_}
 use mathlib.Core.Path.{_≡_}
-use mathlib.Core.Bool.{Bool, true, false, cond, _&&_}
+use mathlib.Core.Bool.{Bool, true, false, cond, _&&_, not}
 use mathlib.Core.List.{List, [], _∷_, _++_}
 use mathlib.Core.Option.{Option, none, some}
 use lib.Dec.{ltb, leb, eqb}
 use lib.ListN.{length, take, drop, getD}
-use lib.IntN.{ℤ, pos, negsuc, negℤ, _-ℤ_}
+use lib.IntN.{ℤ, pos, negsuc, natAbs, negℤ, _-ℤ_}
 use Rattle.ion.specs.Value.{signed, Fraction, noFraction, fraction}
-use Rattle.ion.specs.Calendar.{daysInMonth, minuteNumber}
+use Rattle.ion.specs.Calendar.{daysInMonth, isMonth, minuteNumber}
 use Rattle.ion.specs.Scalars.{areFields}
 use Rattle.encoding.specs.Fields.{varUIntsBytes, varIntBytes, signedOf, uintBytes}
 use Rattle.encoding.specs.Decimal.{decimalBody}
@@ -60,26 +60,76 @@ utc (some z) (y ∷ m ∷ d ∷ []) = y ∷ m ∷ d ∷ []
 utc (some z) (y ∷ m ∷ d ∷ h ∷ []) = y ∷ m ∷ d ∷ h ∷ []
 utc (some z) (y ∷ m ∷ d ∷ h ∷ i ∷ r) = utcFields (utcMinutes z h i) y m d r
 
--- ---- check 7: the rules for local fields, offset and fraction
+-- ---- check 7: a rule for each field that is there; the first field that breaks its rule answers
+
+pub data TimestampField : Type 0 where
+  yearField monthField dayField hourField minuteField secondField offsetField digitCountField coefficientField : TimestampField
+
+-- a field, its value, and whether its rule holds
+pub record TimestampRule : Type 0 where
+  pub field : TimestampField
+  pub value : ℤ
+  pub holds : Bool
 
 -- year 1 to 9999
-abbrev pub isLocalYear : List ℕ → Bool
-isLocalYear [] = false
-isLocalYear (y ∷ r) = leb 1 y && leb y 9999
+abbrev pub yearRule : ℕ → TimestampRule
+yearRule y = record { field = yearField; value = pos y; holds = leb 1 y && leb y 9999 }
 
--- unknown, or -1439 to 1439 minutes at minute or second precision
-abbrev pub offsetFits : Option ℤ → List ℕ → Bool
-offsetFits none fs = true
-offsetFits (some (pos n)) fs = leb 5 (length fs) && leb n 1439
-offsetFits (some (negsuc n)) fs = leb 5 (length fs) && leb (suc n) 1439
+-- real calendar day
+abbrev pub monthRule : ℕ → TimestampRule
+monthRule m = record { field = monthField; value = pos m; holds = isMonth m }
 
--- second precision may carry 1 to 18 digits, with a coefficient below ten to that count
-abbrev pub fractionFits : Fraction → List ℕ → Bool
-fractionFits noFraction fs = true
-fractionFits (fraction k c) fs = eqb (length fs) 6 && (leb 1 k && (leb k 18 && ltb c (10 ^ k)))
+abbrev pub dayRule : ℕ → ℕ → ℕ → TimestampRule
+dayRule y m d = record { field = dayField; value = pos d; holds = leb 1 d && leb d (daysInMonth y m) }
+
+-- hour 0 to 23, minute and second 0 to 59
+abbrev pub hourRule : ℕ → TimestampRule
+hourRule h = record { field = hourField; value = pos h; holds = ltb h 24 }
+
+abbrev pub minuteRule : ℕ → TimestampRule
+minuteRule i = record { field = minuteField; value = pos i; holds = ltb i 60 }
+
+abbrev pub secondRule : ℕ → TimestampRule
+secondRule s = record { field = secondField; value = pos s; holds = ltb s 60 }
+
+-- as far as the precision goes
+abbrev pub fieldRules : List ℕ → List TimestampRule
+fieldRules fs =
+    let at : ℕ → ℕ = λ i. getD fs i 0 in
+    take (length fs)
+    (yearRule (at 0) ∷ monthRule (at 1) ∷ dayRule (at 0) (at 1) (at 2) ∷ hourRule (at 3) ∷ minuteRule (at 4) ∷ secondRule (at 5) ∷ [])
+
+-- offset unknown or -1439 to 1439 minutes; a known offset needs minute or second precision
+abbrev pub offsetRules : Option ℤ → List ℕ → List TimestampRule
+offsetRules none fs = []
+offsetRules (some z) fs = record { field = offsetField; value = z; holds = leb 5 (length fs) && leb (natAbs z) 1439 } ∷ []
+
+-- second precision may carry 1 to 18 fraction digits, with a coefficient below ten to that count
+abbrev pub fractionRules : Fraction → List ℕ → List TimestampRule
+fractionRules noFraction fs = []
+fractionRules (fraction k c) fs =
+    record { field = digitCountField; value = pos k; holds = eqb (length fs) 6 && (leb 1 k && leb k 18) }
+    ∷ record { field = coefficientField; value = pos c; holds = ltb c (10 ^ k) }
+    ∷ []
+
+-- in the order in which they answer
+abbrev pub timestampRules : Option ℤ → List ℕ → Fraction → List TimestampRule
+timestampRules offset fs x = fieldRules fs ++ (offsetRules offset fs ++ fractionRules x fs)
+
+abbrev pub firstBad : List TimestampRule → Option TimestampRule
+firstBad [] = none
+firstBad (r ∷ rs) = cond (r .holds) (firstBad rs) (some r)
+
+abbrev pub isNone : {A : Type 0} → Option A → Bool
+isNone none = true
+isNone (some x) = false
+
+-- year, month, day, minute or second: with an hour there is a minute. No call has another count of fields.
+abbrev pub isPrecision : ℕ → Bool
+isPrecision n = leb 1 n && (leb n 6 && not (eqb n 4))
 
 unfoldable pub isTimestamp : Option ℤ → List ℕ → Fraction → Bool
-isTimestamp offset fs x = areFields fs && (isLocalYear fs && (offsetFits offset fs && fractionFits x fs))
+isTimestamp offset fs x = isPrecision (length fs) && isNone (firstBad (timestampRules offset fs x))
 
 -- ---- the body: offset (unknown is C0), UTC fields, then any fraction as a decimal body
 

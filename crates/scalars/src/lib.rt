@@ -3,14 +3,14 @@
 ghost use mathlib.Core.Path.{_≡_};
 ghost use mathlib.Core.Bool.{_&&_};
 ghost use mathlib.Core.List.{List};
-ghost use Prim.Native.Nat.{ℕ, _*_, _/_, _<_};
+ghost use Prim.Native.Nat.{ℕ, _*_, _/_, _^_, _<_, _≤_};
 ghost use lib.Dec.{eqb};
 ghost use lib.ListN.{length};
 ghost use Rattle.ion.specs.Value.{highBits};
 ghost use Rattle.ion.specs.Fields.{uint};
 ghost use Rattle.encoding.specs.Headers.{typeByte, framedBytes};
 ghost use Rattle.encoding.specs.Argument.{codeOfNull, codeOfSign, checkedBytes, writeNull, writeBool, writeI64, writeInt, writeSymbol};
-ghost use Rattle.buffer.specs.Laid.{placed, fitted};
+ghost use Rattle.buffer.specs.Laid.{placed};
 ghost use Rattle.scalars.specs.Types.{typeOf, scalarArgument};
 
 pub enum IonType {
@@ -111,12 +111,19 @@ pub fn write_symbol(buf: &mut [u8], at: usize, sid: u64) -> usize
     fields::uint::write_framed(buf, at, SYMBOL, sid)
 }
 
+// The bytes that `body` bytes take with their header, of any type. No slice is longer than 2 to the 63, so the sum does not wrap.
+fn framed_size(body: usize) -> usize
+    requires { ⌜ body ≤ 2 ^ 63 ⌝ }
+    ensures { λ r. ⌜ ((t : ℕ) (bytes : List ℕ) → length bytes ≡ body → r ≡ length (framedBytes t bytes)) ⌝ }
+{
+    fields::header::encoded_size_of(body) + body
+}
+
 // A body of any length behind its header: strings, clobs and blobs. The low four bits of `code` do not count.
 pub fn write_bytes(buf: &mut [u8], at: usize, code: u8, bytes: &[u8]) -> usize
     ensures { λ r. ⌜ _≡_ {A = ℕ × List ℕ} (r, now (buf .exit)) (placed (now (buf .entry)) at (framedBytes (code / 16 * 16) (now (bytes .entry)))) ⌝ }
 {
-    let size = fields::header::encoded_size_of(bytes.len()) + bytes.len();
-    if !buffer::has_room(buf.len(), at, size) {
+    if !buffer::has_room(buf.len(), at, framed_size(bytes.len())) {
         return 0;
     }
     let header = fields::header::write(buf, at, code, bytes.len());
@@ -145,54 +152,37 @@ pub fn write_int(buf: &mut [u8], at: usize, negative: bool, magnitude: &[u8]) ->
     write_bytes(buf, at, code, &magnitude[zeros..])
 }
 
-// A size, or 0 where it passes `room`.
-fn fit(size: usize, room: usize) -> usize
-    ensures { λ r. ⌜ ((out : List ℕ) → length out ≡ size → r ≡ fitted room out) ⌝ }
+// The bytes that the body `bytes` takes with its header, of any type.
+pub fn bytes_size(bytes: &[u8]) -> usize
+    ensures { λ r. ⌜ ((t : ℕ) → r ≡ length (framedBytes t (now (bytes .entry)))) ⌝ }
 {
-    if room < size {
-        return 0;
-    }
-    size
+    framed_size(bytes.len())
 }
 
-// The bytes that `body` bytes take with their header, of any type; 0 where that passes `room`.
-pub fn framed_size(body: usize, room: usize) -> usize
-    ensures { λ r. ⌜ ((t : ℕ) (bytes : List ℕ) → length bytes ≡ body → r ≡ fitted room (framedBytes t bytes)) ⌝ }
-{
-    let header = fields::header::encoded_size_of(body);
-    if !buffer::has_room(room, header, body) {
-        return 0;
-    }
-    header + body
-}
-
-// The bytes that an int takes; 0 where they pass `room`, and for negative zero.
-pub fn int_size(negative: bool, magnitude: &[u8], room: usize) -> usize
-    ensures { λ r. ⌜ r ≡ fitted room (checkedBytes (writeInt negative (now (magnitude .entry)))) ⌝ }
+// The bytes that an int takes; none for negative zero.
+pub fn int_size(negative: bool, magnitude: &[u8]) -> usize
+    ensures { λ r. ⌜ r ≡ length (checkedBytes (writeInt negative (now (magnitude .entry)))) ⌝ }
 {
     if is_negative_zero(negative, magnitude) {
         return 0;
     }
     let body = magnitude.len() - fields::uint::leading_zero_bytes(magnitude);
-    framed_size(body + (body == 0) as usize, room)
+    framed_size(body + (body == 0) as usize)
 }
 
-// The bytes that a scalar takes; 0 where they pass `room`.
-pub fn size(value: Scalar, room: usize) -> usize
-    ensures { λ r. ⌜ r ≡ fitted room (checkedBytes (scalarArgument value)) ⌝ }
+// The bytes that a scalar takes.
+pub fn size(value: Scalar) -> usize
+    ensures { λ r. ⌜ r ≡ length (checkedBytes (scalarArgument value)) ⌝ }
 {
     match value {
-        Scalar::Null(_) => fit(1, room),
-        Scalar::Bool(_) => fit(1, room),
-        Scalar::I64(n) => framed_size(
-            fields::uint::encoded_size_of(fields::sign::magnitude(n)),
-            room,
-        ),
-        Scalar::F32(v) => fit(floats::f32_size(v), room),
-        Scalar::F32Bits(bits) => fit(floats::f32_bits_size(bits), room),
-        Scalar::F64(v) => fit(floats::f64_size(v), room),
-        Scalar::F64Bits(bits) => fit(floats::f64_bits_size(bits), room),
-        Scalar::Symbol(sid) => framed_size(fields::uint::encoded_size_of(sid), room),
+        Scalar::Null(_) => 1,
+        Scalar::Bool(_) => 1,
+        Scalar::I64(n) => framed_size(fields::uint::encoded_size_of(fields::sign::magnitude(n))),
+        Scalar::F32(v) => floats::f32_size(v),
+        Scalar::F32Bits(bits) => floats::f32_bits_size(bits),
+        Scalar::F64(v) => floats::f64_size(v),
+        Scalar::F64Bits(bits) => floats::f64_bits_size(bits),
+        Scalar::Symbol(sid) => framed_size(fields::uint::encoded_size_of(sid)),
     }
 }
 

@@ -1,6 +1,6 @@
 -- A scalar call by how far it gets: refused by place, by one of its own checks or for room, or put at the end of the used bytes.
 -- Assumes nothing.
-use Prim.Native.Nat.{ℕ, _+_, _<_, _≤_, min}
+use Prim.Native.Nat.{ℕ, _+_, _<_, _≤_}
 use native.Mathlib.Omega.{arith}
 use mathlib.Core.Path.{_≡_, refl, sym, _∙_, ap}
 use mathlib.Core.Bool.{Bool, true, false, _&&_}
@@ -107,15 +107,14 @@ module _ (negative : Bool) (m : List ℕ) where
   unfolding ownRefusal
   int-otherwise e = rw e
 
--- n is the length of the body, up to 33
-module _ (negative : Bool) (m : List ℕ) (z : ℤ) (n : ℕ) (q : n ≡ min 33 (length (decimalBody negative m z))) where
-  pub decimal-long : 32 < n → refused 8 ≡ ownRefusal (writeDecimal negative m z)
+module _ (negative : Bool) (m : List ℕ) (z : ℤ) where
+  pub decimal-long : 32 < length (decimalBody negative m z) → refused 8 ≡ ownRefusal (writeDecimal negative m z)
   unfolding ownRefusal
-  decimal-long h = let g : 32 < length (decimalBody negative m z) = omega (arith, q, h) in rw (lt-ltb 32 (length (decimalBody negative m z)) g)
+  decimal-long h = rw (lt-ltb 32 (length (decimalBody negative m z)) h)
 
-  pub decimal-short : n ≤ 32 → refused 10 ≡ ownRefusal (writeDecimal negative m z)
+  pub decimal-short : length (decimalBody negative m z) ≤ 32 → refused 10 ≡ ownRefusal (writeDecimal negative m z)
   unfolding ownRefusal
-  decimal-short h = let g : length (decimalBody negative m z) ≤ 32 = omega (arith, q, h) in rw (le-ltb 32 (length (decimalBody negative m z)) g)
+  decimal-short h = rw (le-ltb 32 (length (decimalBody negative m z)) h)
 
 module _ (t : Timestamp) where
   pub timestamp-bad : isTimestamp (offsetMinutes (t .offset)) (fieldsOf t) (fractionDigits (t .fraction)) ≡ false → refused 7 ≡ ownRefusal (argumentOf t)

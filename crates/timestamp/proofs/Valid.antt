@@ -3,18 +3,17 @@
 use Prim.Native.Nat.{ℕ, zero, suc, _^_, _≤_, _<_}
 use native.Mathlib.Omega.{arith}
 use mathlib.Core.Path.{_≡_, refl, sym, _∙_}
-use mathlib.Core.Bool.{Bool, true, false, cond, _&&_, _||_, and-assoc, and-true, and-false}
-use mathlib.Core.List.{List, [], _∷_}
+use mathlib.Core.Bool.{Bool, true, false, cond, _&&_, _||_, and-assoc, and-true}
 use mathlib.Core.Option.{Option, some}
-use borrow.Author.Tests.{leb-true, ltb-true, le-leb, lt-leb, le-ltb}
+use borrow.Author.Tests.{leb-true, ltb-true, lt-leb, le-ltb}
 use lib.Dec.{leb, ltb}
 use lib.ListN.{length}
-use lib.IntN.{ℤ, pos, negsuc, natAbs}
+use lib.IntN.{ℤ, natAbs}
 use Rattle.ion.specs.Value.{Fraction}
 use Rattle.ion.specs.Calendar.{daysInMonth, isMonth}
-use Rattle.ion.specs.Scalars.{isYear, areFields}
 use Rattle.ion.proofs.Tests.{both}
-use Rattle.encoding.specs.Timestamp.{offsetFits, fractionFits, isTimestamp}
+use Rattle.encoding.specs.Timestamp.{timestampRules, firstBad, isNone, isTimestamp}
+use Rattle.encoding.proofs.Rules.{offsetFits, fractionFits, isTimestamp-rules}
 use Rattle.timestamp.specs.declared.Precision.{Precision}
 use Rattle.timestamp.specs.declared.Precision.the-variants.{Year, Month, Day, Minute, Second}
 use Rattle.timestamp.specs.Arguments.{fieldsBy}
@@ -34,28 +33,25 @@ length-fieldsBy Day y m d h i s = refl
 length-fieldsBy Minute y m d h i s = refl
 length-fieldsBy Second y m d h i s = refl
 
-pub offsetFits-magnitude : (z : ℤ) (fs : List ℕ) (n : ℕ) → length fs ≡ n → (leb 5 n && leb (natAbs z) 1439) ≡ offsetFits (some z) fs
-offsetFits-magnitude (pos n) fs k e = rw e
-offsetFits-magnitude (negsuc n) fs k e = rw e
-
--- a year that the writer takes is one that the grammar has
-year-first : (y : ℕ) (b c : Bool) → ((isYear y && b) && ((leb 1 y && leb y 9999) && c)) ≡ ((leb 1 y && leb y 9999) && (b && c))
-year-first y b c = at (leb 1 y && leb y 9999) (isYear y) (λ e. le-leb y 10000 (omega (arith, leb-true y 9999 (both {a = leb 1 y} e .1))))
-  where
-    at : (l a : Bool) → (l ≡ true → a ≡ true) → ((a && b) && (l && c)) ≡ (l && (b && c))
-    at true a h = rw (h refl)
-    at false a h = and-false (a && b)
+-- a precision has one of the counts of fields that a timestamp has, so a timestamp that does not pass has a field that breaks its rule
+pub isTimestamp-firstBad : (p : Precision) (y m d h i s : ℕ) (o : Option ℤ) (x : Fraction) →
+    isTimestamp o (fieldsBy p y m d h i s) x ≡ isNone (firstBad (timestampRules o (fieldsBy p y m d h i s) x))
+unfolding isTimestamp
+isTimestamp-firstBad Year y m d h i s o x = refl
+isTimestamp-firstBad Month y m d h i s o x = refl
+isTimestamp-firstBad Day y m d h i s o x = refl
+isTimestamp-firstBad Minute y m d h i s o x = refl
+isTimestamp-firstBad Second y m d h i s o x = refl
 
 -- the tests from the year down, each where the count of fields reaches it
 pub isTimestamp-tests : (p : Precision) (y m d h i s : ℕ) (o : Option ℤ) (x : Fraction) →
     ((leb 1 y && leb y 9999) && ((ltb (fieldCount p) 2 || isMonth m) && ((ltb (fieldCount p) 3 || (leb 1 d && leb d (daysInMonth y m))) && ((ltb (fieldCount p) 5 || (ltb h 24 && ltb i 60)) && ((ltb (fieldCount p) 6 || ltb s 60) && (offsetFits o (fieldsBy p y m d h i s) && fractionFits x (fieldsBy p y m d h i s)))))))
     ≡ isTimestamp o (fieldsBy p y m d h i s) x
-unfolding isTimestamp areFields
-isTimestamp-tests Year y m d h i s o x = sym (rw (← and-true (isYear y)) (simp year-first))
-isTimestamp-tests Month y m d h i s o x = sym (simp year-first)
-isTimestamp-tests Day y m d h i s o x = sym (simp year-first (simp and-assoc))
-isTimestamp-tests Minute y m d h i s o x = sym (simp year-first (simp and-assoc))
-isTimestamp-tests Second y m d h i s o x = sym (simp year-first (simp and-assoc))
+isTimestamp-tests Year y m d h i s o x = sym (isTimestamp-rules o (fieldsBy Year y m d h i s) x ∙ simp (and-true, and-assoc))
+isTimestamp-tests Month y m d h i s o x = sym (isTimestamp-rules o (fieldsBy Month y m d h i s) x ∙ simp (and-true, and-assoc))
+isTimestamp-tests Day y m d h i s o x = sym (isTimestamp-rules o (fieldsBy Day y m d h i s) x ∙ simp (and-true, and-assoc))
+isTimestamp-tests Minute y m d h i s o x = sym (isTimestamp-rules o (fieldsBy Minute y m d h i s) x ∙ simp (and-true, and-assoc))
+isTimestamp-tests Second y m d h i s o x = sym (isTimestamp-rules o (fieldsBy Second y m d h i s) x ∙ simp (and-true, and-assoc))
 
 -- what a timestamp that passes tells, as far as its fields go
 pub record Valid (p : Precision) (y m d h i s : ℕ) (o : Option ℤ) (x : Fraction) : Type 0 where
@@ -93,7 +89,7 @@ valid p y m d h i s o x e =
 -- a known offset needs the minute
 pub offset-known : (p : Precision) (y m d h i s : ℕ) (z : ℤ) → offsetFits (some z) (fieldsBy p y m d h i s) ≡ true → (5 ≤ fieldCount p) × (natAbs z ≤ 1439)
 offset-known p y m d h i s z e =
-    let k = both {a = leb 5 (fieldCount p)} (offsetFits-magnitude z (fieldsBy p y m d h i s) (fieldCount p) (length-fieldsBy p y m d h i s) ∙ e) in
+    let k = both {a = leb 5 (fieldCount p)} (rw (length-fieldsBy p y m d h i s) at e) in
     (leb-true 5 (fieldCount p) (k .0), leb-true (natAbs z) 1439 (k .1))
 
 -- ---- the powers of ten up to eighteen zeros

@@ -7,11 +7,12 @@ ghost use Prim.Native.Nat.{ℕ, _+_, _%_, _^_, _≤_, _<_};
 ghost use lib.Dec.{ltb, leb};
 ghost use lib.ListN.{length};
 ghost use lib.IntN.{natAbs};
-ghost use Rattle.ion.specs.Calendar.{isLeapYear, daysInMonth, isMonth};
-ghost use Rattle.buffer.specs.Laid.{placed, fitted};
+ghost use Rattle.ion.specs.Calendar.{isLeapYear, daysInMonth};
+ghost use Rattle.buffer.specs.Laid.{placed};
 ghost use Rattle.encoding.specs.Fields.{varUIntBytes, varUIntsBytes};
 ghost use Rattle.encoding.specs.Argument.{checkedBytes};
-ghost use Rattle.encoding.specs.Timestamp.{offsetBytes, fractionBytes, dayBefore, dayAfter, utcMinutes, utcDay, utcFields, utc, offsetFits, fractionFits, isTimestamp};
+ghost use Rattle.encoding.specs.Timestamp.{offsetBytes, fractionBytes, dayBefore, dayAfter, utcMinutes, utcDay, utcFields, utc};
+ghost use Rattle.encoding.specs.Timestamp.{yearRule, monthRule, dayRule, offsetRules, fractionRules, firstBad, isNone, isTimestamp};
 ghost use Rattle.timestamp.specs.Arguments.{offsetMinutes, fractionDigits, fieldsBy, fieldsOf, argumentOf};
 ghost use Rattle.timestamp.specs.Utc.{dateOf, withFields, utcOf};
 ghost use Rattle.timestamp.specs.Small.{SmallOffset, SmallFields, SmallFraction, Small, bodyOf, valueOf};
@@ -77,20 +78,20 @@ pub fn days_in_month(year: u32, month: u32) -> u32
 // ---- check 7
 
 fn is_year(year: u32) -> bool
-    ensures { λ r. ⌜ r ≡ (leb 1 year && leb year 9999) ⌝ }
+    ensures { λ r. ⌜ r ≡ yearRule year .holds ⌝ }
 {
     (1 <= year) & (year <= 9999)
 }
 
 fn is_month(month: u32) -> bool
-    ensures { λ r. ⌜ r ≡ isMonth month ⌝ }
+    ensures { λ r. ⌜ r ≡ monthRule month .holds ⌝ }
 {
     (1 <= month) & (month <= 12)
 }
 
 // No day is one of a month that is not.
 fn is_day(year: u32, month: u32, day: u32) -> bool
-    ensures { λ r. ⌜ r ≡ (leb 1 day && leb day (daysInMonth year month)) ⌝ }
+    ensures { λ r. ⌜ r ≡ dayRule year month day .holds ⌝ }
 {
     (1 <= day) & (day <= days_in_month(year, month))
 }
@@ -117,7 +118,7 @@ fn offset_magnitude(minutes: i32) -> u32
 
 // Unknown, or -1439 to 1439 minutes at minute or second precision.
 fn offset_fits(offset: Offset, fields: u32) -> bool
-    ensures { λ r. ⌜ ((fs : List ℕ) → length fs ≡ fields → r ≡ offsetFits (offsetMinutes offset) fs) ⌝ }
+    ensures { λ r. ⌜ ((fs : List ℕ) → length fs ≡ fields → r ≡ isNone (firstBad (offsetRules (offsetMinutes offset) fs))) ⌝ }
 {
     match offset {
         Offset::Unknown => true,
@@ -162,7 +163,7 @@ fn digits_hold(digits: u32, coefficient: u64) -> bool
 
 // None, or 1 to 18 digits at second precision.
 fn fraction_fits(fraction: Fraction, fields: u32) -> bool
-    ensures { λ r. ⌜ ((fs : List ℕ) → length fs ≡ fields → r ≡ fractionFits (fractionDigits fraction) fs) ⌝ }
+    ensures { λ r. ⌜ ((fs : List ℕ) → length fs ≡ fields → r ≡ isNone (firstBad (fractionRules (fractionDigits fraction) fs))) ⌝ }
 {
     match fraction {
         Fraction::None => true,
@@ -463,21 +464,17 @@ fn put_value(buf: &mut [u8], at: usize, t: Timestamp) -> usize
     header + put_body(buf, at + header, t)
 }
 
-// The bytes that `t` takes, header and body, where they are at most `room`; none where it does not pass check 7.
+// The bytes that `t` takes, header and body; none where it does not pass check 7.
 // Of the UTC fields only the year can take another count of bytes than the local one.
-pub fn size(t: Timestamp, room: usize) -> usize
-    ensures { λ r. ⌜ r ≡ fitted room (checkedBytes (argumentOf t)) ⌝ }
+pub fn size(t: Timestamp) -> usize
+    ensures { λ r. ⌜ r ≡ length (checkedBytes (argumentOf t)) ⌝ }
 {
     if !is_valid(t) {
         return 0;
     }
     let mut by_year = t;
     by_year.year = utc_year(t);
-    let size = value_size(by_year);
-    if room < size {
-        return 0;
-    }
-    size
+    value_size(by_year)
 }
 
 // Header and body: the offset as a VarInt, the UTC fields as VarUInts, then any fraction as a decimal's body.

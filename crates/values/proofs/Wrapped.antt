@@ -12,12 +12,10 @@ use lib.ListN.{length, length-append}
 use Rattle.ion.proofs.Tests.{by-cases, both}
 use Rattle.encoding.specs.Headers.{annotatedBytes}
 use Rattle.encoding.specs.Argument.{Argument, argumentBytes, argumentChecks, anyHolds, checkedBytes}
-use Rattle.encoding.proofs.Headers.{annotated-longer}
-use Rattle.buffer.specs.Laid.{placed, fitted}
-use Rattle.buffer.proofs.Laid.{placed-or, placed-nil, placed-full, placed-most, placed-count}
+use Rattle.buffer.specs.Laid.{placed}
+use Rattle.buffer.proofs.Laid.{placed-or, placed-nil, placed-most, placed-count}
 use Rattle.annotations.specs.Sids.{sidsOf}
 use Rattle.annotations.specs.Prefix.{prefixBytes, placedBefore}
-use Rattle.annotations.proofs.Fitted.{fitted-or}
 use Rattle.annotations.proofs.Sids.{annotations-least, sids-none, sids-some}
 use Rattle.annotations.proofs.Prefix.{annotated-prefix, length-prefix, placedBefore-fits, placedBefore-full, prefix-then}
 use Rattle.decimal.proofs.Values.{checkedBytes-refused, checkedBytes-accepted}
@@ -70,23 +68,14 @@ module _ (b : List ℕ) (at a : ℕ) (an : List ℕ) where
       ((before size ≡ (0, b)) × (placed b at (annotatedAny (a ∷ an) v) ≡ (0, b)))
       ⊎ ((0 < length v) × (before size ≡ placedBefore b at (prefixBytes (a ∷ an) (length v)) (length v)) × (at + length (annotatedBytes (a ∷ an) v) ≤ length b))
 
-  by-length : (v : List ℕ) (size : ℕ) → size ≡ length v → Outcome v size
-  by-length [] size e = inl (ap before e ∙ before-none b at, placed-nil b at)
-  by-length (x ∷ xs) size e = ⊎-elim
+  outcome : (v : List ℕ) (size : ℕ) → size ≡ length v → Outcome v size
+  outcome [] size e = inl (ap before e ∙ before-none b at, placed-nil b at)
+  outcome (x ∷ xs) size e = ⊎-elim
       (λ o. inr (omega arith, ap before e, o .0))
       (λ o. inl (ap before e ∙ placedBefore-full b at (prefixBytes (a ∷ an) (length (x ∷ xs))) (length (x ∷ xs)) (omega (arith, length-annotated (x ∷ xs))), o .1))
       (placed-or b at (annotatedBytes (a ∷ an) (x ∷ xs)))
 
-  outcome : (v : List ℕ) (size : ℕ) → size ≡ fitted (length b) v → Outcome v size
-  outcome v size e = ⊎-elim
-      (λ o. by-length v size (e ∙ o .1))
-      (λ o. inl (
-        ap before (e ∙ o .1) ∙ before-none b at,
-        ap (placed b at) (annotatedAny-some (a ∷ an) v (omega arith)) ∙ placed-full b at (annotatedBytes (a ∷ an) v) (omega (arith, annotated-longer (a ∷ an) v)),
-      ))
-      (fitted-or (length b) v)
-
-  module _ (v : List ℕ) (size : ℕ) (e : size ≡ fitted (length b) v) (p : ℕ) (l : List ℕ) (w : _≡_ {A = ℕ × List ℕ} (p, l) (before size)) where
+  module _ (v : List ℕ) (size : ℕ) (e : size ≡ length v) (p : ℕ) (l : List ℕ) (w : _≡_ {A = ℕ × List ℕ} (p, l) (before size)) where
     prefix : List ℕ
     prefix = prefixBytes (a ∷ an) (length v)
 
@@ -124,15 +113,15 @@ module _ (b : List ℕ) (at a : ℕ) (an : List ℕ) where
 -- annotations are lent, and `size` is that of the value
 module _ (b : List ℕ) (at : ℕ) (notes : List ℕ) (some : 0 < length notes) (size p : ℕ) (l : List ℕ)
     (w : _≡_ {A = ℕ × List ℕ} (p, l) (placedBefore b at (prefixFor (sidsOf notes) size) size)) where
-  wrapped : (v : List ℕ) → size ≡ fitted (length b) v → Wrapped b at v (annotatedAny (sidsOf notes) v) p l
+  wrapped : (v : List ℕ) → size ≡ length v → Wrapped b at v (annotatedAny (sidsOf notes) v) p l
   wrapped v e =
       let s = sids-some notes some in
       rw (s .2) (wrapped-by b at (s .0) (s .1) v size e p l (w ∙ ap (λ (an : List ℕ). placedBefore b at (prefixFor an size) size) (s .2)))
 
-  pub wrapped-scalar : (a : Argument) → size ≡ fitted (length b) (checkedBytes a) → Wrapped b at (checkedBytes a) (annotatedChecked (sidsOf notes) a) p l
+  pub wrapped-scalar : (a : Argument) → size ≡ length (checkedBytes a) → Wrapped b at (checkedBytes a) (annotatedChecked (sidsOf notes) a) p l
   wrapped-scalar a e = rw (annotated-checked (sidsOf notes) a) (wrapped (checkedBytes a) e)
 
-  pub wrapped-bytes : (v : List ℕ) → 0 < length v → size ≡ fitted (length b) v → Wrapped b at v (annotatedBytes (sidsOf notes) v) p l
+  pub wrapped-bytes : (v : List ℕ) → 0 < length v → size ≡ length v → Wrapped b at v (annotatedBytes (sidsOf notes) v) p l
   wrapped-bytes v q e = rw (← (annotatedAny-some (sidsOf notes) v q)) (wrapped v e)
 
 -- ---- a wrapper where there are annotations
@@ -156,13 +145,13 @@ noWrapper p notes = eqb p 0 && not (eqb (length notes) 0)
 
 -- what the call that puts the wrapper, if any, answered (p) and left (l)
 module _ (b : List ℕ) (at : ℕ) (notes : List ℕ) (a : Argument) (p : ℕ) (l : List ℕ)
-    (w : _≡_ {A = ℕ × List ℕ} (p, l) (placedWrapper b at (sidsOf notes) (fitted (length b) (checkedBytes a)))) where
+    (w : _≡_ {A = ℕ × List ℕ} (p, l) (placedWrapper b at (sidsOf notes) (length (checkedBytes a)))) where
   -- without annotations nothing is put
   plain : eqb (length notes) 0 ≡ true → _≡_ {A = ℕ × List ℕ} (p, l) (0, b)
-  plain e = w ∙ wrapper-none b at notes (eqb-true (length notes) 0 e) (fitted (length b) (checkedBytes a))
+  plain e = w ∙ wrapper-none b at notes (eqb-true (length notes) 0 e) (length (checkedBytes a))
 
   annotated : 0 < length notes → Wrapped b at (checkedBytes a) (annotatedChecked (sidsOf notes) a) p l
-  annotated h = wrapped-scalar b at notes h (fitted (length b) (checkedBytes a)) p l (w ∙ sym (wrapper-some b at notes h (fitted (length b) (checkedBytes a)))) a refl
+  annotated h = wrapped-scalar b at notes h (length (checkedBytes a)) p l (w ∙ sym (wrapper-some b at notes h (length (checkedBytes a)))) a refl
 
   some-notes : eqb (length notes) 0 ≡ false → 0 < length notes
   some-notes e = let n = eqb-false (length notes) 0 e in omega arith

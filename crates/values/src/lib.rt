@@ -8,7 +8,7 @@ ghost use lib.ListN.{length};
 ghost use Rattle.encoding.specs.Headers.{framedBytes, annotatedBytes};
 ghost use Rattle.encoding.specs.Argument.{checkedBytes, writeNull, writeBool, writeI64, writeInt, writeF32, writeF64, writeDecimal};
 ghost use Rattle.encoding.specs.Argument.{writeSymbol, writeString, writeClob, writeBlob};
-ghost use Rattle.buffer.specs.Laid.{placed, fitted};
+ghost use Rattle.buffer.specs.Laid.{placed};
 ghost use Rattle.annotations.specs.Sids.{sidsOf};
 ghost use Rattle.annotations.specs.Prefix.{placedBefore};
 ghost use Rattle.timestamp.specs.Arguments.{argumentOf};
@@ -42,7 +42,7 @@ fn annotated(buf: &mut [u8], at: usize, annotations: &[u8], value: Scalar) -> us
     ensures { λ r. ⌜ _≡_ {A = ℕ × List ℕ} (r, now (buf .exit))
         (placed (now (buf .entry)) at (annotatedChecked (sidsOf (now (annotations .entry))) (scalarArgument value))) ⌝ }
 {
-    let wrapper = write_wrapper(buf, at, annotations, scalars::size(value, buf.len()));
+    let wrapper = write_wrapper(buf, at, annotations, scalars::size(value));
     if wrapper == 0 {
         return 0;
     }
@@ -68,12 +68,7 @@ fn write_bytes(buf: &mut [u8], at: usize, annotations: &[u8], code: u8, bytes: &
     if annotations.len() == 0 {
         return scalars::write_bytes(buf, at, code, bytes);
     }
-    let wrapper = write_wrapper(
-        buf,
-        at,
-        annotations,
-        scalars::framed_size(bytes.len(), buf.len()),
-    );
+    let wrapper = write_wrapper(buf, at, annotations, scalars::bytes_size(bytes));
     if wrapper == 0 {
         return 0;
     }
@@ -124,12 +119,7 @@ pub fn write_int(
     if annotations.len() == 0 {
         return scalars::write_int(buf, at, negative, magnitude);
     }
-    let wrapper = write_wrapper(
-        buf,
-        at,
-        annotations,
-        scalars::int_size(negative, magnitude, buf.len()),
-    );
+    let wrapper = write_wrapper(buf, at, annotations, scalars::int_size(negative, magnitude));
     if wrapper == 0 {
         return 0;
     }
@@ -177,7 +167,7 @@ pub fn write_decimal(
         buf,
         at,
         annotations,
-        decimal::size(negative, coefficient, exponent, buf.len()),
+        decimal::size(negative, coefficient, exponent),
     );
     if wrapper == 0 {
         return 0;
@@ -188,12 +178,12 @@ pub fn write_decimal(
 // What stands before a timestamp: nothing without annotations, where the value does not fit behind them, or where check 7 refuses it.
 fn timestamp_wrapper(buf: &mut [u8], at: usize, annotations: &[u8], value: Timestamp) -> usize
     ensures { λ r. ⌜ _≡_ {A = ℕ × List ℕ} (r, now (buf .exit))
-        (placedWrapper (now (buf .entry)) at (sidsOf (now (annotations .entry))) (fitted (length (now (buf .entry))) (checkedBytes (argumentOf value)))) ⌝ }
+        (placedWrapper (now (buf .entry)) at (sidsOf (now (annotations .entry))) (length (checkedBytes (argumentOf value)))) ⌝ }
 {
     if annotations.len() == 0 {
         return 0;
     }
-    write_wrapper(buf, at, annotations, timestamp::size(value, buf.len()))
+    write_wrapper(buf, at, annotations, timestamp::size(value))
 }
 
 // Local fields. One that breaks the rules of check 7 is refused.

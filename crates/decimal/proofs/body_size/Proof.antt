@@ -44,21 +44,15 @@ returns c =
 encoded-size-of-requires-2 : tie.Need-encoded-size-of-requires-2
 encoded-size-of-requires-2 c κs = search needs
 
-add-size : tie.Need-add-size
-add-size c =
+add-result : tie.Need-add-result
+add-result c =
     let m = c .before .before in
     let s = m .before .before .before in
     let magnitude = s .args .magnitude .now in
     omega (arith, c .encoded-size-of2 .ensures, m .before .encoded-size-of .ensures, varInt-most false (m .magnitude .result) (omega (arith, m .magnitude .ok)), int-trimmed-most (s .args .negative) magnitude, s .good .1 .0 .1)
 
-add-result : tie.Need-add-result
-add-result c = search needs
-
 returns-2 : tie.Need-returns-2
-returns-2 c = omega (arith, body (c .before))
-
-returns-3 : tie.Need-returns-3
-returns-3 c = omega (arith, body (c .before))
+returns-2 c = body c
 
 pub body-size-spec : {M : Type 1} → statement M
 body-size-spec =
@@ -68,7 +62,5 @@ body-size-spec =
     magnitude-requires
     returns
     encoded-size-of-requires-2
-    add-size
     add-result
-    returns-2
-    returns-3)
+    returns-2)

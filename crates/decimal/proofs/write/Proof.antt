@@ -2,7 +2,7 @@
 -- Assumes nothing.
 use Rattle.decimal.proofs.Values.{body-room, placed-framed, value-count}
 use mathlib.Core.Path.{_≡_, sym, _∙_}
-use Prim.Native.Nat.{ℕ, _+_, _≤_, min}
+use Prim.Native.Nat.{ℕ, _+_, _≤_}
 use native.Mathlib.Omega.{arith}
 use lib.ListN.{length}
 use mir.Syntax.{w64}
@@ -14,12 +14,12 @@ use Rattle.ion.specs.Value.{decimalCode}
 use Rattle.encoding.specs.Headers.{typeByte, headerBytes}
 use Rattle.buffer.specs.Laid.{placed}
 use Rattle.buffer.proofs.Laid.{placed-nil, placed-full, no-room, room}
-use Rattle.decimal.proofs.Decimals.{refused, body-length, accepted, value-length, value-fits}
+use Rattle.decimal.proofs.Decimals.{refused, accepted, value-length, value-fits}
 use borrow.Author.Needs.{needs}
 use Rattle.decimal.proofs.write.Statement.{statement}
 use Rattle.decimal.proofs.write.Tie as tie
 
-body : (c : tie.After-body-size) → let a = c .before .before .before .args in c .body-size .result ≡ min 33 (length (decimalBody (a .negative) (a .magnitude .now) (a .exponent)))
+body : (c : tie.After-body-size) → let a = c .before .before .before .args in c .body-size .result ≡ length (decimalBody (a .negative) (a .magnitude .now) (a .exponent))
 body c = let s = c .before .before .before in c .body-size .ensures ∙ rw (toZ-ofZ w64 (s .args .exponent) (s .fits .exponent))
 
 value : (c : tie.After-encoded-size-of) →
@@ -31,10 +31,7 @@ value c =
     let a = d .before .before .before .args in
     value-length (a .negative) (a .magnitude .now) (a .exponent) (d .body-size .result) (body d) (c .before .if1 .left) (c .encoded-size-of .result) (c .encoded-size-of .ensures)
 
--- the body that is put, and the room for it
-passed : (c : tie.Else1) → let a = c .before .before .before .before .args in c .before .body-size .result ≡ length (decimalBody (a .negative) (a .magnitude .now) (a .exponent))
-passed c = let a = c .before .before .before .before .args in body-length (a .negative) (a .magnitude .now) (a .exponent) (c .before .body-size .result) (body (c .before)) (c .if1 .left)
-
+-- the room for the body
 within : (c : tie.Else2) →
     let a = c .before .before .before .before .before .before .before .args in
     let out = decimalBody (a .negative) (a .magnitude .now) (a .exponent) in
@@ -43,13 +40,13 @@ within c =
     let r = c .before in
     let n = r .before in
     let a = n .before .before .before .before .before .args in
-    rw (← (passed (n .before)), ← (n .encoded-size-of .ensures))
+    rw (← (body (n .before .before)), ← (n .encoded-size-of .ensures))
     (room (r .has-room .result) (a .buf .now) (a .at + (n .encoded-size-of .result + n .before .before .body-size .result)) (r .has-room .ensures) (c .if2 .left))
 
 header : (c : tie.After-write) →
     let a = c .before .before .before .before .before .before .before .before .before .args in
     _≡_ {A = ℕ × List ℕ} (c .write .result, c .write .last .0) (placed (a .buf .now) (a .at) (headerBytes (typeByte decimalCode) (length (decimalBody (a .negative) (a .magnitude .now) (a .exponent)))))
-header c = rw (← (passed (c .before .before .before .before .before))) (c .write .ensures)
+header c = rw (← (body (c .before .before .before .before .before .before))) (c .write .ensures)
 
 body-behind : (c : tie.After-write) →
     let a = c .before .before .before .before .before .before .before .before .before .args in
@@ -104,7 +101,7 @@ add-put-body c = let w = c .before .before .before in omega (arith, within (w .b
 put-body-requires : tie.Need-put-body-requires
 put-body-requires c κs =
     let w = c .before .before .before in
-    let p = passed (w .before .before .before .before .before) in
+    let p = body (w .before .before .before .before .before .before) in
     let s = w .before .before .before .before .before .before .before .before .before in
     rw (toZ-ofZ w64 (s .args .exponent) (s .fits .exponent)) (p, omega (arith, p, body-behind w))
 

@@ -7,7 +7,6 @@ use lib.Dec.{eqb}
 use lib.ListN.{length}
 use Rattle.encoding.specs.Fields.{trimmed, orZero}
 use Rattle.fields.proofs.Signs.{boolByte-most}
-use Rattle.decimal.proofs.Values.{fitted-nil}
 use Rattle.scalars.proofs.Ints.{length-orZero, int-refused, int-accepted}
 use borrow.Author.Needs.{needs}
 use Rattle.scalars.proofs.int_size.Statement.{statement}
@@ -19,7 +18,7 @@ is-negative-zero-requires c κs = search needs
 returns : tie.Need-returns
 returns c =
     let a = c .before .before .before .args in
-    rw (int-refused (a .negative) (a .magnitude .now) (sym (c .before .is-negative-zero .ensures) ∙ c .if1 .taken)) (fitted-nil (a .room))
+    rw (int-refused (a .negative) (a .magnitude .now) (sym (c .before .is-negative-zero .ensures) ∙ c .if1 .taken))
 
 leading-zero-bytes-requires : tie.Need-leading-zero-bytes-requires
 leading-zero-bytes-requires c κs = search needs
@@ -36,7 +35,9 @@ add-framed-size c =
     omega (arith, boolByte-most (eqb (length m - c .leading-zero-bytes .result) 0))
 
 framed-size-requires : tie.Need-framed-size-requires
-framed-size-requires c κs = search needs
+framed-size-requires c κs =
+    let m = c .before .before .before .before .args .magnitude .now in
+    omega (arith, boolByte-most (eqb (length m - c .leading-zero-bytes .result) 0))
 
 returns-2 : tie.Need-returns-2
 returns-2 c =

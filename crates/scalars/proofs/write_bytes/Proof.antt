@@ -1,12 +1,11 @@
 -- `scalars::write_bytes` meets its contract: a header, and the bytes behind it.
 -- By the law of a header and a body. Assumes nothing.
-use mathlib.Core.Path.{sym}
+use mathlib.Core.Path.{refl, sym}
 use Prim.Native.Nat.{_+_, _*_, _/_, _≤_}
 use native.Mathlib.Omega.{arith}
 use lib.ListN.{length}
 use Rattle.encoding.specs.Headers.{headerBytes, framedBytes}
 use Rattle.buffer.proofs.Laid.{placed-full, no-room, room}
-use Rattle.fields.proofs.Headers.{header-most}
 use Rattle.decimal.proofs.Values.{length-framed, header-count, placed-framed, value-count}
 use borrow.Author.Needs.{needs}
 use Rattle.scalars.proofs.write_bytes.Statement.{statement}
@@ -17,13 +16,10 @@ fits : (d : tie.Else1) → let a = d .before .before .before .before .before .ar
 fits d =
     let a = d .before .before .before .before .before .args in
     let h = room (d .before .has-room .result) (a .buf .now) _ (d .before .has-room .ensures) (d .if1 .left) in
-    omega (arith, d .before .before .encoded-size-of .ensures)
+    omega (arith, d .before .before .framed-size .ensures 0 (a .bytes .now) refl, length-framed 0 (a .bytes .now))
 
-encoded-size-of-requires : tie.Need-encoded-size-of-requires
-encoded-size-of-requires c κs = search needs
-
-add-size : tie.Need-add-size
-add-size c = let m = c .before .before .before .args .bytes .now in omega (arith, header-most 0 (length m) (omega arith))
+framed-size-requires : tie.Need-framed-size-requires
+framed-size-requires c κs = search needs
 
 has-room-requires : tie.Need-has-room-requires
 has-room-requires c κs = search needs
@@ -32,7 +28,7 @@ returns : tie.Need-returns
 returns c =
     let a = c .before .before .before .before .before .args in
     let h = no-room (c .before .has-room .result) (a .buf .now) _ (c .before .has-room .ensures) (c .if1 .taken) in
-    sym (placed-full (a .buf .now) (a .at) (framedBytes (a .code / 16 * 16) (a .bytes .now)) (omega (arith, length-framed (a .code / 16 * 16) (a .bytes .now), c .before .before .encoded-size-of .ensures)))
+    sym (placed-full (a .buf .now) (a .at) (framedBytes (a .code / 16 * 16) (a .bytes .now)) (omega (arith, c .before .before .framed-size .ensures (a .code / 16 * 16) (a .bytes .now) refl)))
 
 write-requires : tie.Need-write-requires
 write-requires c κs = search needs
@@ -68,8 +64,7 @@ pub write-bytes-spec : {M : Type 1} → statement M
 write-bytes-spec =
     tie.close
     (tie.spec
-    encoded-size-of-requires
-    add-size
+    framed-size-requires
     has-room-requires
     returns
     write-requires

@@ -1,5 +1,8 @@
 -- `timestamp::fraction_fits` meets its contract, by what `digits_hold` ensures.
 -- Assumes nothing.
+use mathlib.Core.Path.{sym}
+use Rattle.ion.specs.Value.{fraction}
+use Rattle.encoding.proofs.Rules.{fraction-rules}
 use borrow.Author.Needs.{needs}
 use Rattle.timestamp.proofs.fraction_fits.Statement.{statement}
 use Rattle.timestamp.proofs.fraction_fits.Tie as tie
@@ -17,7 +20,9 @@ returns : tie.Need-returns
 returns c fs e = rw (c .enum-told .given .1)
 
 returns-2 : tie.Need-returns-2
-returns-2 c fs e = rw (c .digits-hold .ensures, c .before .before .fraction .given .1, e)
+returns-2 c fs e =
+    let x = c .before .before .fraction .given in
+    rw (c .digits-hold .ensures, x .1, ← e) (sym (fraction-rules (fraction (x .0 .0) (x .0 .1 .0)) fs))
 
 pub fraction-fits-spec : {M : Type 1} → statement M
 fraction-fits-spec =

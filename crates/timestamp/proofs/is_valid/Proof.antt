@@ -1,6 +1,7 @@
 -- `timestamp::is_valid` meets its contract: the tests in field order are the rules of check 7.
 -- Assumes nothing.
 use mathlib.Core.Path.{_≡_, sym, _∙_}
+use Rattle.encoding.proofs.Rules.{offset-rules, fraction-rules}
 use Rattle.timestamp.specs.Arguments.{offsetMinutes, fractionDigits, fieldsOf}
 use Rattle.timestamp.proofs.Valid.{fieldCount, length-fieldsBy, isTimestamp-tests}
 use borrow.Author.Needs.{needs}
@@ -32,8 +33,10 @@ returns c =
     let t = y .before .before .args .t in
     let l = sym (y .before .field-count .ensures (t .year) (t .month) (t .day) (t .hour) (t .minute) (t .second)) in
     let n : y .before .field-count .result ≡ fieldCount (t .precision) = sym l ∙ length-fieldsBy (t .precision) (t .year) (t .month) (t .day) (t .hour) (t .minute) (t .second) in
-    rw (c .fraction-fits .ensures (fieldsOf t) l, c .before .offset-fits .ensures (fieldsOf t) l, d .is-day .ensures, d .before .is-month .ensures, y .is-year .ensures, n)
-    (isTimestamp-tests (t .precision) (t .year) (t .month) (t .day) (t .hour) (t .minute) (t .second) (offsetMinutes (t .offset)) (fractionDigits (t .fraction)))
+    let o = offsetMinutes (t .offset) in
+    let x = fractionDigits (t .fraction) in
+    rw (c .fraction-fits .ensures (fieldsOf t) l, fraction-rules x (fieldsOf t), c .before .offset-fits .ensures (fieldsOf t) l, offset-rules o (fieldsOf t), d .is-day .ensures, d .before .is-month .ensures, y .is-year .ensures, n)
+    (isTimestamp-tests (t .precision) (t .year) (t .month) (t .day) (t .hour) (t .minute) (t .second) o x)
 
 pub is-valid-spec : {M : Type 1} → statement M
 is-valid-spec =

@@ -1,6 +1,5 @@
 -- `values::write_bytes` meets its contract: the bytes with their header, or an annotated value of them.
 -- By the law of the annotated path. Assumes nothing.
-use mathlib.Core.Path.{refl}
 use Prim.Native.Nat.{_*_, _/_}
 use native.Mathlib.Omega.{arith}
 use Rattle.encoding.specs.Headers.{framedBytes, annotatedBytes}
@@ -20,7 +19,7 @@ path : (d : tie.After-write-wrapper) →
 path d =
     let a = d .before .before .before .before .before .before .before .args in
     let t = a .code / 16 * 16 in
-    wrapped-bytes (a .buf .now) (a .at) (a .annotations .now) (omega arith) _ _ _ (d .write-wrapper .ensures) (framedBytes t (a .bytes .now)) (framed-some t (a .bytes .now)) (d .before .framed-size .ensures t (a .bytes .now) refl)
+    wrapped-bytes (a .buf .now) (a .at) (a .annotations .now) (omega arith) _ _ _ (d .write-wrapper .ensures) (framedBytes t (a .bytes .now)) (framed-some t (a .bytes .now)) (d .before .bytes-size .ensures t)
 
 write-bytes-requires : tie.Need-write-bytes-requires
 write-bytes-requires c κs = search needs
@@ -34,8 +33,8 @@ returns c =
     let v = framedBytes (a .code / 16 * 16) (a .bytes .now) in
     rw (annotatedBytes-none (sidsOf (a .annotations .now)) v (sids-none (a .annotations .now) (c .before .before .before .before .if1 .taken))) (c .before .before .write-bytes .ensures)
 
-framed-size-requires : tie.Need-framed-size-requires
-framed-size-requires c κs = search needs
+bytes-size-requires : tie.Need-bytes-size-requires
+bytes-size-requires c κs = search needs
 
 write-wrapper-requires : tie.Need-write-wrapper-requires
 write-wrapper-requires c κs = search needs
@@ -68,7 +67,7 @@ write-bytes-spec =
     write-bytes-requires
     same-length
     returns
-    framed-size-requires
+    bytes-size-requires
     write-wrapper-requires
     same-length-2
     returns-2
