@@ -13,7 +13,7 @@ const TYPE_CODE: u8 = 0x50;
 // Check 8.
 const MAX_BODY: usize = 32;
 
-// The length of the body. That of a slice is below 2 to the 63, so the sum does not wrap.
+// The length of the body. A slice is shorter than 2 to the 63, so the sum does not wrap.
 pub fn body_size(negative: bool, magnitude: &[u8], exponent: i64) -> usize
     ensures { λ r. ⌜ r ≡ length (decimalBody negative (now (magnitude .entry)) exponent) ⌝ }
 {

@@ -1,6 +1,6 @@
 -- UTC is local minus offset: the day before and the day after are real days, one day number away, and the minutes counted through the calendar
 -- differ by the offset. Assumes nothing.
-use Prim.Native.Nat.{ℕ, zero, suc, _+_, _-_, _*_, _/_, _%_, _<_, _≤_}
+use Prim.Native.Nat.{ℕ, zero, suc, _+_, _-_, _*_, _%_, _<_, _≤_}
 use native.Mathlib.Omega.{arith}
 use native.Mathlib.Numerals.{add-one}
 use mathlib.Core.Path.{_≡_, refl, sym, _∙_, ap, subst}

@@ -111,7 +111,7 @@ pub fn write_symbol(buf: &mut [u8], at: usize, sid: u64) -> usize
     fields::uint::write_framed(buf, at, SYMBOL, sid)
 }
 
-// The bytes that `body` bytes take with their header, of any type. No slice is longer than 2 to the 63, so the sum does not wrap.
+// The bytes that `body` bytes take with their header, of any type. A slice is shorter than 2 to the 63, so the sum does not wrap.
 fn framed_size(body: usize) -> usize
     requires { ⌜ body ≤ 2 ^ 63 ⌝ }
     ensures { λ r. ⌜ ((t : ℕ) (bytes : List ℕ) → length bytes ≡ body → r ≡ length (framedBytes t bytes)) ⌝ }

@@ -1,6 +1,6 @@
 -- The UTC fields of a timestamp that passed check 7 are small, and they are those that its body has.
 -- By the cases of the precision and of the nearby day. Assumes nothing.
-use Prim.Native.Nat.{ℕ, zero, suc, _-_, _/_, _^_, _≤_, _<_}
+use Prim.Native.Nat.{ℕ, _-_, _^_, _≤_, _<_}
 use native.Mathlib.Omega.{arith}
 use native.Mathlib.Nat.{pow-le-pow-right}
 use mathlib.Core.Path.{_≡_, refl, subst}
