@@ -11,7 +11,7 @@ use mathlib.Core.Logic.{_⊎_, inl, inr, ⊎-elim}
 use lib.Dec.{leb}
 use borrow.Author.Tests.{le-leb, lt-leb, leb-true, leb-false, not-true, not-false}
 use lib.ListN.{length, take, drop, set, length-append, length-drop, take-append-drop}
-use lib.Seq.{take-at, drop-at, drop-drop, length-take-le, set-split, take-take, take-append-le}
+use lib.Seq.{take-at, drop-at, drop-drop, length-take-le, set-split, set-at, take-take, take-append-le}
 use Rattle.buffer.specs.Laid.{laid, placed}
 
 pub laid-nil : (b : List ℕ) (at : ℕ) → laid b at [] ≡ b
@@ -76,6 +76,14 @@ module _ (b : List ℕ) (at : ℕ) (xs : List ℕ) (h : at + length xs ≤ lengt
         append-assoc xs ys,
       ) refl))
 
+  -- a store within a run, behind xs
+  pub laid-set : (x : ℕ) (ys : List ℕ) (n v : ℕ) → n ≡ at + length xs → set (laid b at (xs ++ (x ∷ ys))) n v ≡ laid b at (xs ++ (v ∷ ys))
+  unfolding laid
+  laid-set x ys n v e = ap (λ (l : List ℕ). set l n v) (around x) ∙ (set-at (take at b ++ xs) x _ v n (head-length ∙ sym e) ∙ sym (around v))
+    where
+      around : (y : ℕ) → laid b at (xs ++ (y ∷ ys)) ≡ (take at b ++ xs) ++ (y ∷ (ys ++ drop (at + (length xs + length (y ∷ ys))) b))
+      around y = rw (length-append xs (y ∷ ys), append-assoc xs (y ∷ ys)) (sym (append-assoc (take at b) xs _))
+
 -- a store behind a run, and one before it
 pub laid-snoc : (b : List ℕ) (at : ℕ) (xs : List ℕ) (n v : ℕ) → n ≡ at + length xs → n < length b → set (laid b at xs) n v ≡ laid b at (xs ++ (v ∷ []))
 laid-snoc b at xs n v e h =
@@ -131,6 +139,17 @@ module _ (b : List ℕ) (at : ℕ) (xs : List ℕ) (n : ℕ) (l : List ℕ) (e :
   placed-most = ⊎-elim
       (λ w. rw (ap (λ (x : ℕ × List ℕ). x .0) (e ∙ w .1)) (omega arith))
       (λ w. rw (ap (λ (x : ℕ × List ℕ). x .0) (e ∙ w .1)) (omega arith))
+      (placed-or b at xs)
+
+  -- some are put only where there is room for all
+  pub placed-room : (n ≡ 0 → ⊥) → at + length xs ≤ length b
+  placed-room some = ⊎-elim (λ w. w .0) (λ w. absurd (some (ap (λ (x : ℕ × List ℕ). x .0) (e ∙ w .1)))) (placed-or b at xs)
+
+  -- where none is put, other bytes, as many, have no room either
+  pub placed-none : (ys : List ℕ) → n ≡ 0 → 0 < length xs → length ys ≡ length xs → _≡_ {A = ℕ × List ℕ} (0, l) (placed b at ys)
+  placed-none ys z p q = ⊎-elim
+      (λ w. absurd (omega (arith, ap (λ (x : ℕ × List ℕ). x .0) (e ∙ w .1))))
+      (λ w. ap (λ (x : ℕ × List ℕ). (0, x .1)) (e ∙ w .1) ∙ sym (placed-full b at ys (omega (arith, w .0))))
       (placed-or b at xs)
 
   module _ (h : at + length xs ≤ length b) where
