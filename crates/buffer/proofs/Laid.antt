@@ -141,16 +141,16 @@ module _ (b : List ℕ) (at : ℕ) (xs : List ℕ) (n : ℕ) (l : List ℕ) (e :
       (λ w. rw (ap (λ (x : ℕ × List ℕ). x .0) (e ∙ w .1)) (omega arith))
       (placed-or b at xs)
 
-  -- some are put only where there is room for all
-  pub placed-room : (n ≡ 0 → ⊥) → at + length xs ≤ length b
-  placed-room some = ⊎-elim (λ w. w .0) (λ w. absurd (some (ap (λ (x : ℕ × List ℕ). x .0) (e ∙ w .1)))) (placed-or b at xs)
-
-  -- where none is put, other bytes, as many, have no room either
-  pub placed-none : (ys : List ℕ) → n ≡ 0 → 0 < length xs → length ys ≡ length xs → _≡_ {A = ℕ × List ℕ} (0, l) (placed b at ys)
-  placed-none ys z p q = ⊎-elim
+  -- fewer are put only where there is no room for all, and then none
+  pub placed-short : n < length xs → (length b < at + length xs) × (l ≡ b)
+  placed-short h = ⊎-elim
       (λ w. absurd (omega (arith, ap (λ (x : ℕ × List ℕ). x .0) (e ∙ w .1))))
-      (λ w. ap (λ (x : ℕ × List ℕ). (0, x .1)) (e ∙ w .1) ∙ sym (placed-full b at ys (omega (arith, w .0))))
+      (λ w. (w .0, ap (λ (x : ℕ × List ℕ). x .1) (e ∙ w .1)))
       (placed-or b at xs)
+
+  -- there is room for all, unless none is put
+  pub placed-room : (n ≡ 0 → at + length xs ≤ length b) → at + length xs ≤ length b
+  placed-room f = ⊎-elim (λ w. w .0) (λ w. f (ap (λ (x : ℕ × List ℕ). x .0) (e ∙ w .1))) (placed-or b at xs)
 
   module _ (h : at + length xs ≤ length b) where
     placed-pair : _≡_ {A = ℕ × List ℕ} (n, l) (length xs, laid b at xs)

@@ -1,6 +1,6 @@
 -- The fields that the writer puts read back as what they were made of.
 -- Assumes nothing.
-use Prim.Native.Nat.{ℕ, zero, suc, _+_, _*_, _/_, _%_, _^_, _<_, _≤_}
+use Prim.Native.Nat.{ℕ, zero, suc, _+_, _*_, _/_, _%_, _^_, _<_}
 use native.Mathlib.Omega.{arith}
 use native.Mathlib.Nat.{div-add-mod', mod-lt, div-lt-iff-lt-mul, mul-comm, one-le-pow}
 use mathlib.Core.Path.{_≡_, refl, sym, _∙_, ap, subst}
@@ -8,7 +8,6 @@ use mathlib.Core.Bool.{Bool, true, false}
 use mathlib.Core.List.{List, [], _∷_, _++_, append-assoc}
 use mathlib.Core.Option.{some}
 use lib.Dec.{ltb, leb, eqb}
-use lib.ListN.{length}
 use lib.IntN.{ℤ, pos, negsuc}
 use borrow.Author.Tests.{ltb-true, lt-ltb, le-ltb, le-leb, lt-leb, eqb-true}
 use Rattle.ion.specs.Value.{signed}
@@ -16,7 +15,7 @@ use Rattle.ion.specs.Fields.{bigEndian, uint, intField, groups, varUInt, VarUIn
 use Rattle.ion.proofs.Tests.{by-cases}
 use Rattle.encoding.specs.Digits.{lowDigits, digitCount}
 use Rattle.encoding.specs.Fields.{varUIntBytes, signBit, varIntGroups, varIntBytes, signedOf, uintBytes, trimmed, orZero, topBit, intBytes, IsI64}
-use Rattle.encoding.proofs.Digits.{digitCount-below, digitCount-least, length-digits, groups-lowDigits, groups-digits, bigEndian-digits, above}
+use Rattle.encoding.proofs.Digits.{digitCount-below, groups-lowDigits, groups-digits, bigEndian-digits, above}
 
 -- ---- VarUInt
 

@@ -171,9 +171,6 @@ varUInt-least n = rw (length-varUInt n) (omega arith)
 pub varUInt-most : (n : ℕ) → n < 2 ^ 64 → length (varUIntBytes n) ≤ 10
 varUInt-most n h = rw (length-varUInt n) (omega (arith, digitCount-least 128 (omega arith) (n / 128) 9 (omega arith)))
 
-pub varInt-least : (s : Bool) (n : ℕ) → 1 ≤ length (varIntBytes (signed s n))
-varInt-least s n = rw (length-varInt s n) (omega arith)
-
 pub varInt-least-two : (s : Bool) (n : ℕ) → 64 ≤ n → 2 ≤ length (varIntBytes (signed s n))
 varInt-least-two s n h =
     let p : n / 64 < 128 ^ digitCount 128 (n / 64) = digitCount-below 128 (omega arith) (n / 64) in

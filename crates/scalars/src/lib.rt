@@ -96,11 +96,11 @@ fn int_code(negative: bool) -> u8
 pub fn write_i64(buf: &mut [u8], at: usize, value: i64) -> usize
     ensures { λ r. ⌜ _≡_ {A = ℕ × List ℕ} (r, now (buf .exit)) (placed (now (buf .entry)) at (checkedBytes (writeI64 value))) ⌝ }
 {
-    fields::uint::write_framed(
+    uint::write_framed(
         buf,
         at,
-        int_code(fields::sign::is_negative(value)),
-        fields::sign::magnitude(value),
+        int_code(sign::is_negative(value)),
+        sign::magnitude(value),
     )
 }
 
@@ -108,18 +108,18 @@ pub fn write_i64(buf: &mut [u8], at: usize, value: i64) -> usize
 pub fn write_symbol(buf: &mut [u8], at: usize, sid: u64) -> usize
     ensures { λ r. ⌜ _≡_ {A = ℕ × List ℕ} (r, now (buf .exit)) (placed (now (buf .entry)) at (checkedBytes (writeSymbol sid))) ⌝ }
 {
-    fields::uint::write_framed(buf, at, SYMBOL, sid)
+    uint::write_framed(buf, at, SYMBOL, sid)
 }
 
 // A body of any length behind its header: strings, clobs and blobs. The low four bits of `code` do not count.
 pub fn write_bytes(buf: &mut [u8], at: usize, code: u8, bytes: &[u8]) -> usize
     ensures { λ r. ⌜ _≡_ {A = ℕ × List ℕ} (r, now (buf .exit)) (placed (now (buf .entry)) at (framedBytes (code / 16 * 16) (now (bytes .entry)))) ⌝ }
 {
-    let size = fields::header::encoded_size_of(bytes.len()) + bytes.len();
+    let size = header::encoded_size_of(bytes.len()) + bytes.len();
     if !buffer::has_room(buf.len(), at, size) {
         return 0;
     }
-    let header = fields::header::write(buf, at, code, bytes.len());
+    let header = header::write(buf, at, code, bytes.len());
     header + buffer::copy(buf, at + header, bytes)
 }
 
@@ -127,7 +127,7 @@ pub fn write_bytes(buf: &mut [u8], at: usize, code: u8, bytes: &[u8]) -> usize
 pub fn is_negative_zero(negative: bool, magnitude: &[u8]) -> bool
     ensures { λ r. ⌜ r ≡ (negative && eqb (uint (now (magnitude .entry))) 0) ⌝ }
 {
-    negative & (fields::uint::leading_zero_bytes(magnitude) == magnitude.len())
+    negative & (uint::leading_zero_bytes(magnitude) == magnitude.len())
 }
 
 // The sign and a big-endian magnitude, whose leading zero bytes do not count. Zero has one byte; negative zero is refused.
@@ -138,7 +138,7 @@ pub fn write_int(buf: &mut [u8], at: usize, negative: bool, magnitude: &[u8]) ->
         return 0;
     }
     let code = int_code(negative);
-    let zeros = fields::uint::leading_zero_bytes(magnitude);
+    let zeros = uint::leading_zero_bytes(magnitude);
     if zeros == magnitude.len() {
         return write_bytes(buf, at, code, b"\0");
     }
@@ -159,7 +159,7 @@ fn fit(size: usize, room: usize) -> usize
 pub fn framed_size(body: usize, room: usize) -> usize
     ensures { λ r. ⌜ ((t : ℕ) (bytes : List ℕ) → length bytes ≡ body → r ≡ fitted room (framedBytes t bytes)) ⌝ }
 {
-    let header = fields::header::encoded_size_of(body);
+    let header = header::encoded_size_of(body);
     if !buffer::has_room(room, header, body) {
         return 0;
     }
@@ -173,7 +173,7 @@ pub fn int_size(negative: bool, magnitude: &[u8], room: usize) -> usize
     if is_negative_zero(negative, magnitude) {
         return 0;
     }
-    let body = magnitude.len() - fields::uint::leading_zero_bytes(magnitude);
+    let body = magnitude.len() - uint::leading_zero_bytes(magnitude);
     framed_size(body + (body == 0) as usize, room)
 }
 
@@ -184,15 +184,12 @@ pub fn size(value: Scalar, room: usize) -> usize
     match value {
         Scalar::Null(_) => fit(1, room),
         Scalar::Bool(_) => fit(1, room),
-        Scalar::I64(n) => framed_size(
-            fields::uint::encoded_size_of(fields::sign::magnitude(n)),
-            room,
-        ),
+        Scalar::I64(n) => framed_size(uint::encoded_size_of(sign::magnitude(n)), room),
         Scalar::F32(v) => fit(floats::f32_size(v), room),
         Scalar::F32Bits(bits) => fit(floats::f32_bits_size(bits), room),
         Scalar::F64(v) => fit(floats::f64_size(v), room),
         Scalar::F64Bits(bits) => fit(floats::f64_bits_size(bits), room),
-        Scalar::Symbol(sid) => framed_size(fields::uint::encoded_size_of(sid), room),
+        Scalar::Symbol(sid) => framed_size(uint::encoded_size_of(sid), room),
     }
 }
 

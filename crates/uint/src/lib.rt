@@ -29,17 +29,19 @@ pub fn write(buf: &mut [u8], at: usize, value: u64) -> usize
 }
 
 // A type byte with the size in its low four bits, and `value` as a UInt, which has eight bytes at most. The low four bits of `code` do not count.
-// The type byte goes over a zero before the UInt.
+// The type byte goes before a UInt that is there, so that the room is tested once.
 pub fn write_framed(buf: &mut [u8], at: usize, code: u8, value: u64) -> usize
     ensures { λ r. ⌜ _≡_ {A = ℕ × List ℕ} (r, now (buf .exit)) (placed (now (buf .entry)) at (framedBytes (code / 16 * 16) (uintBytes value))) ⌝ }
 {
+    if buf.len() <= at {
+        return 0;
+    }
     let size = encoded_size_of(value);
-    let put = write_fixed(buf, at, size + 1, value);
-    if put == 0 {
+    if write(buf, at + 1, value) < size {
         return 0;
     }
     buf[at] = code / 16 * 16 + size as u8;
-    put
+    1 + size
 }
 
 // How many leading bytes of a big-endian magnitude are zero.

@@ -35,7 +35,13 @@ pub fn write(buf: &mut [u8], at: usize, negative: bool, magnitude: u64) -> usize
     if magnitude < TWO_BYTES {
         return buffer::put(buf, at, END_FLAG + sign + magnitude as u8);
     }
-    let put = digits::put_digits(buf, at, encoded_size_of(magnitude), LOWER_7_BITMASK, magnitude);
+    let put = digits::put_digits(
+        buf,
+        at,
+        encoded_size_of(magnitude),
+        LOWER_7_BITMASK,
+        magnitude,
+    );
     if put == 0 {
         return 0;
     }

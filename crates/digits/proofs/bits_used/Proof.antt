@@ -1,12 +1,13 @@
 -- `digits::bits_used` meets its contract: a u64 has at most 64 leading zeros.
 -- Assumes nothing.
+use native.Mathlib.Omega.{arith}
 use lib.Count.{leading-le}
 use borrow.Author.Needs.{needs}
 use Rattle.digits.proofs.bits_used.Statement.{statement}
 use Rattle.digits.proofs.bits_used.Tie as tie
 
 sub-result : tie.Need-sub-result
-sub-result c = leading-le 64 (c .args .value)
+sub-result c = omega (arith, leading-le 64 (c .args .value))
 
 cast-result : tie.Need-cast-result
 cast-result c = search needs

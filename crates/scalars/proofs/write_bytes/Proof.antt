@@ -6,7 +6,7 @@ use native.Mathlib.Omega.{arith}
 use lib.ListN.{length}
 use Rattle.encoding.specs.Headers.{headerBytes, framedBytes}
 use Rattle.buffer.proofs.Laid.{placed-full, no-room, room}
-use Rattle.fields.proofs.Headers.{header-most}
+use Rattle.encoding.proofs.Headers.{header-most}
 use Rattle.decimal.proofs.Values.{length-framed, header-count, placed-framed, value-count}
 use borrow.Author.Needs.{needs}
 use Rattle.scalars.proofs.write_bytes.Statement.{statement}

@@ -6,7 +6,7 @@ use mathlib.Core.Bool.{Bool, false}
 use Prim.Native.Nat.{ℕ, suc, _+_, _-_, _*_, _/_, _%_, _^_, _≤_, _<_}
 use native.Mathlib.Omega.{arith}
 use mir.Val.{boolByte}
-use lib.ListN.{length, set, length-set}
+use lib.ListN.{set, length-set}
 use Rattle.ion.specs.Value.{signed}
 use Rattle.encoding.specs.Digits.{lowDigits, digitCount}
 use Rattle.encoding.specs.Fields.{signBit, varIntGroups, varIntBytes}
@@ -94,7 +94,7 @@ same-length : tie.Need-same-length
 same-length c = search needs
 
 returns : tie.Need-returns
-returns c = 
+returns c =
     let a = c .before .before .before .before .before .before .args in
     c .before .before .put .ensures ∙ ap (placed (a .buf .now) (a .at)) (one (a .negative) (a .magnitude) (omega arith))
 
@@ -108,7 +108,7 @@ same-length-2 : tie.Need-same-length-2
 same-length-2 c = search needs
 
 returns-2 : tie.Need-returns-2
-returns-2 c = 
+returns-2 c =
     let d = c .before .before .before in
     let a = d .before .before .before .before .before .args in
     let s = d .before .encoded-size-of .ensures in
@@ -149,7 +149,7 @@ same-length-3 : tie.Need-same-length-3
 same-length-3 c = search needs
 
 returns-3 : tie.Need-returns-3
-returns-3 c = 
+returns-3 c =
     let d = c .before .before .before in
     let a = d .before .before .before .before .before .args in
     let n = d .put-digits .result in
