@@ -141,17 +141,6 @@ module _ (b : List ℕ) (at : ℕ) (xs : List ℕ) (n : ℕ) (l : List ℕ) (e :
       (λ w. rw (ap (λ (x : ℕ × List ℕ). x .0) (e ∙ w .1)) (omega arith))
       (placed-or b at xs)
 
-  -- fewer are put only where there is no room for all, and then none
-  pub placed-short : n < length xs → (length b < at + length xs) × (l ≡ b)
-  placed-short h = ⊎-elim
-      (λ w. absurd (omega (arith, ap (λ (x : ℕ × List ℕ). x .0) (e ∙ w .1))))
-      (λ w. (w .0, ap (λ (x : ℕ × List ℕ). x .1) (e ∙ w .1)))
-      (placed-or b at xs)
-
-  -- there is room for all, unless none is put
-  pub placed-room : (n ≡ 0 → at + length xs ≤ length b) → at + length xs ≤ length b
-  placed-room f = ⊎-elim (λ w. w .0) (λ w. f (ap (λ (x : ℕ × List ℕ). x .0) (e ∙ w .1))) (placed-or b at xs)
-
   module _ (h : at + length xs ≤ length b) where
     placed-pair : _≡_ {A = ℕ × List ℕ} (n, l) (length xs, laid b at xs)
     placed-pair = e ∙ placed-fits b at xs h
@@ -161,6 +150,20 @@ module _ (b : List ℕ) (at : ℕ) (xs : List ℕ) (n : ℕ) (l : List ℕ) (e :
 
     pub placed-laid : l ≡ laid b at xs
     placed-laid = ap (λ (x : ℕ × List ℕ). x .1) placed-pair
+
+  -- none is put only where there is no room
+  pub placed-none : n ≡ 0 → 0 < length xs → (length b < at + length xs) × (l ≡ b)
+  placed-none z p = ⊎-elim
+      (λ w. absurd (omega (arith, ap (λ (x : ℕ × List ℕ). x .0) (e ∙ w .1))))
+      (λ w. (w .0, ap (λ (x : ℕ × List ℕ). x .1) (e ∙ w .1)))
+      (placed-or b at xs)
+
+  -- some are put only where there is room for all, and then all
+  pub placed-some : (n ≡ 0 → ⊥) → (at + length xs ≤ length b) × (n ≡ length xs) × (l ≡ laid b at xs)
+  placed-some f = ⊎-elim
+      (λ w. (w .0, placed-count (w .0), placed-laid (w .0)))
+      (λ w. absurd (f (ap (λ (x : ℕ × List ℕ). x .0) (e ∙ w .1))))
+      (placed-or b at xs)
 
   -- a second call puts its bytes behind those of the first
   pub placed-then : (ys : List ℕ) (m : ℕ) (l′ : List ℕ) → at + (length xs + length ys) ≤ length b →

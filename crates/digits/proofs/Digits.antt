@@ -8,7 +8,7 @@ use lib.ListN.{length, set}
 use Rattle.encoding.specs.Digits.{lowDigits}
 use Rattle.encoding.proofs.Digits.{length-lowDigits, lowDigits-last}
 use Rattle.buffer.specs.Laid.{laid, placed}
-use Rattle.buffer.proofs.Laid.{laid-set, placed-full, placed-short, placed-room, placed-count, placed-laid}
+use Rattle.buffer.proofs.Laid.{laid-set, placed-full, placed-none, placed-some}
 
 -- all of them are put
 pub record AllPut (b : List ℕ) (at base size n put : ℕ) (l : List ℕ) : Type 0 where
@@ -21,18 +21,14 @@ module _ (b : List ℕ) (at base size n put : ℕ) (l : List ℕ) (e : _≡_ {A 
   pub none-put : (ys : List ℕ) → put ≡ 0 → 0 < size → size ≡ length ys → _≡_ {A = ℕ × List ℕ} (0, l) (placed b at ys)
   none-put ys z p q =
       let w = length-lowDigits base size n in
-      let k = placed-short b at (lowDigits base size n) put l e (omega arith) in
+      let k = placed-none b at (lowDigits base size n) put l e z (omega arith) in
       rw (k .1) (sym (placed-full b at ys (omega arith)))
 
   pub all-put : (put ≡ 0 → ⊥) → AllPut b at base size n put l
   all-put some =
       let w = length-lowDigits base size n in
-      let h = placed-room b at (lowDigits base size n) put l e (λ z. absurd (some z)) in
-      record {
-        count = placed-count b at (lowDigits base size n) put l e h ∙ w;
-        room = omega arith;
-        digits = placed-laid b at (lowDigits base size n) put l e h;
-      }
+      let k = placed-some b at (lowDigits base size n) put l e some in
+      record { count = k .1 ∙ w; room = omega arith; digits = k .2 }
 
 -- the last of them put again
 pub laid-last : (b l : List ℕ) (at base k n p v : ℕ) → p ≡ at + k → at + suc k ≤ length b → l ≡ laid b at (lowDigits base (suc k) n) →

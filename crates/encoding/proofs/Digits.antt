@@ -67,6 +67,11 @@ pub digitCount-zero : (b n : ℕ) → n ≡ 0 → digitCount b n ≡ 0
 unfolding digitCount
 digitCount-zero b n z = count-zero b n n z
 
+pub digitCount-pos : (b n : ℕ) → 0 < n → 0 < digitCount b n
+unfolding digitCount
+digitCount-pos b zero p = absurd (omega arith)
+digitCount-pos b (suc n) p = rw (count-more b n (suc n) p) (omega arith)
+
 module _ (b : ℕ) (two : 2 ≤ b) where
   below-power : (k : ℕ) → suc k ≤ b ^ k
   below-power zero = rw (pow-zero b) (omega arith)

@@ -13,7 +13,7 @@ use lib.ListN.{length, length-append}
 use Rattle.ion.specs.Value.{signed}
 use Rattle.encoding.specs.Digits.{lowDigits, digitCount, digits}
 use Rattle.encoding.specs.Fields.{varUIntBytes, varIntGroups, varIntBytes, uintBytes, fixedBytes, intBytes}
-use Rattle.encoding.proofs.Digits.{Reaches, length-lowDigits, length-digits, lowDigits-first, digitCount-is, digitCount-reaches, digitCount-zero, digitCount-below, digitCount-least}
+use Rattle.encoding.proofs.Digits.{Reaches, length-lowDigits, length-digits, lowDigits-first, digitCount-is, digitCount-reaches, digitCount-zero, digitCount-pos, digitCount-below, digitCount-least}
 use Rattle.encoding.proofs.Bits.{bitsUsed, bitsUsed-pos, digitCount-by-zeros}
 use Rattle.encoding.proofs.Fields.{first-six}
 use Rattle.encoding.proofs.Signs.{int-clear, int-taken, int-zero}
@@ -60,6 +60,9 @@ fixed-none n = refl
 pub uint-fixed : (n k : ℕ) → k ≡ length (uintBytes n) → uintBytes n ≡ fixedBytes k n
 unfolding uintBytes digits fixedBytes
 uint-fixed n k e = ap (λ (j : ℕ). lowDigits 256 j n) (sym (e ∙ length-uint n))
+
+pub uint-zero : (n : ℕ) → n ≡ 0 → uintBytes n ≡ []
+uint-zero n z = uint-fixed n 0 (sym (length-uint n ∙ digitCount-zero 256 n z)) ∙ fixed-none n
 
 -- ---- an Int of a number without sign is its bytes with the top bit clear
 
@@ -120,7 +123,7 @@ pub int-fixed : (n : ℕ) → 0 < n → intBytes false (uintBytes n) ≡ fixedBy
 int-fixed n p = go (digitCount 256 n) refl
   where
     go : (k : ℕ) → digitCount 256 n ≡ k → intBytes false (uintBytes n) ≡ fixedBytes (suc (digitCount 256 (n / 128))) n
-    go zero e = let h : n < 256 ^ 0 = rw e at (digitCount-below 256 (omega arith) n) in absurd (omega arith)
+    go zero e = absurd (omega (arith, digitCount-pos 256 n p))
     go (suc j) e = side (ltb (top n j e) 128) refl
       where
         side : (t : Bool) → ltb (top n j e) 128 ≡ t → intBytes false (uintBytes n) ≡ fixedBytes (suc (digitCount 256 (n / 128))) n
@@ -172,16 +175,13 @@ pub varUInt-most : (n : ℕ) → n < 2 ^ 64 → length (varUIntBytes n) ≤ 10
 varUInt-most n h = rw (length-varUInt n) (omega (arith, digitCount-least 128 (omega arith) (n / 128) 9 (omega arith)))
 
 pub varInt-least-two : (s : Bool) (n : ℕ) → 64 ≤ n → 2 ≤ length (varIntBytes (signed s n))
-varInt-least-two s n h =
-    let p : n / 64 < 128 ^ digitCount 128 (n / 64) = digitCount-below 128 (omega arith) (n / 64) in
-    rw (length-varInt s n) (go (digitCount 128 (n / 64)) p)
-  where
-    go : (k : ℕ) → n / 64 < 128 ^ k → 2 ≤ suc k
-    go zero q = absurd (omega arith)
-    go (suc k) q = omega arith
+varInt-least-two s n h = rw (length-varInt s n) (omega (arith, digitCount-pos 128 (n / 64) (omega arith)))
 
 pub varInt-most : (s : Bool) (n : ℕ) → n < 2 ^ 64 → length (varIntBytes (signed s n)) ≤ 10
 varInt-most s n h = rw (length-varInt s n) (omega (arith, digitCount-least 128 (omega arith) (n / 64) 9 (omega arith)))
+
+pub uint-least : (n : ℕ) → 0 < n → 1 ≤ length (uintBytes n)
+uint-least n p = rw (length-uint n) (digitCount-pos 256 n p)
 
 pub uint-most : (n : ℕ) → n < 2 ^ 64 → length (uintBytes n) ≤ 8
 uint-most n h = rw (length-uint n) (digitCount-least 256 (omega arith) n 8 h)

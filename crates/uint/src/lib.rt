@@ -29,18 +29,22 @@ pub fn write(buf: &mut [u8], at: usize, value: u64) -> usize
 }
 
 // A type byte with the size in its low four bits, and `value` as a UInt, which has eight bytes at most. The low four bits of `code` do not count.
-// The type byte goes before a UInt that is there, so that the room is tested once.
+// The UInt is put first and tests the room; zero has none.
 pub fn write_framed(buf: &mut [u8], at: usize, code: u8, value: u64) -> usize
     ensures { λ r. ⌜ _≡_ {A = ℕ × List ℕ} (r, now (buf .exit)) (placed (now (buf .entry)) at (framedBytes (code / 16 * 16) (uintBytes value))) ⌝ }
 {
+    let high = code / 16 * 16;
+    if value == 0 {
+        return buffer::put(buf, at, high);
+    }
     if buf.len() <= at {
         return 0;
     }
-    let size = encoded_size_of(value);
-    if write(buf, at + 1, value) < size {
+    let size = write(buf, at + 1, value);
+    if size == 0 {
         return 0;
     }
-    buf[at] = code / 16 * 16 + size as u8;
+    buf[at] = high + size as u8;
     1 + size
 }
 
