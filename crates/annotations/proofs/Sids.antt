@@ -9,7 +9,7 @@ use mathlib.Core.Logic.{⊎-elim}
 use lib.ListN.{length, getD, length-append}
 use Rattle.encoding.specs.Fields.{varUIntBytes, varUIntsBytes, AllU64}
 use Rattle.encoding.specs.Headers.{annotationBytes}
-use Rattle.fields.proofs.Sizes.{varUInt-least, varUInt-most}
+use Rattle.encoding.proofs.Sizes.{varUInt-least, varUInt-most}
 use Rattle.annotations.specs.Sids.{leastFirst, sidAt, sidCount, sidsUpTo, sidsOf}
 
 -- the byte before k - 1 others, of eight

@@ -88,7 +88,7 @@ fn sids_size(annotations: &[u8]) -> usize
     let mut i: usize = 0;
     while i < count {
         let sid = sid_at(annotations, i);
-        let size = fields::var_uint::encoded_size_of(sid);
+        let size = var_uint::encoded_size_of(sid);
         sum += size;
         i += 1;
     }
@@ -106,7 +106,7 @@ fn measure(annotations: &[u8]) -> Sizes
         × (r .whole ≡ length (annotationBytes (sidsOf (now (annotations .entry))))) × (r .whole ≤ 10 * 2 ^ 60 + 10) ⌝ }
 {
     let sum = sids_size(annotations);
-    let whole = fields::var_uint::encoded_size_of(sum as u64) + sum;
+    let whole = var_uint::encoded_size_of(sum as u64) + sum;
     Sizes {
         sum: sum,
         whole: whole,
@@ -122,7 +122,7 @@ fn put_sids(buf: &mut [u8], at: usize, annotations: &[u8]) -> usize
     let mut written: usize = 0;
     let mut i: usize = 0;
     while i < count {
-        written += fields::var_uint::write(buf, at + written, sid_at(annotations, i));
+        written += var_uint::write(buf, at + written, sid_at(annotations, i));
         i += 1;
     }
     written
@@ -133,7 +133,7 @@ fn put(buf: &mut [u8], at: usize, sum: usize, annotations: &[u8]) -> usize
     requires { ⌜ (sum ≡ length (varUIntsBytes (sidsOf (now annotations)))) × (at + length (annotationBytes (sidsOf (now annotations))) ≤ length (now buf)) ⌝ }
     ensures { λ r. ⌜ _≡_ {A = ℕ × List ℕ} (r, now (buf .exit)) (placed (now (buf .entry)) at (annotationBytes (sidsOf (now (annotations .entry))))) ⌝ }
 {
-    let first = fields::var_uint::write(buf, at, sum as u64);
+    let first = var_uint::write(buf, at, sum as u64);
     let rest = put_sids(buf, at + first, annotations);
     first + rest
 }
@@ -176,11 +176,11 @@ pub fn write_prefix(buf: &mut [u8], at: usize, annotations: &[u8], inner: usize)
         return 0;
     }
     let body = whole + inner;
-    let header = fields::header::encoded_size_of(body);
+    let header = header::encoded_size_of(body);
     if !buffer::has_room(buf.len(), at, header + body) {
         return 0;
     }
-    let first = fields::header::write(buf, at, WRAPPER, body);
+    let first = header::write(buf, at, WRAPPER, body);
     let rest = put(buf, at + first, sizes.sum, annotations);
     first + rest
 }

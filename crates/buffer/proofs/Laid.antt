@@ -11,7 +11,7 @@ use mathlib.Core.Logic.{_⊎_, inl, inr, ⊎-elim}
 use lib.Dec.{leb}
 use borrow.Author.Tests.{le-leb, lt-leb, leb-true, leb-false, not-true, not-false}
 use lib.ListN.{length, take, drop, set, length-append, length-drop, take-append-drop}
-use lib.Seq.{take-at, drop-at, drop-drop, length-take-le, set-split, take-take, take-append-le}
+use lib.Seq.{take-at, drop-at, drop-drop, length-take-le, set-split, set-at, take-take, take-append-le}
 use Rattle.buffer.specs.Laid.{laid, placed}
 
 pub laid-nil : (b : List ℕ) (at : ℕ) → laid b at [] ≡ b
@@ -75,6 +75,14 @@ module _ (b : List ℕ) (at : ℕ) (xs : List ℕ) (h : at + length xs ≤ lengt
         ← (add-assoc at (length xs) (length ys)),
         append-assoc xs ys,
       ) refl))
+
+  -- a store within a run, behind xs
+  pub laid-set : (x : ℕ) (ys : List ℕ) (n v : ℕ) → n ≡ at + length xs → set (laid b at (xs ++ (x ∷ ys))) n v ≡ laid b at (xs ++ (v ∷ ys))
+  unfolding laid
+  laid-set x ys n v e = ap (λ (l : List ℕ). set l n v) (around x) ∙ (set-at (take at b ++ xs) x _ v n (head-length ∙ sym e) ∙ sym (around v))
+    where
+      around : (y : ℕ) → laid b at (xs ++ (y ∷ ys)) ≡ (take at b ++ xs) ++ (y ∷ (ys ++ drop (at + (length xs + length (y ∷ ys))) b))
+      around y = rw (length-append xs (y ∷ ys), append-assoc xs (y ∷ ys)) (sym (append-assoc (take at b) xs _))
 
 -- a store behind a run, and one before it
 pub laid-snoc : (b : List ℕ) (at : ℕ) (xs : List ℕ) (n v : ℕ) → n ≡ at + length xs → n < length b → set (laid b at xs) n v ≡ laid b at (xs ++ (v ∷ []))
@@ -142,6 +150,20 @@ module _ (b : List ℕ) (at : ℕ) (xs : List ℕ) (n : ℕ) (l : List ℕ) (e :
 
     pub placed-laid : l ≡ laid b at xs
     placed-laid = ap (λ (x : ℕ × List ℕ). x .1) placed-pair
+
+  -- none is put only where there is no room
+  pub placed-none : n ≡ 0 → 0 < length xs → (length b < at + length xs) × (l ≡ b)
+  placed-none z p = ⊎-elim
+      (λ w. absurd (omega (arith, ap (λ (x : ℕ × List ℕ). x .0) (e ∙ w .1))))
+      (λ w. (w .0, ap (λ (x : ℕ × List ℕ). x .1) (e ∙ w .1)))
+      (placed-or b at xs)
+
+  -- some are put only where there is room for all, and then all
+  pub placed-some : (n ≡ 0 → ⊥) → (at + length xs ≤ length b) × (n ≡ length xs) × (l ≡ laid b at xs)
+  placed-some f = ⊎-elim
+      (λ w. (w .0, placed-count (w .0), placed-laid (w .0)))
+      (λ w. absurd (f (ap (λ (x : ℕ × List ℕ). x .0) (e ∙ w .1))))
+      (placed-or b at xs)
 
   -- a second call puts its bytes behind those of the first
   pub placed-then : (ys : List ℕ) (m : ℕ) (l′ : List ℕ) → at + (length xs + length ys) ≤ length b →

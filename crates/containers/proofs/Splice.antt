@@ -10,7 +10,7 @@ use Rattle.encoding.specs.Headers.{headerBytes, framedBytes}
 use Rattle.machine.specs.Machine.{splice}
 use Rattle.buffer.specs.Laid.{laid}
 use Rattle.buffer.proofs.Laid.{laid-is, laid-more, laid-before}
-use Rattle.fields.proofs.Headers.{length-header}
+use Rattle.encoding.proofs.Headers.{length-header}
 use Rattle.containers.specs.Containers.{spliced}
 
 -- ---- two runs side by side, the second at a place that the code computes

@@ -11,8 +11,8 @@ use lib.ListN.{length, take, length-append}
 use Rattle.encoding.specs.Headers.{headerBytes}
 use Rattle.machine.specs.Machine.{closedBytes}
 use Rattle.buffer.specs.Laid.{laid}
-use Rattle.fields.proofs.Sizes.{varUInt-least}
-use Rattle.fields.proofs.Headers.{header-short, header-long, length-header}
+use Rattle.encoding.proofs.Sizes.{varUInt-least}
+use Rattle.encoding.proofs.Headers.{header-short, header-long, length-header}
 use Rattle.containers.proofs.Closed.{closedBytes-wrapped}
 use Rattle.containers.proofs.Moves.{part, length-part, part-before, part-behind}
 use Rattle.containers.proofs.Splice.{then-behind, then-before, framed-is}

@@ -71,7 +71,7 @@ fn put_header(buf: &mut [u8], at: usize, code: u8, body: usize)
     requires { ⌜ (code / 16 * 16 ≡ code) × (at + length (headerBytes 0 body) ≤ length (now buf)) ⌝ }
     ensures { λ r. ⌜ now (buf .exit) ≡ laid (now (buf .entry)) at (headerBytes code body) ⌝ }
 {
-    fields::header::write(buf, at, code, body);
+    header::write(buf, at, code, body);
 }
 
 // A container without annotations: its header in the short form, and its body behind it.
@@ -81,7 +81,7 @@ fn close_plain(buf: &mut [u8], used: usize, start: usize, code: u8) -> usize
         (spliced used start (closedBytes (record { start = start; header = start; code = code }) (take used (now (buf .entry)))) (now (buf .entry))) ⌝ }
 {
     let body = used - (start + RESERVE);
-    let size = fields::header::encoded_size_of(body);
+    let size = header::encoded_size_of(body);
     let end = start + size + body;
     if buf.len() < end {
         return 0;
@@ -131,9 +131,9 @@ fn close_annotated(buf: &mut [u8], used: usize, start: usize, header: usize, cod
         (spliced used start (closedBytes (record { start = start; header = header; code = code }) (take used (now (buf .entry)))) (now (buf .entry))) ⌝ }
 {
     let body = used - (header + RESERVE);
-    let inner = fields::header::encoded_size_of(body);
+    let inner = header::encoded_size_of(body);
     let content = header - (start + RESERVE) + inner + body;
-    let wrapper = fields::header::encoded_size_of(content);
+    let wrapper = header::encoded_size_of(content);
     let end = start + wrapper + content;
     if buf.len() < end {
         return 0;

@@ -17,8 +17,8 @@ use Rattle.encoding.specs.Headers.{typeByte, headerBytes, framedBytes}
 use Rattle.encoding.specs.Decimal.{isZeroDecimal, decimalBody}
 use Rattle.encoding.specs.Argument.{writeDecimal, argumentBytes, checkedBytes}
 use Rattle.ion.proofs.Tests.{by-cases}
-use Rattle.fields.proofs.Signs.{int-size-none, int-clear, int-taken}
-use Rattle.fields.proofs.Headers.{header-most}
+use Rattle.encoding.proofs.Signs.{int-size-none, int-clear, int-taken}
+use Rattle.encoding.proofs.Headers.{header-most}
 use Rattle.decimal.proofs.Values.{length-framed, checkedBytes-refused, checkedBytes-accepted}
 
 int-nonempty : (s : Bool) (b : ℕ) (bs : List ℕ) → length (intBytes s (b ∷ bs)) ≡ 0 → ⊥

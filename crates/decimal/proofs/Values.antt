@@ -10,7 +10,7 @@ use Rattle.buffer.specs.Laid.{placed}
 use Rattle.buffer.proofs.Laid.{placed-then, placed-count, placed-length}
 use Rattle.encoding.specs.Headers.{headerBytes, framedBytes}
 use Rattle.encoding.specs.Argument.{Argument, argumentBytes, argumentChecks, anyHolds, checkedBytes}
-use Rattle.fields.proofs.Headers.{length-header}
+use Rattle.encoding.proofs.Headers.{length-header}
 
 -- ---- what the checks of its arguments say
 

@@ -17,12 +17,12 @@ const MAX_BODY: usize = 32;
 pub fn body_size(negative: bool, magnitude: &[u8], exponent: i64) -> usize
     ensures { λ r. ⌜ r ≡ length (decimalBody negative (now (magnitude .entry)) exponent) ⌝ }
 {
-    let coefficient = fields::int::encoded_size_of(negative, magnitude);
-    let scale = fields::sign::magnitude(exponent);
+    let coefficient = int::encoded_size_of(negative, magnitude);
+    let scale = sign::magnitude(exponent);
     if (coefficient == 0) & (scale == 0) {
         return 0;
     }
-    fields::var_int::encoded_size_of(scale) + coefficient
+    var_int::encoded_size_of(scale) + coefficient
 }
 
 // The bytes that the decimal takes, header and body; none where the body is longer than 32 bytes.
@@ -33,7 +33,7 @@ pub fn size(negative: bool, magnitude: &[u8], exponent: i64) -> usize
     if MAX_BODY < body {
         return 0;
     }
-    fields::header::encoded_size_of(body) + body
+    header::encoded_size_of(body) + body
 }
 
 // The body, given its length.
@@ -51,27 +51,28 @@ fn put_body(
     if body == 0 {
         return 0;
     }
-    let one = fields::var_int::write(
+    let one = var_int::write(
         buf,
         at,
-        fields::sign::is_negative(exponent),
-        fields::sign::magnitude(exponent),
+        sign::is_negative(exponent),
+        sign::magnitude(exponent),
     );
-    one + fields::int::write(buf, at + one, negative, magnitude)
+    one + int::write(buf, at + one, negative, magnitude)
 }
 
 // Header and body. Nothing is put where the body is longer than 32 bytes.
 pub fn write(buf: &mut [u8], at: usize, negative: bool, magnitude: &[u8], exponent: i64) -> usize
-    ensures { λ r. ⌜ _≡_ {A = ℕ × List ℕ} (r, now (buf .exit)) (placed (now (buf .entry)) at (checkedBytes (writeDecimal negative (now (magnitude .entry)) exponent))) ⌝ }
+    ensures { λ r. ⌜ _≡_ {A = ℕ × List ℕ} (r, now (buf .exit))
+        (placed (now (buf .entry)) at (checkedBytes (writeDecimal negative (now (magnitude .entry)) exponent))) ⌝ }
 {
     let body = body_size(negative, magnitude, exponent);
     if MAX_BODY < body {
         return 0;
     }
-    let size = fields::header::encoded_size_of(body) + body;
+    let size = header::encoded_size_of(body) + body;
     if !buffer::has_room(buf.len(), at, size) {
         return 0;
     }
-    let header = fields::header::write(buf, at, TYPE_CODE, body);
+    let header = header::write(buf, at, TYPE_CODE, body);
     header + put_body(buf, at + header, body, negative, magnitude, exponent)
 }

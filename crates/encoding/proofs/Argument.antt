@@ -23,7 +23,9 @@ use Rattle.encoding.specs.Timestamp.{utc, isTimestamp, timestampBody}
 use Rattle.encoding.specs.Argument.{Argument, writeNull, writeBool, writeI64, writeInt, writeF32, writeF64, writeDecimal, writeTimestamp, writeSymbol, writeString, writeClob, writeBlob, codeOfNull, float32Bytes, narrows, float64Bytes, argumentBytes, meaning, argumentChecks, Typed}
 use Rattle.encoding.proofs.Writable.{NoneHolds}
 use Rattle.encoding.proofs.Digits.{length-lowDigits, bigEndian-fixed}
-use Rattle.encoding.proofs.Fields.{uintBytes-reads, uintBytes-short, trimmed-same, trimmed-shorter, orZero-same}
+use Rattle.encoding.proofs.Fields.{uintBytes-reads, trimmed-same, orZero-same}
+use Rattle.encoding.proofs.Trimmed.{trimmed-shorter}
+use Rattle.encoding.proofs.Sizes.{uint-most}
 use Rattle.encoding.proofs.Headers.{scalar-reads}
 use Rattle.encoding.proofs.Narrowing.{narrowed-exact}
 use Rattle.encoding.proofs.Decimal.{decimalBody-reads}
@@ -102,8 +104,8 @@ unfolding argumentBytes meaning scalarOf
 argumentBytes-reads an (writeNull t) h z = is-null (codeOfNull t) (null-type t)
 argumentBytes-reads an (writeBool false) h z = is-false
 argumentBytes-reads an (writeBool true) h z = is-true
-argumentBytes-reads an (writeI64 (pos n)) h z = scalar-reads an positiveCode (uintBytes n) (int (pos n)) (omega (arith, uintBytes-short n (omega arith))) (rw (uintBytes-reads n))
-argumentBytes-reads an (writeI64 (negsuc n)) h z = scalar-reads an negativeCode (uintBytes (suc n)) (int (negsuc n)) (omega (arith, uintBytes-short (suc n) (omega arith))) (rw (uintBytes-reads (suc n)))
+argumentBytes-reads an (writeI64 (pos n)) h z = scalar-reads an positiveCode (uintBytes n) (int (pos n)) (omega (arith, uint-most n (omega arith))) (rw (uintBytes-reads n))
+argumentBytes-reads an (writeI64 (negsuc n)) h z = scalar-reads an negativeCode (uintBytes (suc n)) (int (negsuc n)) (omega (arith, uint-most (suc n) (omega arith))) (rw (uintBytes-reads (suc n)))
 argumentBytes-reads an (writeInt false m) h z = scalar-reads an positiveCode (orZero (trimmed m)) (int (pos (uint m))) (magnitude-short m h) (rw (magnitude-same m))
 argumentBytes-reads an (writeInt true m) h z = scalar-reads an negativeCode (orZero (trimmed m)) (int (negℤ (pos (uint m)))) (magnitude-short m h) (rw (magnitude-same m) (negative-int (uint m) (z .0)))
 argumentBytes-reads an (writeF32 b) h z = float32-reads an b h
@@ -111,7 +113,7 @@ argumentBytes-reads an (writeF64 b) h z = float64-reads an b h
 argumentBytes-reads an (writeDecimal s m e) h z = scalar-reads an decimalCode (decimalBody s m e) (decimal (signed s (uint m)) e) (small-body (decimalBody s m e) (z .0)) (decimalBody-reads s m e h)
 argumentBytes-reads an (writeTimestamp o fs x) h z =
     scalar-reads an timestampCode (timestampBody o fs x) (timestamp o (utc o fs) x) (small-body (timestampBody o fs x) (z .1 .0)) (timestampBody-reads o fs x (not-false (isTimestamp o fs x) (z .0)))
-argumentBytes-reads an (writeSymbol n) h z = scalar-reads an symbolCode (uintBytes n) (symbol n) (omega (arith, uintBytes-short n h)) (rw (uintBytes-reads n, lt-ltb n (2 ^ 64) h))
+argumentBytes-reads an (writeSymbol n) h z = scalar-reads an symbolCode (uintBytes n) (symbol n) (omega (arith, uint-most n h)) (rw (uintBytes-reads n, lt-ltb n (2 ^ 64) h))
 argumentBytes-reads an (writeString b) h z = scalar-reads an stringCode b (string b) h (rw (not-false (utf8 b) (z .0)))
 argumentBytes-reads an (writeClob b) h z = scalar-reads an clobCode b (clob b) h refl
 argumentBytes-reads an (writeBlob b) h z = scalar-reads an blobCode b (blob b) h refl

@@ -1,6 +1,6 @@
 -- The fields that the writer puts read back as what they were made of.
 -- Assumes nothing.
-use Prim.Native.Nat.{ℕ, zero, suc, _+_, _*_, _/_, _%_, _^_, _<_, _≤_}
+use Prim.Native.Nat.{ℕ, zero, suc, _+_, _*_, _/_, _%_, _^_, _<_}
 use native.Mathlib.Omega.{arith}
 use native.Mathlib.Nat.{div-add-mod', mod-lt, div-lt-iff-lt-mul, mul-comm, one-le-pow}
 use mathlib.Core.Path.{_≡_, refl, sym, _∙_, ap, subst}
@@ -8,7 +8,6 @@ use mathlib.Core.Bool.{Bool, true, false}
 use mathlib.Core.List.{List, [], _∷_, _++_, append-assoc}
 use mathlib.Core.Option.{some}
 use lib.Dec.{ltb, leb, eqb}
-use lib.ListN.{length}
 use lib.IntN.{ℤ, pos, negsuc}
 use borrow.Author.Tests.{ltb-true, lt-ltb, le-ltb, le-leb, lt-leb, eqb-true}
 use Rattle.ion.specs.Value.{signed}
@@ -16,7 +15,7 @@ use Rattle.ion.specs.Fields.{bigEndian, uint, intField, groups, varUInt, VarUIn
 use Rattle.ion.proofs.Tests.{by-cases}
 use Rattle.encoding.specs.Digits.{lowDigits, digitCount}
 use Rattle.encoding.specs.Fields.{varUIntBytes, signBit, varIntGroups, varIntBytes, signedOf, uintBytes, trimmed, orZero, topBit, intBytes, IsI64}
-use Rattle.encoding.proofs.Digits.{digitCount-holds, digitCount-least, length-digits, groups-lowDigits, groups-digits, bigEndian-digits, above}
+use Rattle.encoding.proofs.Digits.{digitCount-below, groups-lowDigits, groups-digits, bigEndian-digits, above}
 
 -- ---- VarUInt
 
@@ -59,7 +58,7 @@ sign-first false n r h =
     rw (lt-ltb (0 + n) 0x80 (omega arith), varInt, d, m)
 
 -- six bits are left for the first byte
-first-six : (n k : ℕ) → n / 64 < 128 ^ k → n / 128 ^ k < 64
+pub first-six : (n k : ℕ) → n / 64 < 128 ^ k → n / 128 ^ k < 64
 first-six n k h =
     div-lt-iff-lt-mul {k = 128 ^ k} (one-le-pow k 128 (omega arith)) .1
     (subst (λ (x : ℕ). n < x) (mul-comm (128 ^ k) 64) (div-lt-iff-lt-mul {k = 64} (omega arith) .0 h))
@@ -73,7 +72,7 @@ varIntGroups-reads s (suc k) n r h =
 
 pub varIntBytes-reads : (s : Bool) (n : ℕ) (r : List ℕ) → isI64 (signed s n) ≡ true → varInt (varIntBytes (signed s n) ++ r) ≡ some (signed s n, r)
 unfolding varIntBytes
-varIntBytes-reads s n r h = varIntGroups-reads s (digitCount 128 (n / 64)) n r (digitCount-holds 128 (n / 64) (omega arith)) ∙ rw h
+varIntBytes-reads s n r h = varIntGroups-reads s (digitCount 128 (n / 64)) n r (digitCount-below 128 (omega arith) (n / 64)) ∙ rw h
 
 -- an offset or exponent within signed 64 bits
 pub signed-reads : (z : ℤ) (r : List ℕ) → IsI64 z → varInt (varIntBytes (signedOf z) ++ r) ≡ some (signedOf z, r)
@@ -85,10 +84,6 @@ signed-reads (negsuc n) r h = varIntBytes-reads true (suc n) r (le-leb (suc n) (
 pub uintBytes-reads : (n : ℕ) → uint (uintBytes n) ≡ n
 unfolding uintBytes
 uintBytes-reads n = bigEndian-digits n
-
-pub uintBytes-short : (n : ℕ) → n < 2 ^ 64 → length (uintBytes n) ≤ 8
-unfolding uintBytes
-uintBytes-short n h = rw (length-digits 256 n) (digitCount-least 256 n 8 (omega arith) h)
 
 bigEndian-zero : (bs : List ℕ) → bigEndian 0 (0 ∷ bs) ≡ bigEndian 0 bs
 unfolding bigEndian
@@ -102,14 +97,6 @@ trimmed-same (b ∷ bs) =
     by-cases (eqb b 0)
     (λ p. rw (p, trimmed, eqb-true b 0 p) (trimmed-same bs ∙ sym (bigEndian-zero bs)))
     (λ p. rw (p, trimmed))
-
-pub trimmed-shorter : (m : List ℕ) → length (trimmed m) ≤ length m
-unfolding trimmed
-trimmed-shorter [] = omega arith
-trimmed-shorter (b ∷ bs) =
-    by-cases (eqb b 0)
-    (λ p. rw (p, trimmed) (omega (arith, trimmed-shorter bs)))
-    (λ p. rw (p, trimmed) (omega arith))
 
 pub orZero-same : (m : List ℕ) → uint (orZero m) ≡ uint m
 unfolding bigEndian

@@ -1,6 +1,10 @@
 pub mod Writable
 pub mod Digits
+pub mod Bits
 pub mod Fields
+pub mod Trimmed
+pub mod Signs
+pub mod Sizes
 pub mod Headers
 pub mod Decimal
 pub mod Rules

@@ -21,7 +21,7 @@ pub extern "C" fn gm_field_name(state: &mut [u8], buf: &mut [u8], sid: u64) -> u
     if !state_bytes::name_passes(state, buf.len()) {
         return entry_numbers::answered(state_bytes::name_place(state, buf.len()));
     }
-    let put = fields::var_uint::write(buf, state_bytes::used(state), sid);
+    let put = var_uint::write(buf, state_bytes::used(state), sid);
     entry_steps::ended(state, put, true, Refusal::NoRoom)
 }
 

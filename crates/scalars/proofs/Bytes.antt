@@ -15,7 +15,7 @@ use Rattle.ion.proofs.Tests.{by-cases}
 use Rattle.encoding.specs.Fields.{uintBytes}
 use Rattle.encoding.specs.Headers.{typeByte, framedBytes}
 use Rattle.encoding.specs.Argument.{Argument, writeNull, writeBool, writeI64, writeInt, writeF32, writeF64, writeDecimal, writeTimestamp, writeSymbol, writeString, writeClob, writeBlob, codeOfNull, codeOfSign, float32Bytes, narrows, float64Bytes, argumentBytes, checkedBytes}
-use Rattle.fields.proofs.Headers.{header-least, typeByte-high}
+use Rattle.encoding.proofs.Headers.{header-least, typeByte-high}
 use Rattle.decimal.proofs.Values.{length-framed}
 
 pub null-bytes : (t : IonType) → checkedBytes (writeNull t) ≡ (typeByte (codeOfNull t) + 15) ∷ []

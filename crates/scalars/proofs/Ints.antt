@@ -16,7 +16,7 @@ use Rattle.encoding.specs.Fields.{trimmed, orZero}
 use Rattle.encoding.specs.Headers.{typeByte, framedBytes}
 use Rattle.encoding.specs.Argument.{writeInt, codeOfSign, argumentBytes, checkedBytes}
 use Rattle.encoding.proofs.Fields.{trimmed-same}
-use Rattle.fields.proofs.Trimmed.{trimmed-nil, trimmed-zero, trimmed-first, orZero-none, orZero-some}
+use Rattle.encoding.proofs.Trimmed.{trimmed-nil, trimmed-zero, trimmed-first, orZero-none, orZero-some}
 use Rattle.decimal.proofs.Values.{checkedBytes-refused, checkedBytes-accepted}
 
 bigEndian-pos : (acc : ℕ) (bs : List ℕ) → 0 < acc → 0 < bigEndian acc bs

@@ -96,11 +96,11 @@ fn int_code(negative: bool) -> u8
 pub fn write_i64(buf: &mut [u8], at: usize, value: i64) -> usize
     ensures { λ r. ⌜ _≡_ {A = ℕ × List ℕ} (r, now (buf .exit)) (placed (now (buf .entry)) at (checkedBytes (writeI64 value))) ⌝ }
 {
-    fields::uint::write_framed(
+    uint::write_framed(
         buf,
         at,
-        int_code(fields::sign::is_negative(value)),
-        fields::sign::magnitude(value),
+        int_code(sign::is_negative(value)),
+        sign::magnitude(value),
     )
 }
 
@@ -108,7 +108,7 @@ pub fn write_i64(buf: &mut [u8], at: usize, value: i64) -> usize
 pub fn write_symbol(buf: &mut [u8], at: usize, sid: u64) -> usize
     ensures { λ r. ⌜ _≡_ {A = ℕ × List ℕ} (r, now (buf .exit)) (placed (now (buf .entry)) at (checkedBytes (writeSymbol sid))) ⌝ }
 {
-    fields::uint::write_framed(buf, at, SYMBOL, sid)
+    uint::write_framed(buf, at, SYMBOL, sid)
 }
 
 // The bytes that `body` bytes take with their header, of any type. A slice is shorter than 2 to the 63, so the sum does not wrap.
@@ -116,7 +116,7 @@ fn framed_size(body: usize) -> usize
     requires { ⌜ body ≤ 2 ^ 63 ⌝ }
     ensures { λ r. ⌜ ((t : ℕ) (bytes : List ℕ) → length bytes ≡ body → r ≡ length (framedBytes t bytes)) ⌝ }
 {
-    fields::header::encoded_size_of(body) + body
+    header::encoded_size_of(body) + body
 }
 
 // A body of any length behind its header: strings, clobs and blobs. The low four bits of `code` do not count.
@@ -126,7 +126,7 @@ pub fn write_bytes(buf: &mut [u8], at: usize, code: u8, bytes: &[u8]) -> usize
     if !buffer::has_room(buf.len(), at, framed_size(bytes.len())) {
         return 0;
     }
-    let header = fields::header::write(buf, at, code, bytes.len());
+    let header = header::write(buf, at, code, bytes.len());
     header + buffer::copy(buf, at + header, bytes)
 }
 
@@ -134,7 +134,7 @@ pub fn write_bytes(buf: &mut [u8], at: usize, code: u8, bytes: &[u8]) -> usize
 pub fn is_negative_zero(negative: bool, magnitude: &[u8]) -> bool
     ensures { λ r. ⌜ r ≡ (negative && eqb (uint (now (magnitude .entry))) 0) ⌝ }
 {
-    negative & (fields::uint::leading_zero_bytes(magnitude) == magnitude.len())
+    negative & (uint::leading_zero_bytes(magnitude) == magnitude.len())
 }
 
 // The sign and a big-endian magnitude, whose leading zero bytes do not count. Zero has one byte; negative zero is refused.
@@ -145,7 +145,7 @@ pub fn write_int(buf: &mut [u8], at: usize, negative: bool, magnitude: &[u8]) ->
         return 0;
     }
     let code = int_code(negative);
-    let zeros = fields::uint::leading_zero_bytes(magnitude);
+    let zeros = uint::leading_zero_bytes(magnitude);
     if zeros == magnitude.len() {
         return write_bytes(buf, at, code, b"\0");
     }
@@ -166,7 +166,7 @@ pub fn int_size(negative: bool, magnitude: &[u8]) -> usize
     if is_negative_zero(negative, magnitude) {
         return 0;
     }
-    let body = magnitude.len() - fields::uint::leading_zero_bytes(magnitude);
+    let body = magnitude.len() - uint::leading_zero_bytes(magnitude);
     framed_size(body + (body == 0) as usize)
 }
 
@@ -177,12 +177,12 @@ pub fn size(value: Scalar) -> usize
     match value {
         Scalar::Null(_) => 1,
         Scalar::Bool(_) => 1,
-        Scalar::I64(n) => framed_size(fields::uint::encoded_size_of(fields::sign::magnitude(n))),
+        Scalar::I64(n) => framed_size(uint::encoded_size_of(sign::magnitude(n))),
         Scalar::F32(v) => floats::f32_size(v),
         Scalar::F32Bits(bits) => floats::f32_bits_size(bits),
         Scalar::F64(v) => floats::f64_size(v),
         Scalar::F64Bits(bits) => floats::f64_bits_size(bits),
-        Scalar::Symbol(sid) => framed_size(fields::uint::encoded_size_of(sid)),
+        Scalar::Symbol(sid) => framed_size(uint::encoded_size_of(sid)),
     }
 }
 

@@ -11,8 +11,8 @@ use lib.IntN.{ℤ, pos, negsuc}
 use Rattle.ion.specs.Value.{signed, Fraction, noFraction, fraction}
 use Rattle.encoding.specs.Fields.{varUIntBytes, varUIntsBytes, varIntBytes}
 use Rattle.encoding.specs.Timestamp.{offsetBytes, fractionBytes}
-use Rattle.fields.proofs.Digits.{bitsUsed-most}
-use Rattle.fields.proofs.Sizes.{varUInt-size-small, varUInt-size, varInt-size}
+use Rattle.encoding.proofs.Bits.{bitsUsed-most}
+use Rattle.encoding.proofs.Sizes.{varUInt-size-small, varUInt-size, varInt-size}
 use Rattle.timestamp.specs.declared.Precision.{Precision}
 use Rattle.timestamp.specs.declared.Precision.the-variants.{Year, Month, Day, Minute, Second}
 use Rattle.timestamp.specs.declared.Timestamp.{Timestamp}

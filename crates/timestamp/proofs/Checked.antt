@@ -13,7 +13,7 @@ use Rattle.ion.specs.Value.{timestampCode}
 use Rattle.encoding.specs.Headers.{typeByte, headerBytes, framedBytes}
 use Rattle.encoding.specs.Timestamp.{utc, isTimestamp, timestampBody}
 use Rattle.encoding.specs.Argument.{argumentBytes, checkedBytes}
-use Rattle.fields.proofs.Headers.{header-most}
+use Rattle.encoding.proofs.Headers.{header-most}
 use Rattle.decimal.proofs.Values.{checkedBytes-refused, checkedBytes-accepted, length-framed}
 use Rattle.timestamp.specs.declared.Timestamp.{Timestamp}
 use Rattle.timestamp.specs.Arguments.{offsetMinutes, fractionDigits, fieldsOf, argumentOf}

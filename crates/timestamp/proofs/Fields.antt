@@ -11,7 +11,7 @@ use Rattle.timestamp.proofs.Precision.{the-type}
 use Rattle.encoding.specs.Fields.{varUIntBytes, varUIntsBytes}
 use Rattle.buffer.specs.Laid.{placed}
 use Rattle.buffer.proofs.Laid.{placed-then, placed-count, placed-length}
-use Rattle.fields.proofs.Sizes.{varUInt-size-small}
+use Rattle.encoding.proofs.Sizes.{varUInt-size-small}
 use Rattle.timestamp.specs.declared.Precision.{Precision}
 use Rattle.timestamp.specs.declared.Precision.the-variants.{Year, Month, Day, Minute, Second}
 use Rattle.timestamp.specs.Arguments.{fieldsBy}

@@ -14,9 +14,10 @@ use Rattle.ion.specs.Value.{signed, fraction}
 use Rattle.encoding.specs.Digits.{lowDigits, digitCount, digits}
 use Rattle.encoding.specs.Fields.{varIntBytes, uintBytes, trimmed, intBytes}
 use Rattle.encoding.specs.Timestamp.{fractionBytes}
-use Rattle.fields.proofs.Digits.{lowDigits-first, digitCount-below, digitCount-reaches, bitsUsed-most}
-use Rattle.fields.proofs.Sizes.{varInt-size-small, int-of-zero, int-size}
-use Rattle.fields.proofs.Trimmed.{trimmed-nil, trimmed-first}
+use Rattle.encoding.proofs.Digits.{lowDigits-first, digitCount-below, digitCount-reaches}
+use Rattle.encoding.proofs.Bits.{bitsUsed-most}
+use Rattle.encoding.proofs.Sizes.{varInt-size-small, int-of-zero, int-size}
+use Rattle.encoding.proofs.Trimmed.{trimmed-nil, trimmed-first}
 use Rattle.decimal.proofs.Decimals.{decimalBody-some}
 
 -- the digits of a number begin with one that is not zero

@@ -13,7 +13,8 @@ use Rattle.ion.specs.Value.{signed}
 use Rattle.ion.specs.Calendar.{daysInMonth}
 use Rattle.encoding.specs.Fields.{signedOf}
 use Rattle.encoding.specs.Timestamp.{Date, date, dayBefore, dayAfter, utcMinutes, utcDay, fieldsAt, utcFields, utc, isTimestamp}
-use Rattle.fields.proofs.Signs.{below-zero, signedOf-is}
+use Rattle.sign.proofs.Signs.{below-zero}
+use Rattle.encoding.proofs.Signs.{signedOf-is}
 use Rattle.timestamp.specs.declared.Precision.{Precision}
 use Rattle.timestamp.specs.declared.Precision.the-variants.{Year, Month, Day, Minute, Second}
 use Rattle.timestamp.specs.declared.Offset.{Offset}

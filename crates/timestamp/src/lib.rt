@@ -113,7 +113,7 @@ fn field_count(precision: Precision) -> u32
 fn offset_magnitude(minutes: i32) -> u32
     ensures { λ r. ⌜ r ≡ natAbs minutes ⌝ }
 {
-    fields::sign::magnitude(minutes as i64) as u32
+    sign::magnitude(minutes as i64) as u32
 }
 
 // Unknown, or -1439 to 1439 minutes at minute or second precision.
@@ -340,9 +340,9 @@ fn put_offset(buf: &mut [u8], at: usize, offset: Offset) -> usize
     ensures { λ r. ⌜ _≡_ {A = ℕ × List ℕ} (r, now (buf .exit)) (placed (now (buf .entry)) at (offsetBytes (offsetMinutes offset))) ⌝ }
 {
     match offset {
-        Offset::Unknown => fields::var_int::write(buf, at, true, 0),
+        Offset::Unknown => var_int::write(buf, at, true, 0),
         Offset::Minutes(minutes) => {
-            fields::var_int::write(buf, at, minutes < 0, small_magnitude(minutes))
+            var_int::write(buf, at, minutes < 0, small_magnitude(minutes))
         }
     }
 }
@@ -351,7 +351,7 @@ fn put_offset(buf: &mut [u8], at: usize, offset: Offset) -> usize
 fn put_small(buf: &mut [u8], at: usize, value: u32) -> usize
     ensures { λ r. ⌜ _≡_ {A = ℕ × List ℕ} (r, now (buf .exit)) (placed (now (buf .entry)) at (varUIntBytes (value % 128))) ⌝ }
 {
-    fields::var_uint::write(buf, at, (value % 128) as u64)
+    var_uint::write(buf, at, (value % 128) as u64)
 }
 
 // The fields as VarUInts, as far as the precision goes. Those below the year take one byte each, and there is room for them.
@@ -360,7 +360,7 @@ fn put_fields(buf: &mut [u8], at: usize, t: Timestamp) -> usize
     ensures { λ r. ⌜ _≡_ {A = ℕ × List ℕ} (r, now (buf .exit)) (placed (now (buf .entry)) at (varUIntsBytes (fieldsOf t))) ⌝ }
 {
     let precision = t.precision;
-    let year = fields::var_uint::write(buf, at, small_year(t.year));
+    let year = var_uint::write(buf, at, small_year(t.year));
     let below = at + year;
     if let Precision::Year = precision {
         return year;
@@ -390,8 +390,8 @@ fn put_fraction(buf: &mut [u8], at: usize, fraction: Fraction) -> usize
     match fraction {
         Fraction::None => 0,
         Fraction::Digits(digits, coefficient) => {
-            fields::var_int::write(buf, at, true, (digits % 64) as u64);
-            1 + fields::int::write_u64(buf, at + 1, coefficient)
+            var_int::write(buf, at, true, (digits % 64) as u64);
+            1 + int::write_u64(buf, at + 1, coefficient)
         }
     }
 }
@@ -401,8 +401,8 @@ fn offset_size(offset: Offset) -> usize
     ensures { λ r. ⌜ r ≡ length (offsetBytes (offsetMinutes offset)) ⌝ }
 {
     match offset {
-        Offset::Unknown => fields::var_int::encoded_size_of(0),
-        Offset::Minutes(minutes) => fields::var_int::encoded_size_of(small_magnitude(minutes)),
+        Offset::Unknown => var_int::encoded_size_of(0),
+        Offset::Minutes(minutes) => var_int::encoded_size_of(small_magnitude(minutes)),
     }
 }
 
@@ -412,7 +412,7 @@ fn fraction_size(fraction: Fraction) -> usize
 {
     match fraction {
         Fraction::None => 0,
-        Fraction::Digits(_, coefficient) => fields::int::encoded_size_of_u64(coefficient) + 1,
+        Fraction::Digits(_, coefficient) => int::encoded_size_of_u64(coefficient) + 1,
     }
 }
 
@@ -425,7 +425,7 @@ fn body_size(t: Timestamp) -> usize
     let offset = t.offset;
     let fraction = t.fraction;
     offset_size(offset)
-        + (fields::var_uint::encoded_size_of(small_year(t.year))
+        + (var_uint::encoded_size_of(small_year(t.year))
             + (field_count(precision) as usize - 1)
             + fraction_size(fraction))
 }
@@ -448,7 +448,7 @@ fn value_size(t: Timestamp) -> usize
     ensures { λ r. ⌜ r ≡ length (valueOf t) ⌝ }
 {
     let body = body_size(t);
-    fields::header::encoded_size_of(body) + body
+    header::encoded_size_of(body) + body
 }
 
 fn put_value(buf: &mut [u8], at: usize, t: Timestamp) -> usize
@@ -456,11 +456,11 @@ fn put_value(buf: &mut [u8], at: usize, t: Timestamp) -> usize
     ensures { λ r. ⌜ _≡_ {A = ℕ × List ℕ} (r, now (buf .exit)) (placed (now (buf .entry)) at (valueOf t)) ⌝ }
 {
     let body = body_size(t);
-    let size = fields::header::encoded_size_of(body) + body;
+    let size = header::encoded_size_of(body) + body;
     if !buffer::has_room(buf.len(), at, size) {
         return 0;
     }
-    let header = fields::header::write(buf, at, TYPE_CODE, body);
+    let header = header::write(buf, at, TYPE_CODE, body);
     header + put_body(buf, at + header, t)
 }
 

@@ -224,13 +224,13 @@ fn local_time(call: &[u8]) -> Timestamp {
 fn put_int(call: &[u8], buf: &mut [u8]) -> usize {
     let mut bytes = [0u8; 256];
     let n = words::hex_bytes(word(call, 2), &mut bytes);
-    fields::int::write(buf, AT, is_negative(word(call, 1)), &bytes[0..n])
+    int::write(buf, AT, is_negative(word(call, 1)), &bytes[0..n])
 }
 
 fn put_magnitude(call: &[u8], buf: &mut [u8]) -> usize {
     let mut bytes = [0u8; 256];
     let n = words::hex_bytes(word(call, 1), &mut bytes);
-    fields::uint::write_magnitude(buf, AT, &bytes[0..n])
+    uint::write_magnitude(buf, AT, &bytes[0..n])
 }
 
 fn put_annotations(call: &[u8], buf: &mut [u8]) -> usize {
@@ -251,7 +251,7 @@ fn hex_code(word: &[u8]) -> u8 {
 }
 
 fn put_header(call: &[u8], buf: &mut [u8]) -> usize {
-    fields::header::write(
+    header::write(
         buf,
         AT,
         hex_code(word(call, 1)),
@@ -260,7 +260,7 @@ fn put_header(call: &[u8], buf: &mut [u8]) -> usize {
 }
 
 fn put_fixed(call: &[u8], buf: &mut [u8]) -> usize {
-    fields::uint::write_fixed(
+    uint::write_fixed(
         buf,
         AT,
         words::natural(word(call, 1)) as usize,
@@ -270,20 +270,20 @@ fn put_fixed(call: &[u8], buf: &mut [u8]) -> usize {
 
 fn put_field(name: Call, call: &[u8], buf: &mut [u8]) -> usize {
     match name {
-        Call::VarUInt => fields::var_uint::write(buf, AT, words::natural(word(call, 1))),
+        Call::VarUInt => var_uint::write(buf, AT, words::natural(word(call, 1))),
         Call::VarInt => {
-            fields::var_int::write(
+            var_int::write(
                 buf,
                 AT,
                 is_negative(word(call, 1)),
                 words::natural(word(call, 2)),
             )
         }
-        Call::UInt => fields::uint::write(buf, AT, words::natural(word(call, 1))),
+        Call::UInt => uint::write(buf, AT, words::natural(word(call, 1))),
         Call::FixedUInt => put_fixed(call, buf),
         Call::Magnitude => put_magnitude(call, buf),
         Call::Int => put_int(call, buf),
-        Call::IntU64 => fields::int::write_u64(buf, AT, words::natural(word(call, 1))),
+        Call::IntU64 => int::write_u64(buf, AT, words::natural(word(call, 1))),
         Call::Header => put_header(call, buf),
         Call::Annotations => put_annotations(call, buf),
         Call::Utf8 => put_is_utf8(call, buf),

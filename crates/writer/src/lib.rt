@@ -85,7 +85,7 @@ pub fn field_name(s: State, buf: &mut [u8], sid: u64) -> Written
             state: s,
         };
     };
-    let put = fields::var_uint::write(buf, s.used, sid);
+    let put = var_uint::write(buf, s.used, sid);
     steps::ended(s, put, true, Refusal::NoRoom)
 }
 

@@ -5,7 +5,7 @@ use Prim.Native.Nat.{_+_, _≤_}
 use native.Mathlib.Omega.{arith}
 use lib.ListN.{length}
 use Rattle.encoding.specs.Headers.{annotationBytes}
-use Rattle.fields.proofs.Sizes.{varUInt-most}
+use Rattle.encoding.proofs.Sizes.{varUInt-most}
 use Rattle.annotations.specs.Sids.{sidsOf}
 use Rattle.annotations.proofs.Sids.{length-annotations}
 use borrow.Author.Needs.{needs}

@@ -9,7 +9,7 @@ use Rattle.ion.specs.Value.{annotationCode}
 use Rattle.encoding.specs.Headers.{typeByte, headerBytes, annotationBytes}
 use Rattle.buffer.specs.Laid.{placed}
 use Rattle.buffer.proofs.Laid.{placed-count, placed-length, placed-most, placed-then, no-room, room}
-use Rattle.fields.proofs.Headers.{length-header, header-most}
+use Rattle.encoding.proofs.Headers.{length-header, header-most}
 use Rattle.annotations.specs.Sids.{sidsOf}
 use Rattle.annotations.specs.Prefix.{prefixBytes}
 use Rattle.annotations.proofs.Prefix.{length-prefix, placedBefore-fits, placedBefore-full}

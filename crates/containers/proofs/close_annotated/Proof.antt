@@ -5,7 +5,7 @@ use Prim.Native.Nat.{ℕ, _+_, _-_, _≤_}
 use native.Mathlib.Omega.{arith}
 use mathlib.Core.List.{List}
 use lib.ListN.{length, take}
-use Rattle.fields.proofs.Headers.{header-most}
+use Rattle.encoding.proofs.Headers.{header-most}
 use Rattle.machine.specs.Machine.{closedBytes}
 use Rattle.containers.proofs.Splice.{spliced-by, spliced-full}
 use Rattle.containers.proofs.Wrapped.{length-wrapped}

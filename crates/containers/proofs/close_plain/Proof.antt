@@ -7,7 +7,7 @@ use mathlib.Core.List.{List}
 use lib.ListN.{length, take}
 use Rattle.encoding.specs.Headers.{headerBytes, framedBytes}
 use Rattle.buffer.specs.Laid.{laid}
-use Rattle.fields.proofs.Headers.{header-most, length-header}
+use Rattle.encoding.proofs.Headers.{header-most, length-header}
 use Rattle.machine.specs.Machine.{closedBytes}
 use Rattle.containers.proofs.Closed.{closedBytes-plain}
 use Rattle.containers.proofs.Moves.{part, length-part}

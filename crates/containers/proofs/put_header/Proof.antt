@@ -6,7 +6,7 @@ use native.Mathlib.Omega.{arith}
 use Rattle.encoding.specs.Headers.{headerBytes}
 use Rattle.buffer.specs.Laid.{laid}
 use Rattle.buffer.proofs.Laid.{placed-laid}
-use Rattle.fields.proofs.Headers.{length-header}
+use Rattle.encoding.proofs.Headers.{length-header}
 use borrow.Author.Needs.{needs}
 use Rattle.containers.proofs.put_header.Statement.{statement}
 use Rattle.containers.proofs.put_header.Tie as tie

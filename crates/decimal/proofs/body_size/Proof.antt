@@ -10,8 +10,8 @@ use mir.Syntax.{w64}
 use mir.ValLaws.{toZ-ofZ}
 use Rattle.encoding.specs.Fields.{varIntBytes, signedOf, trimmed, intBytes}
 use Rattle.encoding.specs.Decimal.{decimalBody}
-use Rattle.fields.proofs.Signs.{int-trimmed-most, signedOf-is}
-use Rattle.fields.proofs.Sizes.{varInt-most, length-varInt-sign}
+use Rattle.encoding.proofs.Signs.{int-trimmed-most, signedOf-is}
+use Rattle.encoding.proofs.Sizes.{varInt-most, length-varInt-sign}
 use Rattle.decimal.proofs.Decimals.{decimalBody-none, decimalBody-some}
 use borrow.Author.Needs.{needs}
 use Rattle.decimal.proofs.body_size.Statement.{statement}

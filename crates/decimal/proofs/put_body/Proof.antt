@@ -14,7 +14,7 @@ use Rattle.buffer.specs.Laid.{placed}
 use Rattle.buffer.proofs.Laid.{placed-nil, placed-then, placed-count}
 use Rattle.encoding.specs.Fields.{varIntBytes, signedOf, trimmed, intBytes}
 use Rattle.encoding.specs.Decimal.{decimalBody}
-use Rattle.fields.proofs.Signs.{signedOf-is}
+use Rattle.encoding.proofs.Signs.{signedOf-is}
 use Rattle.decimal.proofs.Decimals.{decimalBody-parts, decimalBody-empty}
 use borrow.Author.Needs.{needs}
 use Rattle.decimal.proofs.put_body.Statement.{statement}

@@ -5,7 +5,7 @@ use mathlib.Core.Path.{refl, sym, _∙_}
 use mathlib.Core.Bool.{true, not, _||_}
 use borrow.Author.Tests.{not-true, not-false}
 use Rattle.encoding.specs.Fields.{varUIntBytes}
-use Rattle.fields.proofs.Sizes.{varUInt-least}
+use Rattle.encoding.proofs.Sizes.{varUInt-least}
 use Rattle.machine.specs.Call.{name}
 use Rattle.machine.specs.Machine.{openContainers, inStruct}
 use Rattle.steps.proofs.Run.{put-fits}

@@ -5,7 +5,7 @@ use Prim.Native.Nat.{ℕ}
 use native.Mathlib.Omega.{arith}
 use lib.ListN.{length}
 use Rattle.encoding.specs.Headers.{headerBytes}
-use Rattle.fields.proofs.Headers.{header-most}
+use Rattle.encoding.proofs.Headers.{header-most}
 use Rattle.decimal.proofs.Values.{length-framed}
 use borrow.Author.Needs.{needs}
 use Rattle.scalars.proofs.framed_size.Statement.{statement}

@@ -1,7 +1,7 @@
 -- `scalars::int_code` meets its contract: the sign as a number chooses the code.
 -- Assumes nothing.
 use native.Mathlib.Omega.{arith}
-use Rattle.fields.proofs.Signs.{boolByte-most}
+use Rattle.encoding.proofs.Signs.{boolByte-most}
 use Rattle.scalars.proofs.Bytes.{sign-byte}
 use borrow.Author.Needs.{needs}
 use Rattle.scalars.proofs.int_code.Statement.{statement}

@@ -6,7 +6,7 @@ use native.Mathlib.Omega.{arith}
 use lib.Dec.{eqb}
 use lib.ListN.{length}
 use Rattle.encoding.specs.Fields.{trimmed, orZero}
-use Rattle.fields.proofs.Signs.{boolByte-most}
+use Rattle.encoding.proofs.Signs.{boolByte-most}
 use Rattle.scalars.proofs.Ints.{length-orZero, int-refused, int-accepted}
 use borrow.Author.Needs.{needs}
 use Rattle.scalars.proofs.int_size.Statement.{statement}

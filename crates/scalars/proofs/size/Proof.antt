@@ -8,7 +8,7 @@ use lib.Ieee.{binary32, binary64, toBits}
 use mir.Syntax.{w64}
 use mir.Val.{ofZ, toZ}
 use Rattle.encoding.specs.Fields.{uintBytes}
-use Rattle.fields.proofs.Sizes.{uint-most}
+use Rattle.encoding.proofs.Sizes.{uint-most}
 use Rattle.scalars.specs.Types.{typeOf}
 use Rattle.scalars.proofs.Bytes.{null-bytes, bool-bytes, i64-bytes, f32-bytes, f64-bytes, symbol-bytes}
 use native.Mathlib.Omega.{arith}

@@ -3,7 +3,7 @@
 use mathlib.Core.Path.{sym, _∙_, ap}
 use native.Mathlib.Omega.{arith}
 use Rattle.buffer.specs.Laid.{placed}
-use Rattle.fields.proofs.Signs.{boolByte-most}
+use Rattle.encoding.proofs.Signs.{boolByte-most}
 use Rattle.scalars.proofs.Bytes.{bool-bytes}
 use borrow.Author.Needs.{needs}
 use Rattle.scalars.proofs.write_bool.Statement.{statement}

@@ -9,8 +9,8 @@ use Rattle.encoding.specs.Headers.{typeByte, framedBytes}
 use Rattle.encoding.specs.Argument.{codeOfSign, checkedBytes, writeInt}
 use Rattle.buffer.specs.Laid.{placed}
 use Rattle.buffer.proofs.Laid.{placed-nil}
-use Rattle.fields.proofs.Headers.{typeByte-high}
-use Rattle.fields.proofs.Trimmed.{trimmed-part, orZero-none, orZero-some}
+use Rattle.encoding.proofs.Headers.{typeByte-high}
+use Rattle.encoding.proofs.Trimmed.{trimmed-part, orZero-none, orZero-some}
 use Rattle.scalars.proofs.Ints.{int-refused, int-accepted}
 use borrow.Author.Needs.{needs}
 use Rattle.scalars.proofs.write_int.Statement.{statement}

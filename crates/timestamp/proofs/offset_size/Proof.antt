@@ -7,7 +7,7 @@ use lib.IntN.{pos, natAbs}
 use lib.Signed.{ltZ}
 use mir.Syntax.{w32}
 use mir.Val.{ofZ, toZ}
-use Rattle.fields.proofs.Sizes.{length-varInt-sign}
+use Rattle.encoding.proofs.Sizes.{length-varInt-sign}
 use Rattle.timestamp.proofs.Utc.{signedOf-parts}
 use borrow.Author.Needs.{needs}
 use Rattle.timestamp.proofs.offset_size.Statement.{statement}

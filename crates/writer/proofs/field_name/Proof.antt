@@ -4,7 +4,7 @@ use native.Mathlib.Omega.{arith}
 use mathlib.Core.Path.{refl}
 use mathlib.Core.Bool.{true, not, _||_}
 use Rattle.encoding.specs.Fields.{varUIntBytes}
-use Rattle.fields.proofs.Sizes.{varUInt-least}
+use Rattle.encoding.proofs.Sizes.{varUInt-least}
 use Rattle.machine.specs.Call.{name}
 use Rattle.machine.specs.Machine.{openContainers, inStruct}
 use Rattle.machine.specs.declared.Refusal.the-variants.{NoRoom}

@@ -1,5 +1,0 @@
-pub mod Digits
-pub mod Sizes
-pub mod Trimmed
-pub mod Signs
-pub mod Headers
