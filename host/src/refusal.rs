@@ -40,8 +40,16 @@ impl Refusal {
 /// The answer that an entry point's number stands for: 0 is accepted.
 #[inline]
 pub(crate) fn answer(number: u8) -> Result<(), Refusal> {
-    Err(match number {
-        0 => return Ok(()),
+    match number {
+        0 => Ok(()),
+        _ => Err(refusal(number)),
+    }
+}
+
+// cold, so that none of it stands in the way of an accepted call
+#[cold]
+fn refusal(number: u8) -> Refusal {
+    match number {
         1 => Refusal::BufferTooLong,
         2 => Refusal::StateUnfit,
         3 => Refusal::Misplaced,
@@ -53,7 +61,7 @@ pub(crate) fn answer(number: u8) -> Result<(), Refusal> {
         9 => Refusal::TimestampTooLong,
         10 => Refusal::NoRoom,
         other => Refusal::Unknown(other),
-    })
+    }
 }
 
 impl fmt::Display for Refusal {
