@@ -1,4 +1,4 @@
-// Links libgoatminute.a, which `rt staticlib goatminute` makes from the proved crates.
+// Links libgoatminute.a, which scripts/library makes from the proved crates.
 use std::env;
 use std::path::{Path, PathBuf};
 use std::process::exit;
@@ -13,7 +13,7 @@ fn main() {
     println!("cargo:rerun-if-changed={}", archive.display());
     if !archive.is_file() {
         eprintln!(
-            "{} is missing: run `rt staticlib goatminute` at the project's root, or set GOATMINUTE_LIB_DIR to the directory that holds it",
+            "{} is missing: run scripts/library at the project's root, or set GOATMINUTE_LIB_DIR to the directory that holds it",
             archive.display()
         );
         exit(1);

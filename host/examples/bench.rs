@@ -96,7 +96,8 @@ fn write_record(writer: &mut Writer, record: &Record) -> Result<(), Refusal> {
     currents.close()?;
     fields.field_name(16)?.write_symbol(record.state)?;
     fields.field_name(17)?.write_string_bytes(&record.note)?;
-    fields.close()
+    fields.close()?;
+    Ok(())
 }
 
 /// FNV-1a of 64 bits, and a count.

@@ -74,7 +74,8 @@ impl Sample {
             warnings.write_symbol(ROPE_SLACK)?;
             warnings.close()?;
         }
-        record.close()
+        record.close()?;
+        Ok(())
     }
 }
 

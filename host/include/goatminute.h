@@ -7,12 +7,12 @@
  *   6     2  no meaning
  *   8   288  32 containers of nine bytes: start (4) and header (4), least significant byte first, type code (1)
  *
- * A slice is a pointer and a length. A slice of length 0 may have any pointer but a null one. State, buffer and the
- * slices that are read must not overlap. Annotations are eight bytes a sid, least significant byte first; none are no
- * annotations, and a last group of fewer bytes is filled up with zeros.
+ * A slice is a pointer and a length. A slice of length 0 may have any pointer but a null one. State, buffer, the
+ * slice of gm_close and those that are read must not overlap. Annotations are eight bytes a sid, least significant byte
+ * first; none are no annotations, and a last group of fewer bytes is filled up with zeros.
  *
- * Each call answers GM_ACCEPTED or a refusal's number; the first reason by number answers. A refused call leaves state
- * and buffer as they were. No call allocates or keeps a pointer. */
+ * Each call answers GM_ACCEPTED or a refusal's number; the first reason by number answers. A refused call leaves what
+ * it is lent as it was. No call allocates or keeps a pointer. */
 #ifndef GOATMINUTE_H
 #define GOATMINUTE_H
 
@@ -134,9 +134,12 @@ uint8_t gm_open_sexp(uint8_t *state, size_t state_len, uint8_t *buf, size_t buf_
 uint8_t gm_open_struct(uint8_t *state, size_t state_len, uint8_t *buf, size_t buf_len,
                        const uint8_t *annotations, size_t annotations_len);
 
-/* The closing of the innermost container, which sets its lengths.
+/* The closing of the innermost container, which sets its lengths. What it answers of the container goes to `closed`:
+ * numbers of four bytes, least significant byte first, one behind the other, as many as the slice holds whole.
+ *   0     4  how many bytes the container takes, headers and annotations counted
+ * Numbers that a later version adds stand behind these. Bytes of `closed` past the numbers stay as they were.
  * Refusals 1, 2, 3 (none open, or a name waits), 10. */
-uint8_t gm_close(uint8_t *state, size_t state_len, uint8_t *buf, size_t buf_len);
+uint8_t gm_close(uint8_t *state, size_t state_len, uint8_t *buf, size_t buf_len, uint8_t *closed, size_t closed_len);
 
 /* The abandonment of the innermost container: its bytes are given back, and a name before it waits again.
  * Refusals 1, 2, 3 (none open). */

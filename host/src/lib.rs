@@ -12,7 +12,7 @@
 //! let mut record = writer.with_annotations(&[20]).struct_writer()?;
 //! record.field_name(10)?.write_decimal(Decimal::new(8125, -1))?;
 //! record.field_name(11)?.write_bool(true)?;
-//! record.close()?;
+//! assert_eq!(record.close()?.size, 11);
 //! assert_eq!(writer.finished(), b"\xE0\x01\x00\xEA\xEA\x81\x94\xD7\x8A\x53\xC1\x1F\xBD\x8B\x11");
 //! writer.empty()?;
 //! # Ok(())
@@ -29,7 +29,7 @@ mod values;
 mod writer;
 
 pub use refusal::Refusal;
-pub use values::{Coefficient, Decimal, IonType, Precision, Timestamp};
+pub use values::{Closed, Coefficient, Decimal, IonType, Precision, Timestamp};
 pub use writer::{ListWriter, SexpWriter, State, StructWriter, ValueWriter, WriteValues, Writer};
 
 pub(crate) use refusal::answer;

@@ -1,34 +1,55 @@
 use core::fmt;
 
-/// Why a call was refused, with its number in document 01. A refused call leaves state and buffer as they were.
+/// Why a call was refused: 1 to 10 of document 01, in their order. A refused call leaves state and buffer as they were.
 #[derive(Clone, Copy, Debug, PartialEq, Eq, Hash)]
-#[repr(u8)]
 pub enum Refusal {
-    BufferTooLong = 1,
-    StateUnfit = 2,
-    Misplaced = 3,
-    TooDeep = 4,
-    NegativeZero = 5,
-    NotUtf8 = 6,
-    BadTimestamp = 7,
-    DecimalTooLong = 8,
+    BufferTooLong,
+    StateUnfit,
+    Misplaced,
+    TooDeep,
+    NegativeZero,
+    NotUtf8,
+    BadTimestamp,
+    DecimalTooLong,
     /// No call meets it: a timestamp that 7 does not refuse has a body of at most 18 bytes.
-    TimestampTooLong = 9,
-    NoRoom = 10,
+    TimestampTooLong,
+    NoRoom,
+    /// A number that this crate has no name for: the library is of another version.
+    Unknown(u8),
 }
 
 impl Refusal {
-    /// The number in document 01.
+    /// The number in document 01, or the one that is not known.
     pub fn number(self) -> u8 {
-        self as u8
+        match self {
+            Refusal::BufferTooLong => 1,
+            Refusal::StateUnfit => 2,
+            Refusal::Misplaced => 3,
+            Refusal::TooDeep => 4,
+            Refusal::NegativeZero => 5,
+            Refusal::NotUtf8 => 6,
+            Refusal::BadTimestamp => 7,
+            Refusal::DecimalTooLong => 8,
+            Refusal::TimestampTooLong => 9,
+            Refusal::NoRoom => 10,
+            Refusal::Unknown(number) => number,
+        }
     }
 }
 
-/// The answer that an entry point's number stands for: 0 is accepted. It gives no number past 10.
+/// The answer that an entry point's number stands for: 0 is accepted.
 #[inline]
 pub(crate) fn answer(number: u8) -> Result<(), Refusal> {
-    Err(match number {
-        0 => return Ok(()),
+    match number {
+        0 => Ok(()),
+        _ => Err(refusal(number)),
+    }
+}
+
+// cold, so that none of it stands in the way of an accepted call
+#[cold]
+fn refusal(number: u8) -> Refusal {
+    match number {
         1 => Refusal::BufferTooLong,
         2 => Refusal::StateUnfit,
         3 => Refusal::Misplaced,
@@ -38,8 +59,9 @@ pub(crate) fn answer(number: u8) -> Result<(), Refusal> {
         7 => Refusal::BadTimestamp,
         8 => Refusal::DecimalTooLong,
         9 => Refusal::TimestampTooLong,
-        _ => Refusal::NoRoom,
-    })
+        10 => Refusal::NoRoom,
+        other => Refusal::Unknown(other),
+    }
 }
 
 impl fmt::Display for Refusal {
@@ -57,9 +79,54 @@ impl fmt::Display for Refusal {
             Refusal::DecimalTooLong => "the decimal's body is over 32 bytes",
             Refusal::TimestampTooLong => "the timestamp's body is over 32 bytes",
             Refusal::NoRoom => "the buffer has no room",
+            Refusal::Unknown(number) => {
+                write!(f, "the library answered {number}, which is no refusal of this crate: ")?;
+                return f.write_str("crate and library are of different versions");
+            }
         };
         write!(f, "{} (refusal {})", why, self.number())
     }
 }
 
 impl core::error::Error for Refusal {}
+
+#[cfg(test)]
+mod tests {
+    extern crate std;
+
+    use super::*;
+    use std::string::ToString;
+
+    #[test]
+    fn every_number_has_its_answer_and_its_words() {
+        let named = [
+            Refusal::BufferTooLong,
+            Refusal::StateUnfit,
+            Refusal::Misplaced,
+            Refusal::TooDeep,
+            Refusal::NegativeZero,
+            Refusal::NotUtf8,
+            Refusal::BadTimestamp,
+            Refusal::DecimalTooLong,
+            Refusal::TimestampTooLong,
+            Refusal::NoRoom,
+        ];
+        for number in 0..=u8::MAX {
+            let expected = match number {
+                0 => Ok(()),
+                1..=10 => Err(named[number as usize - 1]),
+                _ => Err(Refusal::Unknown(number)),
+            };
+            assert_eq!(answer(number), expected);
+            if let Err(why) = expected {
+                assert_eq!(why.number(), number);
+                let end = match why {
+                    Refusal::Unknown(_) => "are of different versions".to_string(),
+                    _ => std::format!("(refusal {number})"),
+                };
+                assert!(why.to_string().ends_with(&end), "{why}");
+                assert!(why.to_string().contains(&number.to_string()), "{why}");
+            }
+        }
+    }
+}

@@ -2,13 +2,13 @@
 //!
 //! Why each call is sound. A slice crosses the C boundary as a pointer and a length, in that order, and every pair below is of one
 //! Rust slice: the pointer is valid for that length while the call runs. The library reads and writes inside the lent slices only,
-//! keeps no pointer and has no memory of its own. State and buffer are borrowed mutably, so no two slices that it may write overlap.
+//! keeps no pointer and has no memory of its own. What it may write is borrowed mutably, so no two such slices overlap.
 //! Every value of every number, and every content and length of every slice, is allowed: the library refuses what it cannot take.
 //!
-//! The state is 296 bytes (docs/STATE.md); a slice of another length is refused by 2. Annotations are eight little-endian bytes for
-//! each sid, see [`sid_bytes`]. A refused call leaves state and buffer as they were.
+//! The state is [`STATE_SIZE`](crate::STATE_SIZE) bytes (docs/STATE.md); a slice of another length is refused by 2. Annotations are
+//! eight little-endian bytes for each sid, see [`sid_bytes`]. A refused call leaves state and buffer as they were.
 
-use crate::{answer, Refusal, Timestamp};
+use crate::{answer, Closed, Refusal, Timestamp};
 
 // As in include/goatminute.h.
 #[rustfmt::skip]
@@ -46,7 +46,7 @@ extern "C" {
         annotations_len: usize) -> u8;
     fn gm_open_struct(state: *mut u8, state_len: usize, buf: *mut u8, buf_len: usize, annotations: *const u8,
         annotations_len: usize) -> u8;
-    fn gm_close(state: *mut u8, state_len: usize, buf: *mut u8, buf_len: usize) -> u8;
+    fn gm_close(state: *mut u8, state_len: usize, buf: *mut u8, buf_len: usize, closed: *mut u8, closed_len: usize) -> u8;
     fn gm_abandon(state: *mut u8, state_len: usize, buf: *mut u8, buf_len: usize) -> u8;
     fn gm_version_marker(state: *mut u8, state_len: usize, buf: *mut u8, buf_len: usize) -> u8;
     fn gm_empty(state: *mut u8, state_len: usize, buf: *const u8, buf_len: usize) -> u8;
@@ -284,10 +284,21 @@ pub fn open_struct(state: &mut [u8], buf: &mut [u8], annotations: &[u8]) -> Resu
 
 /// The closing of the innermost container.
 #[inline]
-pub fn close(state: &mut [u8], buf: &mut [u8]) -> Result<(), Refusal> {
+pub fn close(state: &mut [u8], buf: &mut [u8]) -> Result<Closed, Refusal> {
+    let mut size = [0; 4];
+    close_into(state, buf, &mut size)?;
+    Ok(Closed {
+        size: u32::from_le_bytes(size),
+    })
+}
+
+/// The library puts as many of its numbers into `closed` as that holds whole, so one with more numbers than are asked for fits too.
+#[inline]
+fn close_into(state: &mut [u8], buf: &mut [u8], closed: &mut [u8]) -> Result<(), Refusal> {
     let (state, state_len) = lend_mut(state);
     let (buf, buf_len) = lend_mut(buf);
-    answer(unsafe { gm_close(state, state_len, buf, buf_len) })
+    let (closed, closed_len) = lend_mut(closed);
+    answer(unsafe { gm_close(state, state_len, buf, buf_len, closed, closed_len) })
 }
 
 /// The abandonment of the innermost container: its bytes are given back, and a name before it waits again.
@@ -332,3 +343,47 @@ pub fn sid_bytes(sids: &[u64]) -> &[u8] {
 
 #[cfg(not(target_endian = "little"))]
 compile_error!("sid_bytes reads sids in place, which needs a little-endian machine");
+
+#[cfg(test)]
+mod tests {
+    use super::*;
+    use crate::STATE_SIZE;
+
+    #[test]
+    fn closing_puts_the_numbers_that_the_slice_holds_whole() {
+        for length in 0..=8 {
+            let mut state = [0; STATE_SIZE];
+            let mut buf = [0xEE; 16];
+            start(&mut state, &mut buf).unwrap();
+            open_list(&mut state, &mut buf, sid_bytes(&[10])).unwrap();
+            let mut closed = [0xEE; 8];
+            assert_eq!(close_into(&mut state, &mut buf, &mut closed[..length]), Ok(()));
+            assert_eq!(finished(&state, &buf)[4..], [0xE3, 0x81, 0x8A, 0xB0]);
+            let mut expected = [0xEE; 8];
+            if length >= 4 {
+                expected[..4].copy_from_slice(&[4, 0, 0, 0]);
+            }
+            assert_eq!(closed, expected, "a slice of {length} bytes");
+        }
+    }
+
+    #[test]
+    fn refused_closing_leaves_the_slice() {
+        fn refused(state: &mut [u8], buf: &mut [u8], why: Refusal) {
+            for length in 0..=8 {
+                let mut closed = [0xEE; 8];
+                assert_eq!(close_into(state, buf, &mut closed[..length]), Err(why));
+                assert_eq!(closed, [0xEE; 8], "a slice of {length} bytes");
+            }
+        }
+        let mut state = [0; STATE_SIZE];
+        // a body of 128 bytes needs a header of three, one more than the reserve
+        let mut buf = [0xEE; 4 + 2 + 128];
+        start(&mut state, &mut buf).unwrap();
+        refused(&mut state[1..], &mut buf, Refusal::StateUnfit);
+        refused(&mut state, &mut buf, Refusal::Misplaced);
+        open_list(&mut state, &mut buf, &[]).unwrap();
+        write_blob(&mut state, &mut buf, &[], &[1; 126]).unwrap();
+        refused(&mut state, &mut buf, Refusal::NoRoom);
+    }
+}

@@ -17,6 +17,14 @@ pub enum IonType {
     Struct = 13,
 }
 
+/// What a closing answers of the container that it closed.
+#[derive(Clone, Copy, Debug, PartialEq, Eq, Hash)]
+#[non_exhaustive]
+pub struct Closed {
+    /// How many bytes the container takes, its headers and annotations counted.
+    pub size: u32,
+}
+
 /// The magnitude of a decimal's coefficient.
 #[derive(Clone, Copy, Debug)]
 pub enum Coefficient<'a> {

@@ -1,9 +1,9 @@
 use core::mem;
 
 use crate::sys;
-use crate::{Coefficient, Decimal, IonType, Refusal, Timestamp, STATE_SIZE};
+use crate::{Closed, Coefficient, Decimal, IonType, Refusal, Timestamp, STATE_SIZE};
 
-/// A writer's state as its 296 bytes; docs/STATE.md has their layout.
+/// A writer's state as its bytes; docs/STATE.md has their layout.
 #[derive(Clone, Debug, PartialEq, Eq)]
 #[repr(C, align(8))]
 pub struct State {
@@ -314,10 +314,10 @@ impl<'w> Open<'w> {
     }
 
     #[inline]
-    fn close(self) -> Result<(), Refusal> {
-        sys::close(self.state, self.buf)?;
+    fn close(self) -> Result<Closed, Refusal> {
+        let closed = sys::close(self.state, self.buf)?;
         mem::forget(self);
-        Ok(())
+        Ok(closed)
     }
 }
 
@@ -341,7 +341,7 @@ pub struct StructWriter<'w>(Open<'w>);
 impl ListWriter<'_> {
     /// Closes the list. A refused close abandons it.
     #[inline]
-    pub fn close(self) -> Result<(), Refusal> {
+    pub fn close(self) -> Result<Closed, Refusal> {
         self.0.close()
     }
 }
@@ -349,7 +349,7 @@ impl ListWriter<'_> {
 impl SexpWriter<'_> {
     /// Closes the s-expression. A refused close abandons it.
     #[inline]
-    pub fn close(self) -> Result<(), Refusal> {
+    pub fn close(self) -> Result<Closed, Refusal> {
         self.0.close()
     }
 }
@@ -364,7 +364,7 @@ impl StructWriter<'_> {
 
     /// Closes the struct. A refused close abandons it.
     #[inline]
-    pub fn close(self) -> Result<(), Refusal> {
+    pub fn close(self) -> Result<Closed, Refusal> {
         self.0.close()
     }
 }

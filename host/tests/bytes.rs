@@ -1,5 +1,5 @@
 //! The bytes of each call, at the edges that document 01 names and beside them.
-use goatminute::{sys, Decimal, IonType, Refusal, Timestamp, WriteValues, Writer, STATE_SIZE};
+use goatminute::{sys, Closed, Decimal, IonType, Refusal, Timestamp, WriteValues, Writer, STATE_SIZE};
 
 const MARKER: [u8; 4] = [0xE0, 0x01, 0x00, 0xEA];
 
@@ -18,12 +18,13 @@ fn bytes(write: impl FnOnce(&mut Writer) -> Result<(), Refusal>) -> String {
     hex(&buf[4..length])
 }
 
-/// The same of calls that close containers: what a close frees is zero.
-fn closed(write: impl FnOnce(&mut Writer) -> Result<(), Refusal>) -> String {
+/// The same of calls that write and close one container: its size is that of the bytes, and what a close frees is zero.
+fn closed(write: impl FnOnce(&mut Writer) -> Result<Closed, Refusal>) -> String {
     let mut buf = [0xEE; 512];
     let mut writer = Writer::new(&mut buf).unwrap();
-    write(&mut writer).unwrap();
+    let size = write(&mut writer).unwrap().size as usize;
     let length = writer.finished().len();
+    assert_eq!(size, length - 4);
     let mut past = buf[length..].iter().skip_while(|&&byte| byte == 0);
     assert!(past.all(|&byte| byte == 0xEE));
     hex(&buf[4..length])
@@ -395,8 +396,9 @@ fn list_of_every_body_size_near_the_limits() {
         let mut writer = Writer::new(&mut buf).unwrap();
         let mut list = writer.list_writer().unwrap();
         fill(&mut list, length);
-        list.close().unwrap();
-        let end = 4 + header.len() + length;
+        let size = list.close().unwrap().size as usize;
+        assert_eq!(size, header.len() + length);
+        let end = 4 + size;
         assert_eq!(writer.finished().len(), end);
         assert_eq!(&buf[4..4 + header.len()], header, "body of {length} bytes");
         assert_body(&buf[4 + header.len()..end]);
@@ -417,13 +419,14 @@ fn annotated_lists_of_every_body_size_near_the_limits() {
         let mut writer = Writer::new(&mut buf).unwrap();
         let mut list = writer.with_annotations(&[300, 10]).list_writer().unwrap();
         fill(&mut list, length);
-        list.close().unwrap();
+        let size = list.close().unwrap().size as usize;
         let mut expected = header(0xB0, length);
         let inner = expected.len();
         let annotations = [0x83, 0x02, 0xAC, 0x8A];
         expected.splice(0..0, annotations);
         expected.splice(0..0, header(0xE0, annotations.len() + inner + length));
-        let end = 4 + expected.len() + length;
+        assert_eq!(size, expected.len() + length);
+        let end = 4 + size;
         assert_eq!(writer.finished().len(), end);
         assert_eq!(&buf[4..4 + expected.len()], expected, "body of {length} bytes");
         assert_body(&buf[4 + expected.len()..end]);

@@ -57,7 +57,8 @@ fn outer_container_dropped_with_its_inner_ones() {
         // refused: the early return drops both writers, the inner one first
         inner.write_string_bytes(b"\xFF")?;
         inner.close()?;
-        outer.close()
+        outer.close()?;
+        Ok(())
     };
     assert_eq!(fill(&mut writer), Err(Refusal::NotUtf8));
     assert_eq!(writer.finished(), MARKER);
@@ -82,7 +83,7 @@ fn leaked_container_stays_open() {
     assert!(writer.finished().is_empty());
     writer.write_bool(true).unwrap();
     let (mut state, buf) = writer.into_parts();
-    sys::close(state.as_mut_bytes(), buf).unwrap();
+    assert_eq!(sys::close(state.as_mut_bytes(), buf).unwrap().size, 2);
     assert_eq!(sys::finished(state.as_bytes(), buf)[4..], [0xB1, 0x11]);
 }
 
@@ -93,7 +94,7 @@ fn annotations_need_not_outlive_the_opening() {
     for sid in 10..12 {
         let mut list = writer.with_annotations(&[sid, sid + 2]).list_writer().unwrap();
         list.write_symbol(sid).unwrap();
-        list.close().unwrap();
+        assert_eq!(list.close().unwrap().size, 7);
     }
     let expected = [0xE6, 0x82, 0x8A, 0x8C, 0xB2, 0x71, 10, 0xE6, 0x82, 0x8B, 0x8D, 0xB2, 0x71, 11];
     assert_eq!(writer.finished()[4..], expected);
@@ -108,7 +109,8 @@ fn thirty_two_deep() {
         }
         let mut list = outer.list_writer()?;
         open(&mut list, left - 1)?;
-        list.close()
+        list.close()?;
+        Ok(())
     }
     let mut buf = [0xEE; 128];
     let mut writer = Writer::new(&mut buf).unwrap();

@@ -296,7 +296,8 @@ impl Model {
         self.state[5] = self.waiting as u8;
     }
 
-    fn call(&mut self, call: &Call) -> Result<(), Refusal> {
+    /// Answers what a close does: how many bytes the container takes.
+    fn call(&mut self, call: &Call) -> Result<Option<usize>, Refusal> {
         let room = self.buf.len();
         let used = self.used().len();
         let fits = |more: usize| if used + more <= room { Ok(()) } else { Err(Refusal::NoRoom) };
@@ -345,9 +346,11 @@ impl Model {
                 if used - held + bytes.len() > room {
                     return Err(Refusal::NoRoom);
                 }
+                let size = bytes.len();
                 self.open.pop();
                 self.end().extend(bytes);
                 self.settle(true);
+                return Ok(Some(size));
             }
             Call::Abandon => {
                 placed(!self.open.is_empty())?;
@@ -367,7 +370,7 @@ impl Model {
                 self.settle(false);
             }
         }
-        Ok(())
+        Ok(None)
     }
 
     fn finished(&self) -> &[u8] {
@@ -390,8 +393,8 @@ fn reserve(sids: &[u64]) -> Vec<u8> {
     bytes
 }
 
-fn enter(call: &Call, state: &mut [u8], buf: &mut [u8]) -> Result<(), Refusal> {
-    match call {
+fn enter(call: &Call, state: &mut [u8], buf: &mut [u8]) -> Result<Option<usize>, Refusal> {
+    let answer = match call {
         Call::Write(sids, scalar) => {
             let sids = sys::sid_bytes(sids);
             match scalar {
@@ -415,11 +418,12 @@ fn enter(call: &Call, state: &mut [u8], buf: &mut [u8]) -> Result<(), Refusal> {
         Call::Open(sids, 0xB0) => sys::open_list(state, buf, sys::sid_bytes(sids)),
         Call::Open(sids, 0xC0) => sys::open_sexp(state, buf, sys::sid_bytes(sids)),
         Call::Open(sids, _) => sys::open_struct(state, buf, sys::sid_bytes(sids)),
-        Call::Close => sys::close(state, buf),
+        Call::Close => return sys::close(state, buf).map(|closed| Some(closed.size as usize)),
         Call::Abandon => sys::abandon(state, buf),
         Call::Marker => sys::version_marker(state, buf),
         Call::Empty => sys::empty(state, buf),
-    }
+    };
+    answer.map(|()| None)
 }
 
 // ---- random calls
@@ -630,7 +634,7 @@ fn run(seed: u64, room: usize, calls: usize, deep: bool, met: &mut Met) {
         );
         assert!(buf == model.buf, "seed {seed}, call {number}: {call:?} leaves other bytes");
         assert_eq!(sys::finished(&state, &buf), model.finished(), "seed {seed}, call {number}");
-        met[answer.map_or_else(|why| why.number() as usize, |()| 0)] += 1;
+        met[answer.map_or_else(|why| why.number() as usize, |_| 0)] += 1;
     }
 }
 
@@ -669,7 +673,7 @@ fn random_timestamps_and_floats() {
         };
         let mut state = [0; STATE_SIZE];
         let answer = enter(&Call::Write(Vec::new(), of.clone()), &mut state, &mut buf);
-        let written = answer.map(|()| sys::finished(&state, &buf).to_vec());
+        let written = answer.map(|_| sys::finished(&state, &buf).to_vec());
         assert_eq!(written, scalar(&of), "{of:?}");
     }
 }

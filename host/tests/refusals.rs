@@ -35,7 +35,7 @@ const VALUES: [(&str, Call); 15] = [
 
 const OTHERS: [(&str, Call); 5] = [
     ("field_name", |s, b| sys::field_name(s, b, 4)),
-    ("close", |s, b| sys::close(s, b)),
+    ("close", |s, b| sys::close(s, b).map(drop)),
     ("abandon", |s, b| sys::abandon(s, b)),
     ("version_marker", |s, b| sys::version_marker(s, b)),
     ("empty", |s, b| sys::empty(s, b)),
@@ -58,26 +58,6 @@ fn refused(
     assert_eq!(call(state, buf), Err(why), "{name}");
     assert!(state == &before.0[..], "{name} altered the state");
     assert!(buf == &before.1[..], "{name} altered the buffer");
-}
-
-#[test]
-fn numbers_and_words() {
-    let all = [
-        Refusal::BufferTooLong,
-        Refusal::StateUnfit,
-        Refusal::Misplaced,
-        Refusal::TooDeep,
-        Refusal::NegativeZero,
-        Refusal::NotUtf8,
-        Refusal::BadTimestamp,
-        Refusal::DecimalTooLong,
-        Refusal::TimestampTooLong,
-        Refusal::NoRoom,
-    ];
-    for (i, why) in all.into_iter().enumerate() {
-        assert_eq!(why.number() as usize, i + 1);
-        assert!(why.to_string().ends_with(&format!("(refusal {})", i + 1)));
-    }
 }
 
 #[test]
@@ -249,10 +229,10 @@ fn opening_with_32_open_is_4() {
     refused("open_list", &mut state, &mut short, Refusal::TooDeep, |s, b| {
         sys::open_list(s, b, &[])
     });
-    for _ in 0..32 {
-        sys::close(&mut state, &mut buf).unwrap();
-    }
     // 14 lists inside each other take 14 bytes; those around them have headers of two
+    for size in (1..=14).chain((16..=50).step_by(2)) {
+        assert_eq!(sys::close(&mut state, &mut buf).unwrap().size, size);
+    }
     let mut expected: Vec<u8> = (0..14).rev().map(|length| 0xB0 + length).collect();
     while expected.len() < 14 + 2 * 18 {
         let length = expected.len() as u8;
@@ -428,23 +408,23 @@ fn calls_without_room_are_10() {
 #[test]
 fn close_that_cannot_grow_is_10() {
     // a body of 128 bytes needs a header of three, one more than the reserve
-    for (room, answer) in [(4 + 2 + 128, Err(Refusal::NoRoom)), (4 + 3 + 128, Ok(()))] {
+    for (room, answer) in [(4 + 2 + 128, Err(Refusal::NoRoom)), (4 + 3 + 128, Ok(3 + 128))] {
         let (mut state, mut buf) = started(room);
         sys::open_list(&mut state, &mut buf, &[]).unwrap();
         sys::write_blob(&mut state, &mut buf, &[], &[1; 126]).unwrap();
         let before = (state, buf.clone());
-        assert_eq!(sys::close(&mut state, &mut buf), answer);
+        assert_eq!(sys::close(&mut state, &mut buf).map(|closed| closed.size), answer);
         if answer.is_err() {
             assert_eq!((state, buf), before);
         }
     }
     // the wrapper grows while the container does not: contents of 4 + 124
-    for (room, answer) in [(4 + 2 + 128, Err(Refusal::NoRoom)), (4 + 3 + 128, Ok(()))] {
+    for (room, answer) in [(4 + 2 + 128, Err(Refusal::NoRoom)), (4 + 3 + 128, Ok(3 + 128))] {
         let (mut state, mut buf) = started(room);
         sys::open_list(&mut state, &mut buf, sys::sid_bytes(&[10])).unwrap();
         sys::write_blob(&mut state, &mut buf, &[], &[1; 122]).unwrap();
         let before = (state, buf.clone());
-        assert_eq!(sys::close(&mut state, &mut buf), answer);
+        assert_eq!(sys::close(&mut state, &mut buf).map(|closed| closed.size), answer);
         if answer.is_err() {
             assert_eq!((state, buf), before);
         }

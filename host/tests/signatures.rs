@@ -1,5 +1,6 @@
 //! Neither linker nor compiler compares what the library exports with what its callers declare: the entry points' source, the C
-//! header and the declarations in sys.rs must have the same types in the same order.
+//! header and the declarations in sys.rs must have the same types in the same order, and header and crate the same constants.
+use goatminute::{LONGEST_BUFFER, MOST_OPEN, STATE_SIZE};
 use std::collections::BTreeMap;
 use std::fs;
 use std::path::Path;
@@ -12,7 +13,19 @@ fn read(path: &str) -> String {
     fs::read_to_string(&path).unwrap_or_else(|why| panic!("{}: {why}", path.display()))
 }
 
-/// What stands between `from` and the next `to`, and the rest behind it.
+/// The sources of the libraries, whichever of them have entry points.
+fn libraries() -> String {
+    let crates = Path::new(env!("CARGO_MANIFEST_DIR")).join("../crates");
+    let sources = fs::read_dir(crates)
+        .unwrap()
+        .map(|entry| entry.unwrap().path().join("src/lib.rt"));
+    sources
+        .filter(|source| source.is_file())
+        .map(|source| fs::read_to_string(source).unwrap())
+        .collect()
+}
+
+/// What stands before the next `to`, and the rest behind it.
 fn between<'t>(text: &'t str, to: &str) -> (&'t str, &'t str) {
     text.split_once(to)
         .unwrap_or_else(|| panic!("no {to:?} in {:?}", text.get(..60)))
@@ -34,7 +47,8 @@ fn of_rust(text: &str, before: &str) -> Signatures {
             }
         }
         types.push(answer.to_string());
-        all.insert(format!("gm_{name}"), types);
+        let other = all.insert(format!("gm_{name}"), types);
+        assert_eq!(other, None, "gm_{name} twice");
     }
     all
 }
@@ -77,10 +91,26 @@ fn of_c(text: &str) -> Signatures {
 
 #[test]
 fn entry_points_header_and_declarations_agree() {
-    let exported = of_rust(&read("../crates/goatminute/src/lib.rt"), "pub extern \"C\" fn gm_");
+    let exported = of_rust(&libraries(), "pub extern \"C\" fn gm_");
     let declared = of_rust(&read("src/sys.rs"), "    fn gm_");
     let header = of_c(&read("include/goatminute.h"));
     assert_eq!(exported.len(), 22);
     assert_eq!(declared, exported);
     assert_eq!(header, exported);
+}
+
+#[test]
+fn header_has_the_constants() {
+    let header = read("include/goatminute.h");
+    for (name, value) in [
+        ("STATE_SIZE", STATE_SIZE),
+        ("LONGEST_BUFFER", LONGEST_BUFFER),
+        ("MOST_OPEN", MOST_OPEN),
+    ] {
+        let definition = format!("#define GM_{name} {value}");
+        assert!(
+            header.lines().any(|line| line == definition),
+            "no {definition:?} in the header"
+        );
+    }
 }

@@ -29,13 +29,13 @@ pub fn write(values: &mut dyn WriteValues, annotated: &Annotated, noise: &mut No
             let mut list = writer.list_writer()?;
             members.iter().try_for_each(|member| write(&mut list, member, noise))?;
             noise.make(&mut list);
-            list.close()
+            list.close().map(drop)
         }
         Value::Sexp(members) => {
             let mut sexp = writer.sexp_writer()?;
             members.iter().try_for_each(|member| write(&mut sexp, member, noise))?;
             noise.make(&mut sexp);
-            sexp.close()
+            sexp.close().map(drop)
         }
         Value::Struct(fields) => {
             let mut record = writer.struct_writer()?;
@@ -44,7 +44,7 @@ pub fn write(values: &mut dyn WriteValues, annotated: &Annotated, noise: &mut No
                 record.field_name(sid(name))?;
                 write(&mut record, member, noise)?;
             }
-            record.close()
+            record.close().map(drop)
         }
     }
 }

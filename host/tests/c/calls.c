@@ -18,6 +18,7 @@ static void check(int ok, const char *what) {
 int main(void) {
     static uint8_t state[GM_STATE_SIZE];
     static uint8_t buf[96];
+    uint8_t closed[] = {1, 2, 3, 4, 5, 6};
     static const uint8_t none[1];
     static const uint8_t sid[8] = {20};
     static const uint8_t coefficient[] = {0x1F, 0xBD};
@@ -57,11 +58,15 @@ int main(void) {
     CHECK(gm_write_int(state, sizeof state, buf, sizeof buf, none, 0, 0, (const uint8_t *)"\x07", 1) == GM_ACCEPTED);
     CHECK(gm_write_symbol(state, sizeof state, buf, sizeof buf, none, 0, 30) == GM_ACCEPTED);
     CHECK(gm_write_null(state, sizeof state, buf, sizeof buf, none, 0, 0) == GM_ACCEPTED);
-    CHECK(gm_close(state, sizeof state, buf, sizeof buf) == GM_ACCEPTED);
+    CHECK(gm_close(state, sizeof state, buf, sizeof buf, closed, 4) == GM_ACCEPTED);
+    CHECK(memcmp(closed, "\x08\x00\x00\x00\x05\x06", sizeof closed) == 0);
     CHECK(gm_field_name(state, sizeof state, buf, sizeof buf, 15) == GM_ACCEPTED);
+    CHECK(gm_close(state, sizeof state, buf, sizeof buf, closed, sizeof closed) == GM_MISPLACED);
+    CHECK(memcmp(closed, "\x08\x00\x00\x00\x05\x06", sizeof closed) == 0);
     CHECK(gm_write_f64(state, sizeof state, buf, sizeof buf, none, 0, UINT64_C(0x3FF8000000000000)) == GM_ACCEPTED);
     CHECK(gm_empty(state, sizeof state, buf, sizeof buf) == GM_MISPLACED);
-    CHECK(gm_close(state, sizeof state, buf, sizeof buf) == GM_ACCEPTED);
+    CHECK(gm_close(state, sizeof state, buf, sizeof buf, closed, sizeof closed) == GM_ACCEPTED);
+    CHECK(memcmp(closed, "\x2C\x00\x00\x00\x05\x06", sizeof closed) == 0);
     CHECK(gm_finished(state, sizeof state, buf, sizeof buf) == sizeof expected);
     CHECK(memcmp(buf, expected, sizeof expected) == 0);
     CHECK(state[0] == sizeof expected && state[4] == 0 && state[5] == 0);
@@ -74,8 +79,15 @@ int main(void) {
     CHECK(gm_write_int(state, sizeof state, buf, sizeof buf, none, 0, 7, text, 1) == GM_ACCEPTED);
     CHECK(gm_finished(state, sizeof state, buf, sizeof buf) == 18);
     CHECK(memcmp(buf, "\x44\x80\x00\x00\x00\xE5\x81\x94\x92ok\xE0\x01\x00\xEA\x11\x31o", 18) == 0);
-    CHECK(gm_close(state, sizeof state, buf, sizeof buf) == GM_MISPLACED);
-    CHECK(gm_close(state, sizeof state - 1, buf, sizeof buf) == GM_STATE_UNFIT);
+    CHECK(gm_open_list(state, sizeof state, buf, sizeof buf, sid, sizeof sid) == GM_ACCEPTED);
+    CHECK(gm_close(state, sizeof state, buf, sizeof buf, closed, 3) == GM_ACCEPTED);
+    CHECK(gm_open_list(state, sizeof state, buf, sizeof buf, none, 0) == GM_ACCEPTED);
+    CHECK(gm_close(state, sizeof state, buf, sizeof buf, closed, 0) == GM_ACCEPTED);
+    CHECK(gm_finished(state, sizeof state, buf, sizeof buf) == 23);
+    CHECK(memcmp(buf + 18, "\xE3\x81\x94\xB0\xB0", 5) == 0);
+    CHECK(gm_close(state, sizeof state, buf, sizeof buf, closed, sizeof closed) == GM_MISPLACED);
+    CHECK(gm_close(state, sizeof state - 1, buf, sizeof buf, closed, sizeof closed) == GM_STATE_UNFIT);
+    CHECK(memcmp(closed, "\x2C\x00\x00\x00\x05\x06", sizeof closed) == 0);
     CHECK(gm_start(state, sizeof state, buf, 3) == GM_NO_ROOM);
     return failed;
 }
