@@ -13,7 +13,8 @@ pub fn bits_used(value: u64) -> usize
     (64 - u64::leading_zeros(value)) as usize
 }
 
-// The lowest `count` digits of `value` in the base whose greatest digit is `greatest`, most significant first. They are put from the last to the first.
+// The lowest `count` digits of `value`, most significant first, in the base whose greatest digit is `greatest`: no such base is zero, and each digit is a byte.
+// They are put from the last to the first.
 pub fn put_digits(buf: &mut [u8], at: usize, count: usize, greatest: u8, value: u64) -> usize
     ensures { λ r. ⌜ _≡_ {A = ℕ × List ℕ} (r, now (buf .exit)) (placed (now (buf .entry)) at (lowDigits (greatest + 1) count value)) ⌝ }
 {
