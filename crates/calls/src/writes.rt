@@ -156,6 +156,13 @@ fn unknown(state: State) -> Written {
     }
 }
 
+fn close(state: State, buf: &mut [u8]) -> Written {
+    let closed = writer::close(state, buf);
+    let answer = closed.answer;
+    let state = closed.state;
+    Written { answer, state }
+}
+
 fn write_plain(call: &[u8], state: State, buf: &mut [u8]) -> Written {
     let name = word(call, 0);
     if check::same(name, b"start") {
@@ -165,7 +172,7 @@ fn write_plain(call: &[u8], state: State, buf: &mut [u8]) -> Written {
         return writer::field_name(state, buf, words::natural(word(call, 1)));
     }
     if check::same(name, b"close") {
-        return writer::close(state, buf);
+        return close(state, buf);
     }
     if check::same(name, b"abandon") {
         return writer::abandon(state, buf);

@@ -153,6 +153,12 @@ fn write_scalar(text: &[u8], annotations: &[u8], state: &mut [u8], buf: &mut [u8
     }
 }
 
+// A line says nothing of what a closing answers, so nothing is lent for it.
+fn close(state: &mut [u8], buf: &mut [u8]) -> u8 {
+    let mut closed = [0u8; 4];
+    goatminute::gm_close(state, buf, &mut closed[0..0])
+}
+
 // The call of a part, if it has one. `text` is its words.
 fn call(part: Part, text: &[u8], annotations: &[u8], state: &mut [u8], buf: &mut [u8]) -> u8 {
     match part {
@@ -161,7 +167,7 @@ fn call(part: Part, text: &[u8], annotations: &[u8], state: &mut [u8], buf: &mut
         Part::Sexp => goatminute::gm_open_sexp(state, buf, annotations),
         Part::Struct => goatminute::gm_open_struct(state, buf, annotations),
         Part::Name => goatminute::gm_field_name(state, buf, words::natural_u64(text)),
-        Part::Close => goatminute::gm_close(state, buf),
+        Part::Close => close(state, buf),
         Part::Annotations | Part::Mark => 0,
         Part::Malformed => NOT_OF_FORM,
     }
