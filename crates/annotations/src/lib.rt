@@ -12,7 +12,7 @@ ghost use Rattle.annotations.specs.Prefix.{prefixBytes, placedBefore};
 const SID_BYTES: usize = 8;
 
 // The type byte of an annotation wrapper.
-const WRAPPER: u8 = 0xE0;
+pub const WRAPPER: u8 = 0xE0;
 
 // A byte past the end counts as zero.
 fn byte_at(annotations: &[u8], at: usize) -> u64

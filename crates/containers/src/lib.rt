@@ -9,9 +9,7 @@ ghost use Rattle.machine.specs.Machine.{reserve, closedBytes};
 ghost use Rattle.buffer.specs.Laid.{laid, placed};
 ghost use Rattle.annotations.specs.Sids.{sidsOf};
 ghost use Rattle.containers.specs.Containers.{spliced, closedOn, abandonedOn};
-
-// The type byte of an annotation wrapper.
-const WRAPPER: u8 = 0xE0;
+use annotations::WRAPPER;
 
 // The bytes reserved for a header.
 const RESERVE: usize = 2;

@@ -10,8 +10,8 @@ ghost use Rattle.encoding.specs.Argument.{writeDecimal, checkedBytes};
 
 const TYPE_CODE: u8 = 0x50;
 
-// Check 8.
-const MAX_BODY: usize = 32;
+// Check 8: a longer body is refused.
+pub const MAX_BODY: usize = 32;
 
 // The length of the body. A slice is shorter than 2 to the 63, so the sum does not wrap.
 pub fn body_size(negative: bool, magnitude: &[u8], exponent: i64) -> usize

@@ -28,7 +28,7 @@ pub use entry_slices::gm_write_string;
 use machine::LONGEST_BUFFER;
 use machine::MARKER;
 use machine::Refusal;
-use state_bytes::STATE_SIZE;
+pub use state_bytes::STATE_SIZE;
 
 fn clear(state: &mut [u8])
     ensures { λ r. ⌜ now (state .exit) ≡ replicate (length (now (state .entry))) 0 ⌝ }

@@ -9,6 +9,7 @@ ghost use Rattle.machine.specs.declared.Answer.the-variants.{Accepted, Refused}
 ghost use Rattle.timestamp.specs.Arguments.{argumentOf};
 ghost use Rattle.steps.specs.Kinds.{kindOf};
 ghost use Rattle.steps.specs.Refused.{ownRefusal};
+use decimal::MAX_BODY;
 use machine::Answer;
 use machine::LIST;
 use machine::Refusal;
@@ -17,9 +18,6 @@ use machine::STRUCT;
 use machine::State;
 use machine::Written;
 use timestamp::Timestamp;
-
-// Check 8.
-const LONGEST_BODY: usize = 32;
 
 pub enum ContainerType {
     List,
@@ -52,7 +50,7 @@ pub fn int_refusal(negative: bool, magnitude: &[u8]) -> Refusal
 pub fn decimal_refusal(negative: bool, coefficient: &[u8], exponent: i64) -> Refusal
     ensures { λ r. ⌜ refused (number r) ≡ ownRefusal (writeDecimal negative (now (coefficient .entry)) exponent) ⌝ }
 {
-    if LONGEST_BODY < decimal::body_size(negative, coefficient, exponent) {
+    if MAX_BODY < decimal::body_size(negative, coefficient, exponent) {
         return Refusal::DecimalTooLong;
     }
     Refusal::NoRoom

@@ -1,4 +1,4 @@
--- `state_bytes::waiting` meets its contract: of 296 bytes it is what they spell, of others that of the state that does not fit.
+-- `state_bytes::waiting` meets its contract: of as many bytes as a state has it is what they spell, of others that of the state that does not fit.
 -- Assumes nothing.
 use Rattle.state_bytes.proofs.Laws.{state-is, state-none}
 use borrow.Author.Needs.{needs}
