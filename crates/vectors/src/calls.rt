@@ -5,6 +5,7 @@ ghost use lib.ListN.{length};
 use crate::words;
 use crate::words::word;
 use scalars::IonType;
+use scalars::Scalar;
 use timestamp::Fraction;
 use timestamp::Offset;
 use timestamp::Precision;
@@ -305,7 +306,7 @@ fn put_write_int(call: &[u8], annotations: &[u8], buf: &mut [u8]) -> usize {
 
 fn put_f32(call: &[u8], annotations: &[u8], buf: &mut [u8]) -> usize {
     let bits = (words::hex_bits(word(call, 1)) % 0x1_0000_0000) as u32;
-    values::write_f32(buf, AT, annotations, bits)
+    values::write_scalar(buf, AT, annotations, Scalar::F32Bits(bits))
 }
 
 fn put_decimal(call: &[u8], annotations: &[u8], buf: &mut [u8]) -> usize {
@@ -335,24 +336,39 @@ fn put_bytes(name: Call, call: &[u8], annotations: &[u8], buf: &mut [u8]) -> usi
 
 fn put_call(name: Call, call: &[u8], annotations: &[u8], buf: &mut [u8]) -> usize {
     match name {
-        Call::WriteNull => values::write_null(buf, AT, annotations, ion_type(word(call, 1))),
-        Call::WriteBool => values::write_bool(
+        Call::WriteNull => values::write_scalar(
             buf,
             AT,
             annotations,
-            check::same(word(call, 1), b"1"),
+            Scalar::Null(ion_type(word(call, 1))),
         ),
-        Call::WriteI64 => values::write_i64(buf, AT, annotations, words::signed(word(call, 1))),
+        Call::WriteBool => values::write_scalar(
+            buf,
+            AT,
+            annotations,
+            Scalar::Bool(check::same(word(call, 1), b"1")),
+        ),
+        Call::WriteI64 => values::write_scalar(
+            buf,
+            AT,
+            annotations,
+            Scalar::I64(words::signed(word(call, 1))),
+        ),
         Call::WriteInt => put_write_int(call, annotations, buf),
         Call::WriteF32 => put_f32(call, annotations, buf),
-        Call::WriteF64 => values::write_f64(buf, AT, annotations, words::hex_bits(word(call, 1))),
-        Call::WriteDecimal => put_decimal(call, annotations, buf),
-        Call::WriteTimestamp => values::write_timestamp(buf, AT, annotations, local_time(call)),
-        Call::WriteSymbol => values::write_symbol(
+        Call::WriteF64 => values::write_scalar(
             buf,
             AT,
             annotations,
-            words::natural(word(call, 1)),
+            Scalar::F64Bits(words::hex_bits(word(call, 1))),
+        ),
+        Call::WriteDecimal => put_decimal(call, annotations, buf),
+        Call::WriteTimestamp => values::write_timestamp(buf, AT, annotations, local_time(call)),
+        Call::WriteSymbol => values::write_scalar(
+            buf,
+            AT,
+            annotations,
+            Scalar::Symbol(words::natural(word(call, 1))),
         ),
         Call::WriteString | Call::WriteClob | Call::WriteBlob => put_bytes(
             name,
