@@ -8,7 +8,6 @@
 //   take ROOM LENGTH                         how many finished bytes are handed back
 //   bytes FROM HEX                           the bytes from FROM on
 //   all FROM TO HEX                          the byte at each place from FROM to before TO
-mod words;
 mod writes;
 
 ghost use mathlib.Core.Path.{_≡_};
@@ -21,8 +20,9 @@ use machine::Container;
 use machine::Refusal;
 use machine::State;
 use words::least;
-use words::natural;
 use words::word;
+
+const MOST_U64: u64 = 18446744073709551615;
 
 // What the buffer holds before a list.
 const FILL: u8 = 0xEE;
@@ -31,12 +31,27 @@ fn print(text: &[u8]) {
     io::write_all(STDOUT_FILENO, text);
 }
 
-fn size(word: &[u8]) -> usize {
-    natural(word) as usize
+// The first numbers of a line, behind its first word.
+struct Numbers {
+    first: usize,
+    second: usize,
+    third: usize,
 }
 
-fn is_one(word: &[u8]) -> bool {
-    check::same(word, b"1")
+fn size(word: &[u8]) -> usize {
+    words::numbers::natural(word, MOST_U64) as usize
+}
+
+fn read(line: &[u8]) -> Numbers {
+    Numbers {
+        first: size(word(line, 1)),
+        second: size(word(line, 2)),
+        third: size(word(line, 3)),
+    }
+}
+
+fn hex_code(word: &[u8]) -> u8 {
+    (words::hex::bits(word) % 256) as u8
 }
 
 fn empty_state() -> State {
@@ -52,12 +67,48 @@ fn empty_state() -> State {
     }
 }
 
-fn fill(buf: &mut [u8]) {
+// A new list's state, and its buffer.
+fn fresh(buf: &mut [u8]) -> State {
     let mut i: usize = 0;
     while i < buf.len() {
         buf[i] = FILL;
         i += 1;
     }
+    empty_state()
+}
+
+fn set(n: Numbers, state: State) -> State {
+    let mut next = state;
+    next.used = n.first;
+    next.depth = n.second;
+    next.waiting = n.third == 1;
+    next
+}
+
+fn with_record(line: &[u8], n: Numbers, state: State) -> State {
+    let i = n.first % 32;
+    let start = n.second;
+    let header = n.third;
+    let code = hex_code(word(line, 4));
+    let mut next = state;
+    next.containers[i] = Container {
+        start,
+        header,
+        code,
+    };
+    next
+}
+
+fn is_open(line: &[u8], n: Numbers, state: State) -> bool {
+    let i = n.first % 32;
+    let c = state.containers[i];
+    (c.start == n.second) & (c.header == n.third) & (c.code == hex_code(word(line, 4)))
+}
+
+fn takes(n: Numbers, state: State, buf: &[u8]) -> bool {
+    let room = least(n.first, buf.len());
+    let taken = writer::finished(state, &buf[0..room]);
+    taken.len() == n.second
 }
 
 // Whether `byte` stands at each place from `from` to before `to`.
@@ -75,69 +126,25 @@ fn are_all(buf: &[u8], from: usize, to: usize, byte: u8) -> bool
     true
 }
 
-fn fresh(buf: &mut [u8]) -> State {
-    fill(buf);
-    empty_state()
+fn has_all(line: &[u8], n: Numbers, buf: &[u8]) -> bool {
+    are_all(
+        buf,
+        n.first,
+        least(n.second, buf.len()),
+        hex_code(word(line, 3)),
+    )
 }
 
-fn set(line: &[u8], state: State) -> State {
-    let mut next = state;
-    next.used = size(word(line, 1));
-    next.depth = size(word(line, 2));
-    next.waiting = is_one(word(line, 3));
-    next
-}
-
-fn container(line: &[u8]) -> Container {
-    Container {
-        start: size(word(line, 2)),
-        header: size(word(line, 3)),
-        code: words::hex_code(word(line, 4)),
-    }
-}
-
-fn with_record(line: &[u8], state: State) -> State {
-    let i = size(word(line, 1)) % 32;
-    let start = size(word(line, 2));
-    let header = size(word(line, 3));
-    let code = words::hex_code(word(line, 4));
-    let mut next = state;
-    next.containers[i] = Container {
-        start,
-        header,
-        code,
-    };
-    next
-}
-
-fn is_open(line: &[u8], state: State) -> bool {
-    let i = size(word(line, 1)) % 32;
-    let c = state.containers[i];
-    let expected = container(line);
-    (c.start == expected.start) & (c.header == expected.header) & (c.code == expected.code)
-}
-
-fn has_all(line: &[u8], buf: &[u8]) -> bool {
-    let to = least(size(word(line, 2)), buf.len());
-    are_all(buf, size(word(line, 1)), to, words::hex_code(word(line, 3)))
-}
-
-fn has_bytes(line: &[u8], buf: &[u8]) -> bool {
+fn has_bytes(line: &[u8], n: Numbers, buf: &[u8]) -> bool {
     let mut bytes = [0u8; 256];
-    let n = words::hex_bytes(word(line, 2), &mut bytes);
-    let from = least(size(word(line, 1)), buf.len());
-    let count = least(n, buf.len() - from);
-    check::same(&bytes[0..n], &buf[from..from + count])
-}
-
-fn takes(line: &[u8], state: State, buf: &[u8]) -> bool {
-    let room = least(size(word(line, 1)), buf.len());
-    let taken = writer::finished(state, &buf[0..room]);
-    taken.len() == size(word(line, 2))
+    let count = words::hex::bytes(word(line, 2), &mut bytes);
+    let from = least(n.first, buf.len());
+    let to = from + least(count, buf.len() - from);
+    check::same(&bytes[0..count], &buf[from..to])
 }
 
 // The numbers of document 01.
-fn number(why: Refusal) -> u64 {
+fn number(why: Refusal) -> usize {
     match why {
         Refusal::BufferTooLong => 1,
         Refusal::StateUnfit => 2,
@@ -152,31 +159,25 @@ fn number(why: Refusal) -> u64 {
     }
 }
 
-fn answer_number(answer: Answer) -> u64 {
+fn answer_number(answer: Answer) -> usize {
     match answer {
         Answer::Accepted => 0,
         Answer::Refused(why) => number(why),
     }
 }
 
-fn print_number(n: u64) {
-    io::print_decimal(STDOUT_FILENO, n);
+fn print_number(n: usize) {
+    io::print_decimal(STDOUT_FILENO, n as u64);
     print(b" ");
 }
 
 // What a call answered.
-fn print_got(answer: u64, state: State) {
+fn print_got(answer: usize, state: State) {
     print(b"got ");
     print_number(answer);
-    print_number(state.used as u64);
-    print_number(state.depth as u64);
-    print_number(state.waiting as u64);
-}
-
-fn is_state(line: &[u8], state: State) -> bool {
-    (state.used == size(word(line, 2)))
-        & (state.depth == size(word(line, 3)))
-        & (state.waiting == is_one(word(line, 4)))
+    print_number(state.used);
+    print_number(state.depth);
+    print_number(state.waiting as usize);
 }
 
 fn report(is_right: bool) {
@@ -187,8 +188,12 @@ fn report(is_right: bool) {
     print(b"differs\n");
 }
 
-fn compare_call(line: &[u8], answer: u64, state: State) {
-    let is_right = (answer == natural(word(line, 1))) & is_state(line, state);
+fn compare_call(line: &[u8], answer: usize, state: State) {
+    let n = read(line);
+    let is_right = (answer == n.first)
+        & (state.used == n.second)
+        & (state.depth == n.third)
+        & (state.waiting == check::same(word(line, 4), b"1"));
     if !is_right {
         print_got(answer, state);
     }
@@ -197,53 +202,60 @@ fn compare_call(line: &[u8], answer: u64, state: State) {
 
 fn call(line: &[u8], state: State, buf: &mut [u8]) -> State {
     let room = least(size(word(line, 0)), buf.len());
-    let written = writes::write(words::words_from(line, 5), state, &mut buf[0..room]);
+    let written = writes::write(words::from_word(line, 5), state, &mut buf[0..room]);
     let answer = written.answer;
     let next = written.state;
     compare_call(line, answer_number(answer), next);
     next
 }
 
-fn is_as_said(line: &[u8], state: State, buf: &[u8]) -> bool {
-    let name = word(line, 0);
-    if check::same(name, b"open") {
-        return is_open(line, state);
-    }
-    if check::same(name, b"take") {
-        return takes(line, state, buf);
-    }
-    if check::same(name, b"all") {
-        return has_all(line, buf);
-    }
-    has_bytes(line, buf)
+// The lines that are no call, by the index of their first words.
+const FRESH: usize = 0;
+
+const SET: usize = 1;
+
+const RECORD: usize = 2;
+
+const OPEN: usize = 3;
+
+const TAKE: usize = 4;
+
+const ALL: usize = 5;
+
+const BYTES: usize = 6;
+
+fn line_named(name: &[u8]) -> usize {
+    words::index(b"fresh set record open take all bytes", name)
 }
 
-fn is_comparison(name: &[u8]) -> bool {
-    check::same(name, b"open")
-        | check::same(name, b"take")
-        | check::same(name, b"all")
-        | check::same(name, b"bytes")
+fn is_as_said(form: usize, line: &[u8], state: State, buf: &[u8]) -> bool {
+    let n = read(line);
+    match form {
+        OPEN => is_open(line, n, state),
+        TAKE => takes(n, state, buf),
+        ALL => has_all(line, n, buf),
+        _ => has_bytes(line, n, buf),
+    }
 }
 
+fn compare(form: usize, line: &[u8], state: State, buf: &[u8]) -> State {
+    report(is_as_said(form, line, state, buf));
+    state
+}
+
+// The state behind a line.
 fn step(line: &[u8], state: State, buf: &mut [u8]) -> State {
-    let name = word(line, 0);
-    if check::same(name, b"fresh") {
-        return fresh(buf);
+    let form = line_named(word(line, 0));
+    match form {
+        FRESH => fresh(buf),
+        SET => set(read(line), state),
+        RECORD => with_record(line, read(line), state),
+        OPEN | TAKE | ALL | BYTES => compare(form, line, state, buf),
+        _ => call(line, state, buf),
     }
-    if check::same(name, b"set") {
-        return set(line, state);
-    }
-    if check::same(name, b"record") {
-        return with_record(line, state);
-    }
-    if is_comparison(name) {
-        report(is_as_said(line, state, buf));
-        return state;
-    }
-    call(line, state, buf)
 }
 
-// The state behind a line. A line with nothing before its `#` does nothing.
+// A line with nothing before its `#` does nothing.
 fn run_line(line: &[u8], state: State, buf: &mut [u8]) -> State {
     let end = words::find(line, 0, b'#');
     if end == 0 {
