@@ -31,11 +31,12 @@ fn print(text: &[u8]) {
     io::write_all(STDOUT_FILENO, text);
 }
 
-// The first numbers of a line, behind its first word.
+// The numbers behind the first word of a line.
 struct Numbers {
     first: usize,
     second: usize,
     third: usize,
+    fourth: usize,
 }
 
 fn size(word: &[u8]) -> usize {
@@ -47,6 +48,7 @@ fn read(line: &[u8]) -> Numbers {
         first: size(word(line, 1)),
         second: size(word(line, 2)),
         third: size(word(line, 3)),
+        fourth: size(word(line, 4)),
     }
 }
 
@@ -54,7 +56,13 @@ fn hex_code(word: &[u8]) -> u8 {
     (words::hex::bits(word) % 256) as u8
 }
 
-fn empty_state() -> State {
+// A new list's state, and its buffer.
+fn fresh(buf: &mut [u8]) -> State {
+    let mut i: usize = 0;
+    while i < buf.len() {
+        buf[i] = FILL;
+        i += 1;
+    }
     State {
         used: 0,
         depth: 0,
@@ -67,16 +75,6 @@ fn empty_state() -> State {
     }
 }
 
-// A new list's state, and its buffer.
-fn fresh(buf: &mut [u8]) -> State {
-    let mut i: usize = 0;
-    while i < buf.len() {
-        buf[i] = FILL;
-        i += 1;
-    }
-    empty_state()
-}
-
 fn set(n: Numbers, state: State) -> State {
     let mut next = state;
     next.used = n.first;
@@ -85,11 +83,10 @@ fn set(n: Numbers, state: State) -> State {
     next
 }
 
-fn with_record(line: &[u8], n: Numbers, state: State) -> State {
+fn with_record(n: Numbers, code: u8, state: State) -> State {
     let i = n.first % 32;
     let start = n.second;
     let header = n.third;
-    let code = hex_code(word(line, 4));
     let mut next = state;
     next.containers[i] = Container {
         start,
@@ -99,10 +96,10 @@ fn with_record(line: &[u8], n: Numbers, state: State) -> State {
     next
 }
 
-fn is_open(line: &[u8], n: Numbers, state: State) -> bool {
+fn is_open(n: Numbers, code: u8, state: State) -> bool {
     let i = n.first % 32;
     let c = state.containers[i];
-    (c.start == n.second) & (c.header == n.third) & (c.code == hex_code(word(line, 4)))
+    (c.start == n.second) & (c.header == n.third) & (c.code == code)
 }
 
 fn takes(n: Numbers, state: State, buf: &[u8]) -> bool {
@@ -111,11 +108,10 @@ fn takes(n: Numbers, state: State, buf: &[u8]) -> bool {
     taken.len() == n.second
 }
 
-// Whether `byte` stands at each place from `from` to before `to`.
-fn are_all(buf: &[u8], from: usize, to: usize, byte: u8) -> bool
-    requires { ⌜ to ≤ length (now buf) ⌝ }
-{
-    let mut i = from;
+// Whether `byte` stands at each place from the first number to before the second.
+fn are_all(n: Numbers, byte: u8, buf: &[u8]) -> bool {
+    let to = least(n.second, buf.len());
+    let mut i = n.first;
     while i < to {
         let here = buf[i];
         if here != byte {
@@ -126,43 +122,30 @@ fn are_all(buf: &[u8], from: usize, to: usize, byte: u8) -> bool
     true
 }
 
-fn has_all(line: &[u8], n: Numbers, buf: &[u8]) -> bool {
-    are_all(
-        buf,
-        n.first,
-        least(n.second, buf.len()),
-        hex_code(word(line, 3)),
-    )
-}
-
-fn has_bytes(line: &[u8], n: Numbers, buf: &[u8]) -> bool {
+fn has_bytes(at: usize, word: &[u8], buf: &[u8]) -> bool {
     let mut bytes = [0u8; 256];
-    let count = words::hex::bytes(word(line, 2), &mut bytes);
-    let from = least(n.first, buf.len());
+    let count = words::hex::bytes(word, &mut bytes);
+    let from = least(at, buf.len());
     let to = from + least(count, buf.len() - from);
     check::same(&bytes[0..count], &buf[from..to])
 }
 
-// The numbers of document 01.
-fn number(why: Refusal) -> usize {
-    match why {
-        Refusal::BufferTooLong => 1,
-        Refusal::StateUnfit => 2,
-        Refusal::Misplaced => 3,
-        Refusal::TooDeep => 4,
-        Refusal::NegativeZero => 5,
-        Refusal::NotUtf8 => 6,
-        Refusal::BadTimestamp => 7,
-        Refusal::DecimalTooLong => 8,
-        Refusal::TimestampTooLong => 9,
-        Refusal::NoRoom => 10,
-    }
-}
-
-fn answer_number(answer: Answer) -> usize {
+// The numbers of document 01, and 0 for what is accepted.
+fn number(answer: Answer) -> usize {
     match answer {
         Answer::Accepted => 0,
-        Answer::Refused(why) => number(why),
+        Answer::Refused(why) => match why {
+            Refusal::BufferTooLong => 1,
+            Refusal::StateUnfit => 2,
+            Refusal::Misplaced => 3,
+            Refusal::TooDeep => 4,
+            Refusal::NegativeZero => 5,
+            Refusal::NotUtf8 => 6,
+            Refusal::BadTimestamp => 7,
+            Refusal::DecimalTooLong => 8,
+            Refusal::TimestampTooLong => 9,
+            Refusal::NoRoom => 10,
+        },
     }
 }
 
@@ -188,12 +171,11 @@ fn report(is_right: bool) {
     print(b"differs\n");
 }
 
-fn compare_call(line: &[u8], answer: usize, state: State) {
-    let n = read(line);
+fn compare_call(n: Numbers, answer: usize, state: State) {
     let is_right = (answer == n.first)
         & (state.used == n.second)
         & (state.depth == n.third)
-        & (state.waiting == check::same(word(line, 4), b"1"));
+        & (state.waiting == (n.fourth == 1));
     if !is_right {
         print_got(answer, state);
     }
@@ -205,73 +187,62 @@ fn call(line: &[u8], state: State, buf: &mut [u8]) -> State {
     let written = writes::write(words::from_word(line, 5), state, &mut buf[0..room]);
     let answer = written.answer;
     let next = written.state;
-    compare_call(line, answer_number(answer), next);
+    compare_call(read(line), number(answer), next);
     next
 }
 
-// The lines that are no call, by the index of their first words.
-const FRESH: usize = 0;
+// The lines that are no call, by the index of their first words, of which the first is that of an empty line.
+const NOTHING: usize = 0;
 
-const SET: usize = 1;
+const FRESH: usize = 1;
 
-const RECORD: usize = 2;
+const SET: usize = 2;
 
-const OPEN: usize = 3;
+const RECORD: usize = 3;
 
-const TAKE: usize = 4;
+const OPEN: usize = 4;
 
-const ALL: usize = 5;
+const TAKE: usize = 5;
 
-const BYTES: usize = 6;
+const ALL: usize = 6;
 
-fn line_named(name: &[u8]) -> usize {
-    words::index(b"fresh set record open take all bytes", name)
-}
+const BYTES: usize = 7;
 
 fn is_as_said(form: usize, line: &[u8], state: State, buf: &[u8]) -> bool {
     let n = read(line);
     match form {
-        OPEN => is_open(line, n, state),
+        OPEN => is_open(n, hex_code(word(line, 4)), state),
         TAKE => takes(n, state, buf),
-        ALL => has_all(line, n, buf),
-        _ => has_bytes(line, n, buf),
+        ALL => are_all(n, hex_code(word(line, 3)), buf),
+        _ => has_bytes(n.first, word(line, 2), buf),
     }
-}
-
-fn compare(form: usize, line: &[u8], state: State, buf: &[u8]) -> State {
-    report(is_as_said(form, line, state, buf));
-    state
 }
 
 // The state behind a line.
 fn step(line: &[u8], state: State, buf: &mut [u8]) -> State {
-    let form = line_named(word(line, 0));
+    let form = words::index(b" fresh set record open take all bytes", word(line, 0));
     match form {
+        NOTHING => state,
         FRESH => fresh(buf),
         SET => set(read(line), state),
-        RECORD => with_record(line, read(line), state),
-        OPEN | TAKE | ALL | BYTES => compare(form, line, state, buf),
+        RECORD => with_record(read(line), hex_code(word(line, 4)), state),
+        OPEN | TAKE | ALL | BYTES => {
+            report(is_as_said(form, line, state, buf));
+            state
+        }
         _ => call(line, state, buf),
     }
-}
-
-// A line with nothing before its `#` does nothing.
-fn run_line(line: &[u8], state: State, buf: &mut [u8]) -> State {
-    let end = words::find(line, 0, b'#');
-    if end == 0 {
-        return state;
-    }
-    step(&line[0..end], state, buf)
 }
 
 fn run_lines(text: &[u8], buf: &mut [u8])
     requires { ⌜ length (now text) ≤ 65536 ⌝ }
 {
-    let mut state = empty_state();
+    let mut state = fresh(buf);
     let mut at: usize = 0;
     while at < text.len() {
         let end = words::find(text, at, b'\n');
-        state = run_line(&text[at..end], state, buf);
+        let stop = least(words::find(text, at, b'#'), end);
+        state = step(&text[at..stop], state, buf);
         at = end + 1;
     }
 }

@@ -1,5 +1,6 @@
 // The writer's call that words name: the function and its arguments, before which may stand `ann` and the sids of the annotations, eight bytes each.
 // A float is named by its bits: `f32` and `f64` hand those on, `f32_value` and `f64_value` the float itself.
+ghost use mathlib.Core.Path.{_≡_};
 ghost use Prim.Native.Nat.{_≤_};
 ghost use lib.ListN.{length};
 use machine::Answer;
@@ -20,8 +21,6 @@ const MOST_U64: u64 = 18446744073709551615;
 
 // What a body of many bytes holds.
 const BODY: u8 = 0x55;
-
-const LONGEST_BODY: usize = 65536;
 
 const SIGN_32: u32 = 0x8000_0000;
 
@@ -78,13 +77,6 @@ const CLOB: usize = 21;
 
 const BLOB: usize = 22;
 
-fn function_named(name: &[u8]) -> usize {
-    words::index(
-        b"start name close abandon marker empty list sexp struct null bool i64 int f32 f64 f32_value f64_value decimal timestamp symbol string clob blob",
-        name,
-    )
-}
-
 fn is_annotated(call: &[u8]) -> bool {
     check::same(word(call, 0), b"ann")
 }
@@ -107,22 +99,22 @@ fn behind_sids<'a>(call: &'a [u8]) -> &'a [u8] {
     call
 }
 
-// At which word the bytes of a call stand: behind the sign, where there is one.
-fn bytes_at(function: usize) -> usize {
-    match function {
-        INT | DECIMAL => 2,
-        _ => 1,
-    }
-}
-
 // Puts the bytes of a call and answers their number. Those of a blob are as many bytes 55 as its word says, and stand there already.
 fn bytes_of(function: usize, call: &[u8], out: &mut [u8]) -> usize
     ensures { λ r. ⌜ r ≤ length (now (out .exit)) ⌝ }
 {
-    if function == BLOB {
-        return words::least(numbers::natural(word(call, 1), MOST_U64) as usize, out.len());
+    match function {
+        BLOB => words::least(numbers::natural(word(call, 1), MOST_U64) as usize, out.len()),
+        INT | DECIMAL => hex::bytes(word(call, 2), out),
+        _ => hex::bytes(word(call, 1), out),
     }
-    hex::bytes(word(call, bytes_at(function)), out)
+}
+
+// The `ensures` gives the length, which lending the array as a slice needs.
+fn longest_body() -> [u8; 65536]
+    ensures { λ r. ⌜ 65536 ≡ length r ⌝ }
+{
+    [BODY; 65536]
 }
 
 // The local time at second precision with an unknown offset.
@@ -179,13 +171,6 @@ fn read(call: &[u8]) -> Arguments {
 }
 
 // A word that names no call answers 9, which no call answers.
-fn unknown(state: State) -> Written {
-    Written {
-        answer: Answer::Refused(Refusal::TimestampTooLong),
-        state,
-    }
-}
-
 fn write_plain(function: usize, number: u64, state: State, buf: &mut [u8]) -> Written {
     match function {
         START => writer::start(buf),
@@ -194,7 +179,10 @@ fn write_plain(function: usize, number: u64, state: State, buf: &mut [u8]) -> Wr
         ABANDON => writer::abandon(state, buf),
         MARKER => writer::version_marker(state, buf),
         EMPTY => writer::empty(state, buf),
-        _ => unknown(state),
+        _ => Written {
+            answer: Answer::Refused(Refusal::TimestampTooLong),
+            state,
+        },
     }
 }
 
@@ -233,13 +221,16 @@ fn write_value(
 pub(crate) fn write(call: &[u8], state: State, buf: &mut [u8]) -> Written {
     let mut annotations = [0u8; 256];
     let n = sids(call, &mut annotations);
-    let words = behind_sids(call);
-    let function = function_named(word(words, 0));
-    let mut bytes = [BODY; LONGEST_BODY];
-    let m = bytes_of(function, words, &mut bytes);
+    let plain = behind_sids(call);
+    let function = words::index(
+        b"start name close abandon marker empty list sexp struct null bool i64 int f32 f64 f32_value f64_value decimal timestamp symbol string clob blob",
+        word(plain, 0),
+    );
+    let mut bytes = longest_body();
+    let m = bytes_of(function, plain, &mut bytes);
     write_value(
         function,
-        words,
+        plain,
         &annotations[0..n],
         &bytes[0..m],
         state,
