@@ -8,7 +8,6 @@
 //   take ROOM LENGTH                         how many finished bytes are handed back
 //   bytes FROM HEX                           the bytes from FROM on
 //   all FROM TO HEX                          the byte at each place from FROM to before TO
-mod words;
 mod writes;
 
 ghost use mathlib.Core.Path.{_≡_};
@@ -21,8 +20,9 @@ use machine::Container;
 use machine::Refusal;
 use machine::State;
 use words::least;
-use words::natural;
 use words::word;
+
+const MOST_U64: u64 = 18446744073709551615;
 
 // What the buffer holds before a list.
 const FILL: u8 = 0xEE;
@@ -31,15 +31,38 @@ fn print(text: &[u8]) {
     io::write_all(STDOUT_FILENO, text);
 }
 
+// The numbers behind the first word of a line.
+struct Numbers {
+    first: usize,
+    second: usize,
+    third: usize,
+    fourth: usize,
+}
+
 fn size(word: &[u8]) -> usize {
-    natural(word) as usize
+    words::numbers::natural(word, MOST_U64) as usize
 }
 
-fn is_one(word: &[u8]) -> bool {
-    check::same(word, b"1")
+fn read(line: &[u8]) -> Numbers {
+    Numbers {
+        first: size(word(line, 1)),
+        second: size(word(line, 2)),
+        third: size(word(line, 3)),
+        fourth: size(word(line, 4)),
+    }
 }
 
-fn empty_state() -> State {
+fn hex_code(word: &[u8]) -> u8 {
+    (words::hex::bits(word) % 256) as u8
+}
+
+// A new list's state, and its buffer.
+fn fresh(buf: &mut [u8]) -> State {
+    let mut i: usize = 0;
+    while i < buf.len() {
+        buf[i] = FILL;
+        i += 1;
+    }
     State {
         used: 0,
         depth: 0,
@@ -52,19 +75,43 @@ fn empty_state() -> State {
     }
 }
 
-fn fill(buf: &mut [u8]) {
-    let mut i: usize = 0;
-    while i < buf.len() {
-        buf[i] = FILL;
-        i += 1;
-    }
+fn set(n: Numbers, state: State) -> State {
+    let mut next = state;
+    next.used = n.first;
+    next.depth = n.second;
+    next.waiting = n.third == 1;
+    next
 }
 
-// Whether `byte` stands at each place from `from` to before `to`.
-fn are_all(buf: &[u8], from: usize, to: usize, byte: u8) -> bool
-    requires { ⌜ to ≤ length (now buf) ⌝ }
-{
-    let mut i = from;
+fn with_record(n: Numbers, code: u8, state: State) -> State {
+    let i = n.first % 32;
+    let start = n.second;
+    let header = n.third;
+    let mut next = state;
+    next.containers[i] = Container {
+        start,
+        header,
+        code,
+    };
+    next
+}
+
+fn is_open(n: Numbers, code: u8, state: State) -> bool {
+    let i = n.first % 32;
+    let c = state.containers[i];
+    (c.start == n.second) & (c.header == n.third) & (c.code == code)
+}
+
+fn takes(n: Numbers, state: State, buf: &[u8]) -> bool {
+    let room = least(n.first, buf.len());
+    let taken = writer::finished(state, &buf[0..room]);
+    taken.len() == n.second
+}
+
+// Whether `byte` stands at each place from the first number to before the second.
+fn are_all(n: Numbers, byte: u8, buf: &[u8]) -> bool {
+    let to = least(n.second, buf.len());
+    let mut i = n.first;
     while i < to {
         let here = buf[i];
         if here != byte {
@@ -75,108 +122,45 @@ fn are_all(buf: &[u8], from: usize, to: usize, byte: u8) -> bool
     true
 }
 
-fn fresh(buf: &mut [u8]) -> State {
-    fill(buf);
-    empty_state()
-}
-
-fn set(line: &[u8], state: State) -> State {
-    let mut next = state;
-    next.used = size(word(line, 1));
-    next.depth = size(word(line, 2));
-    next.waiting = is_one(word(line, 3));
-    next
-}
-
-fn container(line: &[u8]) -> Container {
-    Container {
-        start: size(word(line, 2)),
-        header: size(word(line, 3)),
-        code: words::hex_code(word(line, 4)),
-    }
-}
-
-fn with_record(line: &[u8], state: State) -> State {
-    let i = size(word(line, 1)) % 32;
-    let start = size(word(line, 2));
-    let header = size(word(line, 3));
-    let code = words::hex_code(word(line, 4));
-    let mut next = state;
-    next.containers[i] = Container {
-        start,
-        header,
-        code,
-    };
-    next
-}
-
-fn is_open(line: &[u8], state: State) -> bool {
-    let i = size(word(line, 1)) % 32;
-    let c = state.containers[i];
-    let expected = container(line);
-    (c.start == expected.start) & (c.header == expected.header) & (c.code == expected.code)
-}
-
-fn has_all(line: &[u8], buf: &[u8]) -> bool {
-    let to = least(size(word(line, 2)), buf.len());
-    are_all(buf, size(word(line, 1)), to, words::hex_code(word(line, 3)))
-}
-
-fn has_bytes(line: &[u8], buf: &[u8]) -> bool {
+fn has_bytes(at: usize, word: &[u8], buf: &[u8]) -> bool {
     let mut bytes = [0u8; 256];
-    let n = words::hex_bytes(word(line, 2), &mut bytes);
-    let from = least(size(word(line, 1)), buf.len());
-    let count = least(n, buf.len() - from);
-    check::same(&bytes[0..n], &buf[from..from + count])
+    let count = words::hex::bytes(word, &mut bytes);
+    let from = least(at, buf.len());
+    let to = from + least(count, buf.len() - from);
+    check::same(&bytes[0..count], &buf[from..to])
 }
 
-fn takes(line: &[u8], state: State, buf: &[u8]) -> bool {
-    let room = least(size(word(line, 1)), buf.len());
-    let taken = writer::finished(state, &buf[0..room]);
-    taken.len() == size(word(line, 2))
-}
-
-// The numbers of document 01.
-fn number(why: Refusal) -> u64 {
-    match why {
-        Refusal::BufferTooLong => 1,
-        Refusal::StateUnfit => 2,
-        Refusal::Misplaced => 3,
-        Refusal::TooDeep => 4,
-        Refusal::NegativeZero => 5,
-        Refusal::NotUtf8 => 6,
-        Refusal::BadTimestamp => 7,
-        Refusal::DecimalTooLong => 8,
-        Refusal::TimestampTooLong => 9,
-        Refusal::NoRoom => 10,
-    }
-}
-
-fn answer_number(answer: Answer) -> u64 {
+// The numbers of document 01, and 0 for what is accepted.
+fn number(answer: Answer) -> usize {
     match answer {
         Answer::Accepted => 0,
-        Answer::Refused(why) => number(why),
+        Answer::Refused(why) => match why {
+            Refusal::BufferTooLong => 1,
+            Refusal::StateUnfit => 2,
+            Refusal::Misplaced => 3,
+            Refusal::TooDeep => 4,
+            Refusal::NegativeZero => 5,
+            Refusal::NotUtf8 => 6,
+            Refusal::BadTimestamp => 7,
+            Refusal::DecimalTooLong => 8,
+            Refusal::TimestampTooLong => 9,
+            Refusal::NoRoom => 10,
+        },
     }
 }
 
-fn print_number(n: u64) {
-    io::print_decimal(STDOUT_FILENO, n);
+fn print_number(n: usize) {
+    io::print_decimal(STDOUT_FILENO, n as u64);
     print(b" ");
 }
 
 // What a call answered.
-fn print_got(answer: u64, state: State) {
+fn print_got(answer: usize, state: State) {
     print(b"got ");
     print_number(answer);
-    print_number(state.used as u64);
-    print_number(state.depth as u64);
-    print_number(state.waiting as u64);
-}
-
-fn is_state(line: &[u8], state: State) -> bool {
-    (state.used == size(word(line, 2)))
-        & (state.depth == size(word(line, 3)))
-        & (state.waiting == is_one(word(line, 4)))
+    print_number(state.used);
+    print_number(state.depth);
+    print_number(state.waiting as usize);
 }
 
 fn report(is_right: bool) {
@@ -187,8 +171,11 @@ fn report(is_right: bool) {
     print(b"differs\n");
 }
 
-fn compare_call(line: &[u8], answer: u64, state: State) {
-    let is_right = (answer == natural(word(line, 1))) & is_state(line, state);
+fn compare_call(n: Numbers, answer: usize, state: State) {
+    let is_right = (answer == n.first)
+        & (state.used == n.second)
+        & (state.depth == n.third)
+        & (state.waiting == (n.fourth == 1));
     if !is_right {
         print_got(answer, state);
     }
@@ -197,69 +184,65 @@ fn compare_call(line: &[u8], answer: u64, state: State) {
 
 fn call(line: &[u8], state: State, buf: &mut [u8]) -> State {
     let room = least(size(word(line, 0)), buf.len());
-    let written = writes::write(words::words_from(line, 5), state, &mut buf[0..room]);
+    let written = writes::write(words::from_word(line, 5), state, &mut buf[0..room]);
     let answer = written.answer;
     let next = written.state;
-    compare_call(line, answer_number(answer), next);
+    compare_call(read(line), number(answer), next);
     next
 }
 
-fn is_as_said(line: &[u8], state: State, buf: &[u8]) -> bool {
-    let name = word(line, 0);
-    if check::same(name, b"open") {
-        return is_open(line, state);
+// The lines that are no call, by the index of their first words, of which the first is that of an empty line.
+const NOTHING: usize = 0;
+
+const FRESH: usize = 1;
+
+const SET: usize = 2;
+
+const RECORD: usize = 3;
+
+const OPEN: usize = 4;
+
+const TAKE: usize = 5;
+
+const ALL: usize = 6;
+
+const BYTES: usize = 7;
+
+fn is_as_said(form: usize, line: &[u8], state: State, buf: &[u8]) -> bool {
+    let n = read(line);
+    match form {
+        OPEN => is_open(n, hex_code(word(line, 4)), state),
+        TAKE => takes(n, state, buf),
+        ALL => are_all(n, hex_code(word(line, 3)), buf),
+        _ => has_bytes(n.first, word(line, 2), buf),
     }
-    if check::same(name, b"take") {
-        return takes(line, state, buf);
-    }
-    if check::same(name, b"all") {
-        return has_all(line, buf);
-    }
-    has_bytes(line, buf)
 }
 
-fn is_comparison(name: &[u8]) -> bool {
-    check::same(name, b"open")
-        | check::same(name, b"take")
-        | check::same(name, b"all")
-        | check::same(name, b"bytes")
-}
-
+// The state behind a line.
 fn step(line: &[u8], state: State, buf: &mut [u8]) -> State {
-    let name = word(line, 0);
-    if check::same(name, b"fresh") {
-        return fresh(buf);
+    let form = words::index(b" fresh set record open take all bytes", word(line, 0));
+    match form {
+        NOTHING => state,
+        FRESH => fresh(buf),
+        SET => set(read(line), state),
+        RECORD => with_record(read(line), hex_code(word(line, 4)), state),
+        OPEN | TAKE | ALL | BYTES => {
+            report(is_as_said(form, line, state, buf));
+            state
+        }
+        _ => call(line, state, buf),
     }
-    if check::same(name, b"set") {
-        return set(line, state);
-    }
-    if check::same(name, b"record") {
-        return with_record(line, state);
-    }
-    if is_comparison(name) {
-        report(is_as_said(line, state, buf));
-        return state;
-    }
-    call(line, state, buf)
-}
-
-// The state behind a line. A line with nothing before its `#` does nothing.
-fn run_line(line: &[u8], state: State, buf: &mut [u8]) -> State {
-    let end = words::find(line, 0, b'#');
-    if end == 0 {
-        return state;
-    }
-    step(&line[0..end], state, buf)
 }
 
 fn run_lines(text: &[u8], buf: &mut [u8])
     requires { ⌜ length (now text) ≤ 65536 ⌝ }
 {
-    let mut state = empty_state();
+    let mut state = fresh(buf);
     let mut at: usize = 0;
     while at < text.len() {
         let end = words::find(text, at, b'\n');
-        state = run_line(&text[at..end], state, buf);
+        let stop = least(words::find(text, at, b'#'), end);
+        state = step(&text[at..stop], state, buf);
         at = end + 1;
     }
 }

@@ -1,9 +1,8 @@
 // The writer's call that words name: the function and its arguments, before which may stand `ann` and the sids of the annotations, eight bytes each.
 // A float is named by its bits: `f32` and `f64` hand those on, `f32_value` and `f64_value` the float itself.
+ghost use mathlib.Core.Path.{_≡_};
 ghost use Prim.Native.Nat.{_≤_};
 ghost use lib.ListN.{length};
-use crate::words;
-use crate::words::word;
 use machine::Answer;
 use machine::Refusal;
 use machine::State;
@@ -13,12 +12,15 @@ use timestamp::Fraction;
 use timestamp::Offset;
 use timestamp::Precision;
 use timestamp::Timestamp;
+use words::hex;
+use words::numbers;
+use words::word;
 use writer::ContainerType;
+
+const MOST_U64: u64 = 18446744073709551615;
 
 // What a body of many bytes holds.
 const BODY: u8 = 0x55;
-
-const LONGEST_BODY: usize = 65536;
 
 const SIGN_32: u32 = 0x8000_0000;
 
@@ -28,16 +30,55 @@ const INFINITY_32: u32 = 0x7F80_0000;
 
 const INFINITY_64: u64 = 0x7FF0_0000_0000_0000;
 
+// The functions by the index of their names.
+const START: usize = 0;
+
+const NAME: usize = 1;
+
+const CLOSE: usize = 2;
+
+const ABANDON: usize = 3;
+
+const MARKER: usize = 4;
+
+const EMPTY: usize = 5;
+
+const LIST: usize = 6;
+
+const SEXP: usize = 7;
+
+const STRUCT: usize = 8;
+
+const NULL: usize = 9;
+
+const BOOL: usize = 10;
+
+const I64: usize = 11;
+
+const INT: usize = 12;
+
+const F32: usize = 13;
+
+const F64: usize = 14;
+
+const F32_VALUE: usize = 15;
+
+const F64_VALUE: usize = 16;
+
+const DECIMAL: usize = 17;
+
+const TIMESTAMP: usize = 18;
+
+const SYMBOL: usize = 19;
+
+const STRING: usize = 20;
+
+const CLOB: usize = 21;
+
+const BLOB: usize = 22;
+
 fn is_annotated(call: &[u8]) -> bool {
     check::same(word(call, 0), b"ann")
-}
-
-// At which word the function stands.
-fn function_at(call: &[u8]) -> usize {
-    if is_annotated(call) {
-        return 2;
-    }
-    0
 }
 
 // Puts the bytes of a call's sids, and answers their number.
@@ -45,59 +86,50 @@ fn sids(call: &[u8], out: &mut [u8]) -> usize
     ensures { λ r. ⌜ r ≤ length (now (out .exit)) ⌝ }
 {
     if is_annotated(call) {
-        return words::hex_bytes(word(call, 1), out);
+        return hex::bytes(word(call, 1), out);
     }
     0
 }
 
-fn is_negative(word: &[u8]) -> bool {
-    check::same(word, b"neg")
+// The function's name and its arguments.
+fn behind_sids<'a>(call: &'a [u8]) -> &'a [u8] {
+    if is_annotated(call) {
+        return words::from_word(call, 2);
+    }
+    call
+}
+
+// Puts the bytes of a call and answers their number. Those of a blob are as many bytes 55 as its word says, and stand there already.
+fn bytes_of(function: usize, call: &[u8], out: &mut [u8]) -> usize
+    ensures { λ r. ⌜ r ≤ length (now (out .exit)) ⌝ }
+{
+    match function {
+        BLOB => words::least(numbers::natural(word(call, 1), MOST_U64) as usize, out.len()),
+        INT | DECIMAL => hex::bytes(word(call, 2), out),
+        _ => hex::bytes(word(call, 1), out),
+    }
+}
+
+// The `ensures` gives the length, which lending the array as a slice needs.
+fn longest_body() -> [u8; 65536]
+    ensures { λ r. ⌜ 65536 ≡ length r ⌝ }
+{
+    [BODY; 65536]
 }
 
 // The local time at second precision with an unknown offset.
 fn local_time(call: &[u8]) -> Timestamp {
     Timestamp {
         precision: Precision::Second,
-        year: words::natural_u32(word(call, 1)),
-        month: words::natural_u32(word(call, 2)),
-        day: words::natural_u32(word(call, 3)),
-        hour: words::natural_u32(word(call, 4)),
-        minute: words::natural_u32(word(call, 5)),
-        second: words::natural_u32(word(call, 6)),
+        year: numbers::natural_u32(word(call, 1)),
+        month: numbers::natural_u32(word(call, 2)),
+        day: numbers::natural_u32(word(call, 3)),
+        hour: numbers::natural_u32(word(call, 4)),
+        minute: numbers::natural_u32(word(call, 5)),
+        second: numbers::natural_u32(word(call, 6)),
         offset: Offset::Unknown,
         fraction: Fraction::None,
     }
-}
-
-fn write_int(call: &[u8], annotations: &[u8], state: State, buf: &mut [u8]) -> Written {
-    let mut bytes = [0u8; 256];
-    let n = words::hex_bytes(word(call, 2), &mut bytes);
-    writer::write_int(
-        state,
-        buf,
-        annotations,
-        is_negative(word(call, 1)),
-        &bytes[0..n],
-    )
-}
-
-fn write_decimal(call: &[u8], annotations: &[u8], state: State, buf: &mut [u8]) -> Written {
-    let mut bytes = [0u8; 256];
-    let n = words::hex_bytes(word(call, 2), &mut bytes);
-    let exponent = words::signed(word(call, 3));
-    writer::write_decimal(
-        state,
-        buf,
-        annotations,
-        is_negative(word(call, 1)),
-        &bytes[0..n],
-        exponent,
-    )
-}
-
-fn write_f32(call: &[u8], annotations: &[u8], state: State, buf: &mut [u8]) -> Written {
-    let bits = (words::hex_bits(word(call, 1)) % 0x1_0000_0000) as u32;
-    writer::write_f32_bits(state, buf, annotations, bits)
 }
 
 // The float of these bits. Those of a NaN are all the one NaN that the language has.
@@ -115,47 +147,30 @@ fn f64_of(bits: u64) -> f64 {
     f64::from_bits(bits)
 }
 
-fn write_f32_value(call: &[u8], annotations: &[u8], state: State, buf: &mut [u8]) -> Written {
-    let bits = (words::hex_bits(word(call, 1)) % 0x1_0000_0000) as u32;
-    writer::write_f32(state, buf, annotations, f32_of(bits))
+// A call's words, each read in every way that a function takes it.
+struct Arguments {
+    negative: bool,
+    number: u64,
+    signed: i64,
+    exponent: i64,
+    bits: u64,
+    bits_32: u32,
 }
 
-fn write_f64_value(call: &[u8], annotations: &[u8], state: State, buf: &mut [u8]) -> Written {
-    writer::write_f64(
-        state,
-        buf,
-        annotations,
-        f64_of(words::hex_bits(word(call, 1))),
-    )
-}
-
-fn write_string(call: &[u8], annotations: &[u8], state: State, buf: &mut [u8]) -> Written {
-    let mut bytes = [0u8; 256];
-    let n = words::hex_bytes(word(call, 1), &mut bytes);
-    writer::write_string(state, buf, annotations, &bytes[0..n])
-}
-
-fn write_clob(call: &[u8], annotations: &[u8], state: State, buf: &mut [u8]) -> Written {
-    let mut bytes = [0u8; 256];
-    let n = words::hex_bytes(word(call, 1), &mut bytes);
-    writer::write_clob(state, buf, annotations, &bytes[0..n])
-}
-
-// A blob of as many bytes 55 as the word says.
-fn write_blob(call: &[u8], annotations: &[u8], state: State, buf: &mut [u8]) -> Written {
-    let bytes = [BODY; LONGEST_BODY];
-    let n = words::least(words::natural(word(call, 1)) as usize, LONGEST_BODY);
-    writer::write_blob(state, buf, annotations, &bytes[0..n])
-}
-
-// A word that names no call answers 9, which no call answers.
-fn unknown(state: State) -> Written {
-    Written {
-        answer: Answer::Refused(Refusal::TimestampTooLong),
-        state,
+fn read(call: &[u8]) -> Arguments {
+    let first = word(call, 1);
+    let bits = hex::bits(first);
+    Arguments {
+        negative: check::same(first, b"neg"),
+        number: numbers::natural(first, MOST_U64),
+        signed: numbers::i64_of(first),
+        exponent: numbers::i64_of(word(call, 3)),
+        bits,
+        bits_32: (bits % 0x1_0000_0000) as u32,
     }
 }
 
+// A word that names no call answers 9, which no call answers.
 fn close(state: State, buf: &mut [u8]) -> Written {
     let closed = writer::close(state, buf);
     let answer = closed.answer;
@@ -163,102 +178,68 @@ fn close(state: State, buf: &mut [u8]) -> Written {
     Written { answer, state }
 }
 
-fn write_plain(call: &[u8], state: State, buf: &mut [u8]) -> Written {
-    let name = word(call, 0);
-    if check::same(name, b"start") {
-        return writer::start(buf);
+fn write_plain(function: usize, number: u64, state: State, buf: &mut [u8]) -> Written {
+    match function {
+        START => writer::start(buf),
+        NAME => writer::field_name(state, buf, number),
+        CLOSE => close(state, buf),
+        ABANDON => writer::abandon(state, buf),
+        MARKER => writer::version_marker(state, buf),
+        EMPTY => writer::empty(state, buf),
+        _ => Written {
+            answer: Answer::Refused(Refusal::TimestampTooLong),
+            state,
+        },
     }
-    if check::same(name, b"name") {
-        return writer::field_name(state, buf, words::natural(word(call, 1)));
-    }
-    if check::same(name, b"close") {
-        return close(state, buf);
-    }
-    if check::same(name, b"abandon") {
-        return writer::abandon(state, buf);
-    }
-    if check::same(name, b"marker") {
-        return writer::version_marker(state, buf);
-    }
-    if check::same(name, b"empty") {
-        return writer::empty(state, buf);
-    }
-    unknown(state)
 }
 
-fn write_long(call: &[u8], annotations: &[u8], state: State, buf: &mut [u8]) -> Written {
-    let name = word(call, 0);
-    if check::same(name, b"int") {
-        return write_int(call, annotations, state, buf);
+fn write_value(
+    function: usize,
+    call: &[u8],
+    annotations: &[u8],
+    bytes: &[u8],
+    state: State,
+    buf: &mut [u8],
+) -> Written {
+    let a = read(call);
+    match function {
+        LIST => writer::open(state, buf, annotations, ContainerType::List),
+        SEXP => writer::open(state, buf, annotations, ContainerType::Sexp),
+        STRUCT => writer::open(state, buf, annotations, ContainerType::Struct),
+        NULL => writer::write_null(state, buf, annotations, IonType::Null),
+        BOOL => writer::write_bool(state, buf, annotations, a.number == 1),
+        I64 => writer::write_i64(state, buf, annotations, a.signed),
+        INT => writer::write_int(state, buf, annotations, a.negative, bytes),
+        F32 => writer::write_f32_bits(state, buf, annotations, a.bits_32),
+        F64 => writer::write_f64_bits(state, buf, annotations, a.bits),
+        F32_VALUE => writer::write_f32(state, buf, annotations, f32_of(a.bits_32)),
+        F64_VALUE => writer::write_f64(state, buf, annotations, f64_of(a.bits)),
+        DECIMAL => writer::write_decimal(state, buf, annotations, a.negative, bytes, a.exponent),
+        TIMESTAMP => writer::write_timestamp(state, buf, annotations, local_time(call)),
+        SYMBOL => writer::write_symbol(state, buf, annotations, a.number),
+        STRING => writer::write_string(state, buf, annotations, bytes),
+        CLOB => writer::write_clob(state, buf, annotations, bytes),
+        BLOB => writer::write_blob(state, buf, annotations, bytes),
+        _ => write_plain(function, a.number, state, buf),
     }
-    if check::same(name, b"f32") {
-        return write_f32(call, annotations, state, buf);
-    }
-    if check::same(name, b"f32_value") {
-        return write_f32_value(call, annotations, state, buf);
-    }
-    if check::same(name, b"f64_value") {
-        return write_f64_value(call, annotations, state, buf);
-    }
-    if check::same(name, b"decimal") {
-        return write_decimal(call, annotations, state, buf);
-    }
-    if check::same(name, b"timestamp") {
-        return writer::write_timestamp(state, buf, annotations, local_time(call));
-    }
-    if check::same(name, b"string") {
-        return write_string(call, annotations, state, buf);
-    }
-    if check::same(name, b"clob") {
-        return write_clob(call, annotations, state, buf);
-    }
-    if check::same(name, b"blob") {
-        return write_blob(call, annotations, state, buf);
-    }
-    write_plain(call, state, buf)
-}
-
-fn write_short(call: &[u8], annotations: &[u8], state: State, buf: &mut [u8]) -> Written {
-    let name = word(call, 0);
-    if check::same(name, b"null") {
-        return writer::write_null(state, buf, annotations, IonType::Null);
-    }
-    if check::same(name, b"bool") {
-        return writer::write_bool(state, buf, annotations, check::same(word(call, 1), b"1"));
-    }
-    if check::same(name, b"i64") {
-        return writer::write_i64(state, buf, annotations, words::signed(word(call, 1)));
-    }
-    if check::same(name, b"f64") {
-        return writer::write_f64_bits(state, buf, annotations, words::hex_bits(word(call, 1)));
-    }
-    if check::same(name, b"symbol") {
-        return writer::write_symbol(state, buf, annotations, words::natural(word(call, 1)));
-    }
-    write_long(call, annotations, state, buf)
-}
-
-fn write_value(call: &[u8], annotations: &[u8], state: State, buf: &mut [u8]) -> Written {
-    let name = word(call, 0);
-    if check::same(name, b"list") {
-        return writer::open(state, buf, annotations, ContainerType::List);
-    }
-    if check::same(name, b"sexp") {
-        return writer::open(state, buf, annotations, ContainerType::Sexp);
-    }
-    if check::same(name, b"struct") {
-        return writer::open(state, buf, annotations, ContainerType::Struct);
-    }
-    write_short(call, annotations, state, buf)
 }
 
 // Makes the call.
 pub(crate) fn write(call: &[u8], state: State, buf: &mut [u8]) -> Written {
-    let mut bytes = [0u8; 256];
-    let n = sids(call, &mut bytes);
+    let mut annotations = [0u8; 256];
+    let n = sids(call, &mut annotations);
+    let plain = behind_sids(call);
+    let function = words::index(
+        b"start name close abandon marker empty list sexp struct null bool i64 int f32 f64 f32_value f64_value decimal timestamp symbol string clob blob",
+        word(plain, 0),
+    );
+    let mut bytes = longest_body();
+    let m = bytes_of(function, plain, &mut bytes);
     write_value(
-        words::words_from(call, function_at(call)),
-        &bytes[0..n],
+        function,
+        plain,
+        &annotations[0..n],
+        &bytes[0..m],
         state,
         buf,
     )

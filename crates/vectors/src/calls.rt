@@ -2,183 +2,118 @@
 // each. The bytes go to `AT`.
 ghost use Prim.Native.Nat.{_≤_};
 ghost use lib.ListN.{length};
-use crate::words;
-use crate::words::word;
 use scalars::IonType;
 use scalars::Scalar;
 use timestamp::Fraction;
 use timestamp::Offset;
 use timestamp::Precision;
 use timestamp::Timestamp;
+use words::hex;
+use words::numbers;
+use words::word;
 
 pub(crate) const AT: usize = 3;
 
-pub(crate) enum Call {
-    Unknown,
-    VarUInt,
-    VarInt,
-    UInt,
-    FixedUInt,
-    Magnitude,
-    Int,
-    IntU64,
-    Header,
-    Annotations,
-    Utf8,
-    WriteNull,
-    WriteBool,
-    WriteI64,
-    WriteInt,
-    WriteF32,
-    WriteF64,
-    WriteDecimal,
-    WriteTimestamp,
-    WriteSymbol,
-    WriteString,
-    WriteClob,
-    WriteBlob,
-}
+const MOST_U64: u64 = 18446744073709551615;
 
-fn field_named(name: &[u8]) -> Call {
-    if check::same(name, b"var_uint") {
-        return Call::VarUInt;
-    }
-    if check::same(name, b"var_int") {
-        return Call::VarInt;
-    }
-    if check::same(name, b"uint") {
-        return Call::UInt;
-    }
-    if check::same(name, b"fixed_uint") {
-        return Call::FixedUInt;
-    }
-    if check::same(name, b"magnitude") {
-        return Call::Magnitude;
-    }
-    if check::same(name, b"int") {
-        return Call::Int;
-    }
-    if check::same(name, b"int_u64") {
-        return Call::IntU64;
-    }
-    if check::same(name, b"header") {
-        return Call::Header;
-    }
-    if check::same(name, b"annotations") {
-        return Call::Annotations;
-    }
-    if check::same(name, b"is_utf8") {
-        return Call::Utf8;
-    }
-    Call::Unknown
-}
+// The functions by the index of their names.
+const VAR_UINT: usize = 0;
 
-fn scalar_named(name: &[u8]) -> Call {
-    if check::same(name, b"write_null") {
-        return Call::WriteNull;
-    }
-    if check::same(name, b"write_bool") {
-        return Call::WriteBool;
-    }
-    if check::same(name, b"write_i64") {
-        return Call::WriteI64;
-    }
-    if check::same(name, b"write_int") {
-        return Call::WriteInt;
-    }
-    if check::same(name, b"write_f32") {
-        return Call::WriteF32;
-    }
-    if check::same(name, b"write_f64") {
-        return Call::WriteF64;
-    }
-    if check::same(name, b"write_decimal") {
-        return Call::WriteDecimal;
-    }
-    if check::same(name, b"write_timestamp") {
-        return Call::WriteTimestamp;
-    }
-    if check::same(name, b"write_symbol") {
-        return Call::WriteSymbol;
-    }
-    if check::same(name, b"write_string") {
-        return Call::WriteString;
-    }
-    if check::same(name, b"write_clob") {
-        return Call::WriteClob;
-    }
-    if check::same(name, b"write_blob") {
-        return Call::WriteBlob;
-    }
-    field_named(name)
+const VAR_INT: usize = 1;
+
+const UINT: usize = 2;
+
+const FIXED_UINT: usize = 3;
+
+const MAGNITUDE: usize = 4;
+
+const INT: usize = 5;
+
+const INT_U64: usize = 6;
+
+const HEADER: usize = 7;
+
+const ANNOTATIONS: usize = 8;
+
+const IS_UTF8: usize = 9;
+
+const WRITE_NULL: usize = 10;
+
+const WRITE_BOOL: usize = 11;
+
+const WRITE_I64: usize = 12;
+
+const WRITE_INT: usize = 13;
+
+const WRITE_F32: usize = 14;
+
+const WRITE_F64: usize = 15;
+
+const WRITE_DECIMAL: usize = 16;
+
+const WRITE_TIMESTAMP: usize = 17;
+
+const WRITE_SYMBOL: usize = 18;
+
+const WRITE_STRING: usize = 19;
+
+const WRITE_CLOB: usize = 20;
+
+const WRITE_BLOB: usize = 21;
+
+// A name that is none of these.
+pub(crate) const UNKNOWN: usize = 22;
+
+fn function_named(name: &[u8]) -> usize {
+    words::index(
+        b"var_uint var_int uint fixed_uint magnitude int int_u64 header annotations is_utf8 write_null write_bool write_i64 write_int write_f32 write_f64 write_decimal write_timestamp write_symbol write_string write_clob write_blob",
+        name,
+    )
 }
 
 fn is_annotated(vector: &[u8]) -> bool {
     check::same(word(vector, 0), b"ann")
 }
 
-// At which word the function stands.
-fn function_at(vector: &[u8]) -> usize {
+// The function's name and its arguments.
+fn call_of<'a>(vector: &'a [u8]) -> &'a [u8] {
     if is_annotated(vector) {
-        return 2;
+        return words::from_word(vector, 2);
     }
-    0
+    vector
 }
 
 // The function that a vector names.
-pub(crate) fn named(vector: &[u8]) -> Call {
-    scalar_named(word(vector, function_at(vector)))
-}
-
-fn is_negative(word: &[u8]) -> bool {
-    check::same(word, b"neg")
+pub(crate) fn named(vector: &[u8]) -> usize {
+    function_named(word(call_of(vector), 0))
 }
 
 fn ion_type(name: &[u8]) -> IonType {
-    if check::same(name, b"bool") {
-        return IonType::Bool;
+    match words::index(
+        b"bool int float decimal timestamp symbol string clob blob list sexp struct",
+        name,
+    ) {
+        0 => IonType::Bool,
+        1 => IonType::Int,
+        2 => IonType::Float,
+        3 => IonType::Decimal,
+        4 => IonType::Timestamp,
+        5 => IonType::Symbol,
+        6 => IonType::String,
+        7 => IonType::Clob,
+        8 => IonType::Blob,
+        9 => IonType::List,
+        10 => IonType::Sexp,
+        11 => IonType::Struct,
+        _ => IonType::Null,
     }
-    if check::same(name, b"int") {
-        return IonType::Int;
-    }
-    if check::same(name, b"float") {
-        return IonType::Float;
-    }
-    if check::same(name, b"decimal") {
-        return IonType::Decimal;
-    }
-    if check::same(name, b"timestamp") {
-        return IonType::Timestamp;
-    }
-    if check::same(name, b"symbol") {
-        return IonType::Symbol;
-    }
-    if check::same(name, b"string") {
-        return IonType::String;
-    }
-    if check::same(name, b"clob") {
-        return IonType::Clob;
-    }
-    if check::same(name, b"blob") {
-        return IonType::Blob;
-    }
-    if check::same(name, b"list") {
-        return IonType::List;
-    }
-    if check::same(name, b"sexp") {
-        return IonType::Sexp;
-    }
-    if check::same(name, b"struct") {
-        return IonType::Struct;
-    }
-    IonType::Null
 }
 
 fn offset(word: &[u8]) -> Offset {
     if check::same(word, b"?") {
         return Offset::Unknown;
     }
-    Offset::Minutes(words::signed_i32(word))
+    Offset::Minutes(numbers::i32_of(word))
 }
 
 // By the fields that are there, of which the year is word 2.
@@ -203,180 +138,94 @@ fn fraction(call: &[u8]) -> Fraction {
         return Fraction::None;
     }
     Fraction::Digits(
-        words::natural_u32(word(call, 8)),
-        words::natural(word(call, 9)),
+        numbers::natural_u32(word(call, 8)),
+        numbers::natural(word(call, 9), MOST_U64),
     )
 }
 
 fn local_time(call: &[u8]) -> Timestamp {
     Timestamp {
         precision: precision(call),
-        year: words::natural_u32(word(call, 2)),
-        month: words::natural_u32(word(call, 3)),
-        day: words::natural_u32(word(call, 4)),
-        hour: words::natural_u32(word(call, 5)),
-        minute: words::natural_u32(word(call, 6)),
-        second: words::natural_u32(word(call, 7)),
+        year: numbers::natural_u32(word(call, 2)),
+        month: numbers::natural_u32(word(call, 3)),
+        day: numbers::natural_u32(word(call, 4)),
+        hour: numbers::natural_u32(word(call, 5)),
+        minute: numbers::natural_u32(word(call, 6)),
+        second: numbers::natural_u32(word(call, 7)),
         offset: offset(word(call, 1)),
         fraction: fraction(call),
     }
 }
 
-fn put_int(call: &[u8], buf: &mut [u8]) -> usize {
-    let mut bytes = [0u8; 256];
-    let n = words::hex_bytes(word(call, 2), &mut bytes);
-    int::write(buf, AT, is_negative(word(call, 1)), &bytes[0..n])
+// A call's words, each read in every way that a function takes it.
+struct Arguments {
+    negative: bool,
+    number: u64,
+    second: u64,
+    bits: u64,
+    signed: i64,
+    exponent: i64,
 }
 
-fn put_magnitude(call: &[u8], buf: &mut [u8]) -> usize {
-    let mut bytes = [0u8; 256];
-    let n = words::hex_bytes(word(call, 1), &mut bytes);
-    uint::write_magnitude(buf, AT, &bytes[0..n])
+fn read(call: &[u8]) -> Arguments {
+    let first = word(call, 1);
+    Arguments {
+        negative: check::same(first, b"neg"),
+        number: numbers::natural(first, MOST_U64),
+        second: numbers::natural(word(call, 2), MOST_U64),
+        bits: hex::bits(first),
+        signed: numbers::i64_of(first),
+        exponent: numbers::i64_of(word(call, 3)),
+    }
 }
 
-fn put_annotations(call: &[u8], buf: &mut [u8]) -> usize {
-    let mut bytes = [0u8; 256];
-    let n = words::hex_bytes(word(call, 1), &mut bytes);
-    annotations::write(buf, AT, &bytes[0..n])
-}
-
-// 01 for UTF-8, 00 for bytes that are not.
-fn put_is_utf8(call: &[u8], buf: &mut [u8]) -> usize {
-    let mut bytes = [0u8; 256];
-    let n = words::hex_bytes(word(call, 1), &mut bytes);
-    buffer::put(buf, AT, text::is_utf8(&bytes[0..n]) as u8)
-}
-
-fn hex_code(word: &[u8]) -> u8 {
-    (words::hex_bits(word) % 256) as u8
-}
-
-fn put_header(call: &[u8], buf: &mut [u8]) -> usize {
-    header::write(
-        buf,
-        AT,
-        hex_code(word(call, 1)),
-        words::natural(word(call, 2)) as usize,
-    )
-}
-
-fn put_fixed(call: &[u8], buf: &mut [u8]) -> usize {
-    uint::write_fixed(
-        buf,
-        AT,
-        words::natural(word(call, 1)) as usize,
-        words::natural(word(call, 2)),
-    )
-}
-
-fn put_field(name: Call, call: &[u8], buf: &mut [u8]) -> usize {
-    match name {
-        Call::VarUInt => var_uint::write(buf, AT, words::natural(word(call, 1))),
-        Call::VarInt => {
-            var_int::write(
-                buf,
-                AT,
-                is_negative(word(call, 1)),
-                words::natural(word(call, 2)),
-            )
-        }
-        Call::UInt => uint::write(buf, AT, words::natural(word(call, 1))),
-        Call::FixedUInt => put_fixed(call, buf),
-        Call::Magnitude => put_magnitude(call, buf),
-        Call::Int => put_int(call, buf),
-        Call::IntU64 => int::write_u64(buf, AT, words::natural(word(call, 1))),
-        Call::Header => put_header(call, buf),
-        Call::Annotations => put_annotations(call, buf),
-        Call::Utf8 => put_is_utf8(call, buf),
+fn put_field(function: usize, a: Arguments, bytes: &[u8], buf: &mut [u8]) -> usize {
+    match function {
+        VAR_UINT => var_uint::write(buf, AT, a.number),
+        VAR_INT => var_int::write(buf, AT, a.negative, a.second),
+        UINT => uint::write(buf, AT, a.number),
+        FIXED_UINT => uint::write_fixed(buf, AT, a.number as usize, a.second),
+        MAGNITUDE => uint::write_magnitude(buf, AT, bytes),
+        INT => int::write(buf, AT, a.negative, bytes),
+        INT_U64 => int::write_u64(buf, AT, a.number),
+        HEADER => header::write(buf, AT, (a.bits % 256) as u8, a.second as usize),
+        ANNOTATIONS => annotations::write(buf, AT, bytes),
+        // 01 for UTF-8, 00 for bytes that are not
+        IS_UTF8 => buffer::put(buf, AT, text::is_utf8(bytes) as u8),
         _ => 0,
     }
 }
 
-fn put_write_int(call: &[u8], annotations: &[u8], buf: &mut [u8]) -> usize {
-    let mut bytes = [0u8; 256];
-    let n = words::hex_bytes(word(call, 2), &mut bytes);
-    values::write_int(
-        buf,
-        AT,
-        annotations,
-        is_negative(word(call, 1)),
-        &bytes[0..n],
-    )
-}
-
-fn put_f32(call: &[u8], annotations: &[u8], buf: &mut [u8]) -> usize {
-    let bits = (words::hex_bits(word(call, 1)) % 0x1_0000_0000) as u32;
-    values::write_scalar(buf, AT, annotations, Scalar::F32Bits(bits))
-}
-
-fn put_decimal(call: &[u8], annotations: &[u8], buf: &mut [u8]) -> usize {
-    let mut bytes = [0u8; 256];
-    let n = words::hex_bytes(word(call, 2), &mut bytes);
-    let exponent = words::signed(word(call, 3));
-    values::write_decimal(
-        buf,
-        AT,
-        annotations,
-        is_negative(word(call, 1)),
-        &bytes[0..n],
-        exponent,
-    )
-}
-
-// A string, a clob or a blob.
-fn put_bytes(name: Call, call: &[u8], annotations: &[u8], buf: &mut [u8]) -> usize {
-    let mut bytes = [0u8; 256];
-    let n = words::hex_bytes(word(call, 1), &mut bytes);
-    match name {
-        Call::WriteString => values::write_string(buf, AT, annotations, &bytes[0..n]),
-        Call::WriteClob => values::write_clob(buf, AT, annotations, &bytes[0..n]),
-        _ => values::write_blob(buf, AT, annotations, &bytes[0..n]),
+fn put_scalar(
+    function: usize,
+    call: &[u8],
+    annotations: &[u8],
+    bytes: &[u8],
+    buf: &mut [u8],
+) -> usize {
+    let a = read(call);
+    match function {
+        WRITE_NULL => values::write_scalar(buf, AT, annotations, Scalar::Null(ion_type(word(call, 1)))),
+        WRITE_BOOL => values::write_scalar(buf, AT, annotations, Scalar::Bool(a.number == 1)),
+        WRITE_I64 => values::write_scalar(buf, AT, annotations, Scalar::I64(a.signed)),
+        WRITE_INT => values::write_int(buf, AT, annotations, a.negative, bytes),
+        WRITE_F32 => values::write_scalar(buf, AT, annotations, Scalar::F32Bits((a.bits % 0x1_0000_0000) as u32)),
+        WRITE_F64 => values::write_scalar(buf, AT, annotations, Scalar::F64Bits(a.bits)),
+        WRITE_DECIMAL => values::write_decimal(buf, AT, annotations, a.negative, bytes, a.exponent),
+        WRITE_TIMESTAMP => values::write_timestamp(buf, AT, annotations, local_time(call)),
+        WRITE_SYMBOL => values::write_scalar(buf, AT, annotations, Scalar::Symbol(a.number)),
+        WRITE_STRING => values::write_string(buf, AT, annotations, bytes),
+        WRITE_CLOB => values::write_clob(buf, AT, annotations, bytes),
+        WRITE_BLOB => values::write_blob(buf, AT, annotations, bytes),
+        _ => put_field(function, a, bytes, buf),
     }
 }
 
-fn put_call(name: Call, call: &[u8], annotations: &[u8], buf: &mut [u8]) -> usize {
-    match name {
-        Call::WriteNull => values::write_scalar(
-            buf,
-            AT,
-            annotations,
-            Scalar::Null(ion_type(word(call, 1))),
-        ),
-        Call::WriteBool => values::write_scalar(
-            buf,
-            AT,
-            annotations,
-            Scalar::Bool(check::same(word(call, 1), b"1")),
-        ),
-        Call::WriteI64 => values::write_scalar(
-            buf,
-            AT,
-            annotations,
-            Scalar::I64(words::signed(word(call, 1))),
-        ),
-        Call::WriteInt => put_write_int(call, annotations, buf),
-        Call::WriteF32 => put_f32(call, annotations, buf),
-        Call::WriteF64 => values::write_scalar(
-            buf,
-            AT,
-            annotations,
-            Scalar::F64Bits(words::hex_bits(word(call, 1))),
-        ),
-        Call::WriteDecimal => put_decimal(call, annotations, buf),
-        Call::WriteTimestamp => values::write_timestamp(buf, AT, annotations, local_time(call)),
-        Call::WriteSymbol => values::write_scalar(
-            buf,
-            AT,
-            annotations,
-            Scalar::Symbol(words::natural(word(call, 1))),
-        ),
-        Call::WriteString | Call::WriteClob | Call::WriteBlob => put_bytes(
-            name,
-            call,
-            annotations,
-            buf,
-        ),
-        _ => put_field(name, call, buf),
+// At which word the bytes of a call stand: behind the sign, where there is one.
+fn bytes_at(function: usize) -> usize {
+    match function {
+        INT | WRITE_INT | WRITE_DECIMAL => 2,
+        _ => 1,
     }
 }
 
@@ -385,19 +234,18 @@ fn sids(vector: &[u8], out: &mut [u8]) -> usize
     ensures { λ r. ⌜ r ≤ length (now (out .exit)) ⌝ }
 {
     if is_annotated(vector) {
-        return words::hex_bytes(word(vector, 1), out);
+        return hex::bytes(word(vector, 1), out);
     }
     0
 }
 
 // Makes the call of a vector, and answers how many bytes it put.
 pub(crate) fn put(vector: &[u8], buf: &mut [u8]) -> usize {
+    let mut annotations = [0u8; 256];
+    let n = sids(vector, &mut annotations);
+    let call = call_of(vector);
+    let function = named(vector);
     let mut bytes = [0u8; 256];
-    let n = sids(vector, &mut bytes);
-    put_call(
-        named(vector),
-        words::words_from(vector, function_at(vector)),
-        &bytes[0..n],
-        buf,
-    )
+    let m = hex::bytes(word(call, bytes_at(function)), &mut bytes);
+    put_scalar(function, call, &annotations[0..n], &bytes[0..m], buf)
 }

@@ -1,15 +1,12 @@
 // Runs the vectors of standard input and compares what the writer puts with what it should. A line: the expected bytes in hex, the function, its
 // arguments, then `#` and where the vector comes from. A minus in the place of bytes is none: a zero that has no byte, or a refusal.
 mod calls;
-mod words;
 
-ghost use Prim.Native.Nat.{_+_, _≤_};
+ghost use Prim.Native.Nat.{_≤_};
 ghost use lib.ListN.{length};
 use calls::AT;
-use calls::Call;
 use libc::STDIN_FILENO;
 use libc::STDOUT_FILENO;
-use words::word;
 
 const ROOM: usize = 512;
 
@@ -35,68 +32,70 @@ fn puts(vector: &[u8], room: usize, expected: &[u8]) -> bool
     (count == expected.len()) & are_same(&buf, &image)
 }
 
-fn hex_digit(bits: u8) -> u8 {
-    let digit = bits % 16;
-    if digit < 10 {
-        return b'0' + digit;
-    }
-    b'a' + (digit - 10)
-}
-
-fn print_hex(bytes: &[u8]) {
-    let mut i: usize = 0;
-    while i < bytes.len() {
-        let pair = [hex_digit(bytes[i] / 16), hex_digit(bytes[i])];
-        print(&pair);
-        i += 1;
-    }
-}
-
 // Prints the bytes that the call puts.
 fn print_put(vector: &[u8]) {
     let mut buf = [FILL; ROOM];
     let count = words::least(calls::put(vector, &mut buf), ROOM - AT);
-    print_hex(&buf[AT..AT + count]);
+    let mut text = [0u8; 2 * ROOM];
+    let digits = words::hex::put(&mut text, 0, &buf[AT..AT + count]);
+    print(&text[0..digits]);
 }
 
+// How a vector comes out.
+const RIGHT: u8 = 0;
+
+const NO_FUNCTION: u8 = 1;
+
+const DIFFERS: u8 = 2;
+
+const DIFFERS_WITH_JUST_ROOM: u8 = 3;
+
+const DIFFERS_WITHOUT_ROOM: u8 = 4;
+
 // A vector is right if its bytes come out where there is room to spare and where there is just room, and none where a byte of room is missing.
-fn compare(vector: &[u8], expected: &[u8]) -> bool
+fn compared(vector: &[u8], expected: &[u8]) -> u8
     requires { ⌜ length (now expected) ≤ 256 ⌝ }
 {
-    let end = AT + expected.len();
-    if !puts(vector, ROOM, expected) {
-        print(b"differs: got ");
-        print_put(vector);
-        print(b"\n");
-        return false;
+    if calls::named(vector) == calls::UNKNOWN {
+        return NO_FUNCTION;
     }
+    if !puts(vector, ROOM, expected) {
+        return DIFFERS;
+    }
+    let end = AT + expected.len();
     if !puts(vector, end, expected) {
-        print(b"differs where there is just room\n");
-        return false;
+        return DIFFERS_WITH_JUST_ROOM;
     }
     if !puts(vector, end - 1, b"") {
-        print(b"differs where a byte of room is missing\n");
-        return false;
+        return DIFFERS_WITHOUT_ROOM;
     }
-    print(b"ok\n");
-    true
+    RIGHT
+}
+
+fn print_differs(vector: &[u8]) {
+    print(b"differs: got ");
+    print_put(vector);
+    print(b"\n");
+}
+
+fn print_compared(vector: &[u8], how: u8) {
+    match how {
+        RIGHT => print(b"ok\n"),
+        NO_FUNCTION => print(b"names no function\n"),
+        DIFFERS => print_differs(vector),
+        DIFFERS_WITH_JUST_ROOM => print(b"differs where there is just room\n"),
+        _ => print(b"differs where a byte of room is missing\n"),
+    }
 }
 
 // Answers whether a vector is right.
 fn answer(line: &[u8]) -> bool {
-    let vector = words::words_from(line, 1);
-    let call = calls::named(vector);
-    match call {
-        Call::Unknown => {
-            print(b"names no function\n");
-            false
-        }
-        _ => {
-            let mut bytes = [0u8; 256];
-            let n = words::hex_bytes(word(line, 0), &mut bytes);
-            compare(vector, &bytes[0..n])
-        }
-    }
+    let vector = words::from_word(line, 1);
+    let mut bytes = [0u8; 256];
+    let n = words::hex::bytes(words::word(line, 0), &mut bytes);
+    let how = compared(vector, &bytes[0..n]);
+    print_compared(vector, how);
+    how == RIGHT
 }
 
 struct Counts {
@@ -104,50 +103,43 @@ struct Counts {
     right: usize,
 }
 
-// The counts with one vector more.
-fn with_vector(counts: Counts, is_right: bool) -> Counts
-    requires { ⌜ (counts .vectors ≤ 65536) × (counts .right ≤ counts .vectors) ⌝ }
-    ensures { λ r. ⌜ (r .vectors ≤ counts .vectors + 1) × (r .right ≤ r .vectors) ⌝ }
-{
-    let vectors = counts.vectors + 1;
-    if is_right {
-        return Counts {
-            vectors,
-            right: counts.right + 1,
-        };
-    }
-    Counts {
-        vectors,
-        right: counts.right,
-    }
-}
-
-// The counts behind a line. A line with nothing before its `#` is no vector.
-fn count_line(line: &[u8], counts: Counts) -> Counts
-    requires { ⌜ (counts .vectors ≤ 65536) × (counts .right ≤ counts .vectors) ⌝ }
-    ensures { λ r. ⌜ (r .vectors ≤ counts .vectors + 1) × (r .right ≤ r .vectors) ⌝ }
+// The counts of one line. A line with nothing before its `#` is no vector.
+fn count_line(line: &[u8]) -> Counts
+    ensures { λ r. ⌜ (r .vectors ≤ 1) × (r .right ≤ 1) ⌝ }
 {
     let end = words::find(line, 0, b'#');
     if end == 0 {
-        return counts;
+        return Counts {
+            vectors: 0,
+            right: 0,
+        };
     }
-    with_vector(counts, answer(&line[0..end]))
+    if answer(&line[0..end]) {
+        return Counts {
+            vectors: 1,
+            right: 1,
+        };
+    }
+    Counts {
+        vectors: 1,
+        right: 0,
+    }
 }
 
 fn count_lines(text: &[u8]) -> Counts
     requires { ⌜ length (now text) ≤ 65536 ⌝ }
 {
-    let mut counts = Counts {
-        vectors: 0,
-        right: 0,
-    };
+    let mut vectors: usize = 0;
+    let mut right: usize = 0;
     let mut at: usize = 0;
     while at < text.len() {
         let end = words::find(text, at, b'\n');
-        counts = count_line(&text[at..end], counts);
+        let counts = count_line(&text[at..end]);
+        vectors += counts.vectors;
+        right += counts.right;
         at = end + 1;
     }
-    counts
+    Counts { vectors, right }
 }
 
 fn main() {

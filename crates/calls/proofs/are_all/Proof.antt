@@ -1,15 +1,19 @@
--- `are_all` is safe and ends: the index stays before `to`, which the bytes reach. Assumes nothing.
+-- `are_all` is safe and ends: it looks no further than the buffer, and each turn is one byte nearer to the end.
+-- Assumes nothing.
 use Prim.Native.Nat.{_-_, _≤_}
-use borrow.Author.Needs.{needs}
 use lib.ListN.{length}
+use borrow.Author.Needs.{needs}
 use Rattle.calls.proofs.are_all.Statement.{statement}
 use Rattle.calls.proofs.are_all.Tie as tie
 
 abbrev Inv-loop : tie.InvT-loop
-Inv-loop buf from to byte i₀ i = to ≤ length buf
+Inv-loop byte buf to i₀ i = to ≤ length buf
 
 abbrev μ-loop : tie.MeasureT-loop
-μ-loop buf from to byte i₀ i = to - i
+μ-loop byte buf to i₀ i = to - i
+
+least-requires : tie.Need-least-requires Inv-loop μ-loop
+least-requires c κs = search needs
 
 loop-holds : tie.Need-loop-holds Inv-loop μ-loop
 loop-holds c = search needs
@@ -38,6 +42,7 @@ are-all-spec =
     (tie.spec
     Inv-loop
     μ-loop
+    least-requires
     loop-holds
     shared-slice-read-here
     returns

@@ -1,19 +1,20 @@
--- `run_lines` is safe and ends: each line is passed with its line feed. Assumes nothing.
+-- `run_lines` is safe and ends: each line is passed with its line feed.
+-- Assumes nothing.
 use mathlib.Core.Path.{_≡_}
-use Prim.Native.Nat.{_+_, _-_, _≤_}
-use borrow.Author.Needs.{needs}
+use Prim.Native.Nat.{_-_, _≤_}
 use lib.ListN.{length}
+use borrow.Author.Needs.{needs}
 use Rattle.calls.proofs.run_lines.Statement.{statement}
 use Rattle.calls.proofs.run_lines.Tie as tie
 
 abbrev Inv-loop : tie.InvT-loop
-Inv-loop text buf₀ state₀ at₀ buf state at = (length text ≤ 65536) × (at ≤ length text + 1) × (length buf ≡ length buf₀)
+Inv-loop text buf₀ state₀ at₀ buf state at = (at ≤ 65537) × (length buf ≡ length buf₀)
 
 abbrev μ-loop : tie.MeasureT-loop
-μ-loop text buf₀ state₀ at₀ buf state at = length text + 1 - at
+μ-loop text buf₀ state₀ at₀ buf state at = length text - at
 
-empty-state-requires : tie.Need-empty-state-requires Inv-loop μ-loop
-empty-state-requires c κs = search needs
+fresh-requires : tie.Need-fresh-requires Inv-loop μ-loop
+fresh-requires c κs = search needs
 
 loop-holds : tie.Need-loop-holds Inv-loop μ-loop
 loop-holds c = search needs
@@ -21,17 +22,23 @@ loop-holds c = search needs
 find-requires : tie.Need-find-requires Inv-loop μ-loop
 find-requires c κs = search needs
 
-sub-run-line : tie.Need-sub-run-line Inv-loop μ-loop
-sub-run-line c = search needs
+find-requires-2 : tie.Need-find-requires-2 Inv-loop μ-loop
+find-requires-2 c κs = search needs
 
-part-run-line-start : tie.Need-part-run-line-start Inv-loop μ-loop
-part-run-line-start c = search needs
+least-requires : tie.Need-least-requires Inv-loop μ-loop
+least-requires c κs = search needs
 
-part-run-line-end : tie.Need-part-run-line-end Inv-loop μ-loop
-part-run-line-end c = search needs
+sub-step : tie.Need-sub-step Inv-loop μ-loop
+sub-step c = search needs
 
-run-line-requires : tie.Need-run-line-requires Inv-loop μ-loop
-run-line-requires c κs = search needs
+part-step-start : tie.Need-part-step-start Inv-loop μ-loop
+part-step-start c = search needs
+
+part-step-end : tie.Need-part-step-end Inv-loop μ-loop
+part-step-end c = search needs
+
+step-requires : tie.Need-step-requires Inv-loop μ-loop
+step-requires c κs = search needs
 
 add-at : tie.Need-add-at Inv-loop μ-loop
 add-at c = search needs
@@ -54,13 +61,15 @@ run-lines-spec =
     (tie.spec
     Inv-loop
     μ-loop
-    empty-state-requires
+    fresh-requires
     loop-holds
     find-requires
-    sub-run-line
-    part-run-line-start
-    part-run-line-end
-    run-line-requires
+    find-requires-2
+    least-requires
+    sub-step
+    part-step-start
+    part-step-end
+    step-requires
     add-at
     loop-less
     loop-again

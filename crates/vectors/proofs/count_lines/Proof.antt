@@ -1,15 +1,16 @@
--- `count_lines` is safe and ends: there is at most one vector for each byte that is passed. Assumes nothing.
-use Prim.Native.Nat.{_+_, _-_, _≤_}
-use borrow.Author.Needs.{needs}
+-- `count_lines` is safe and ends: each line is passed with its line feed, and counts as one vector at most.
+-- Assumes nothing.
+use Prim.Native.Nat.{_-_, _≤_}
 use lib.ListN.{length}
+use borrow.Author.Needs.{needs}
 use Rattle.vectors.proofs.count_lines.Statement.{statement}
 use Rattle.vectors.proofs.count_lines.Tie as tie
 
 abbrev Inv-loop : tie.InvT-loop
-Inv-loop text counts₀ at₀ counts at = (length text ≤ 65536) × (at ≤ length text + 1) × (counts .vectors ≤ at) × (counts .right ≤ counts .vectors)
+Inv-loop text vectors₀ right₀ at₀ vectors right at = (at ≤ 65537) × (vectors ≤ at) × (right ≤ at)
 
 abbrev μ-loop : tie.MeasureT-loop
-μ-loop text counts₀ at₀ counts at = length text + 1 - at
+μ-loop text vectors₀ right₀ at₀ vectors right at = length text - at
 
 loop-holds : tie.Need-loop-holds Inv-loop μ-loop
 loop-holds c = search needs
@@ -28,6 +29,12 @@ part-count-line-end c = search needs
 
 count-line-requires : tie.Need-count-line-requires Inv-loop μ-loop
 count-line-requires c κs = search needs
+
+add-vectors : tie.Need-add-vectors Inv-loop μ-loop
+add-vectors c = search needs
+
+add-right : tie.Need-add-right Inv-loop μ-loop
+add-right c = search needs
 
 add-at : tie.Need-add-at Inv-loop μ-loop
 add-at c = search needs
@@ -53,6 +60,8 @@ count-lines-spec =
     part-count-line-start
     part-count-line-end
     count-line-requires
+    add-vectors
+    add-right
     add-at
     loop-less
     loop-again

@@ -1,0 +1,5 @@
+pub mod Place
+pub mod Words
+pub mod Digits
+pub mod Negated
+pub mod HexDigits
