@@ -104,7 +104,10 @@ fn bytes_of(function: usize, call: &[u8], out: &mut [u8]) -> usize
     ensures { λ r. ⌜ r ≤ length (now (out .exit)) ⌝ }
 {
     match function {
-        BLOB => words::least(numbers::natural(word(call, 1), MOST_U64) as usize, out.len()),
+        BLOB => words::least(
+            numbers::natural(word(call, 1), MOST_U64) as usize,
+            out.len(),
+        ),
         INT | DECIMAL => hex::bytes(word(call, 2), out),
         _ => hex::bytes(word(call, 1), out),
     }
@@ -170,7 +173,6 @@ fn read(call: &[u8]) -> Arguments {
     }
 }
 
-// A word that names no call answers 9, which no call answers.
 fn close(state: State, buf: &mut [u8]) -> Written {
     let closed = writer::close(state, buf);
     let answer = closed.answer;
@@ -178,6 +180,7 @@ fn close(state: State, buf: &mut [u8]) -> Written {
     Written { answer, state }
 }
 
+// A word that names no call answers 9, which no call answers.
 fn write_plain(function: usize, number: u64, state: State, buf: &mut [u8]) -> Written {
     match function {
         START => writer::start(buf),

@@ -205,11 +205,21 @@ fn put_scalar(
 ) -> usize {
     let a = read(call);
     match function {
-        WRITE_NULL => values::write_scalar(buf, AT, annotations, Scalar::Null(ion_type(word(call, 1)))),
+        WRITE_NULL => values::write_scalar(
+            buf,
+            AT,
+            annotations,
+            Scalar::Null(ion_type(word(call, 1))),
+        ),
         WRITE_BOOL => values::write_scalar(buf, AT, annotations, Scalar::Bool(a.number == 1)),
         WRITE_I64 => values::write_scalar(buf, AT, annotations, Scalar::I64(a.signed)),
         WRITE_INT => values::write_int(buf, AT, annotations, a.negative, bytes),
-        WRITE_F32 => values::write_scalar(buf, AT, annotations, Scalar::F32Bits((a.bits % 0x1_0000_0000) as u32)),
+        WRITE_F32 => values::write_scalar(
+            buf,
+            AT,
+            annotations,
+            Scalar::F32Bits((a.bits % 0x1_0000_0000) as u32),
+        ),
         WRITE_F64 => values::write_scalar(buf, AT, annotations, Scalar::F64Bits(a.bits)),
         WRITE_DECIMAL => values::write_decimal(buf, AT, annotations, a.negative, bytes, a.exponent),
         WRITE_TIMESTAMP => values::write_timestamp(buf, AT, annotations, local_time(call)),
