@@ -1,7 +1,7 @@
 -- What the walk along a line keeps. Assumes nothing.
-use Prim.Native.Nat.{ℕ, _≤_}
+use Prim.Native.Nat.{ℕ, _<_, _≤_}
 use Rattle.trial.specs.declared.walk.Step.{Step}
 
--- A step that stays within a line of n bytes: its words, and the place behind it, before which more bytes stand than the stack holds.
-abbrev pub Within : ℕ → Step → Type 0
-Within n s = (s .at ≤ n) × (s .depth ≤ s .at) × (s .from ≤ s .to) × (s .to ≤ n)
+-- A step that goes on from a place, and whose words stand within a line of n bytes.
+abbrev pub Within : ℕ → ℕ → Step → Type 0
+Within at n s = (at < s .at) × (s .from ≤ s .to) × (s .to ≤ n)

@@ -1,57 +1,26 @@
 // Whether a line has the form of document 01, which is refusal 12 where it has not: words, brackets, and the limits of numbers.
 ghost use Prim.Native.Nat.{_≤_};
 ghost use lib.ListN.{length};
-ghost use Rattle.trial.specs.Steps.{Within};
+use crate::names::MOST_U64;
+use crate::names::are_names;
+use crate::names::is_name;
 use crate::walk;
-use crate::walk::Part;
-use crate::walk::Step;
-use crate::words;
-use crate::words::count;
-use crate::words::is_hex;
-use crate::words::magnitude;
-use crate::words::word;
+use words::count;
+use words::hex::is_hex;
+use words::numbers;
+use words::word;
 
-// The scalars by the index of their names.
-pub(crate) const NULL: usize = 0;
-
-pub(crate) const BOOL: usize = 1;
-
-pub(crate) const I64: usize = 2;
-
-pub(crate) const INT: usize = 3;
-
-pub(crate) const F32: usize = 4;
-
-pub(crate) const F64: usize = 5;
-
-pub(crate) const DECIMAL: usize = 6;
-
-pub(crate) const TIMESTAMP: usize = 7;
-
-pub(crate) const SYMBOL: usize = 8;
-
-pub(crate) const STRING: usize = 9;
-
-pub(crate) const CLOB: usize = 10;
-
-pub(crate) const BLOB: usize = 11;
-
-// The scalar that the first of its words names.
-pub(crate) fn scalar_named(text: &[u8]) -> usize {
-    words::index(
-        b"null bool i64 int f32 f64 dec ts symbol string clob blob",
-        word(text, 0),
-    )
-}
+const MOST_I32: u64 = 2147483647;
 
 // What `type_code` answers for a word that names no type.
-const NO_TYPE: u8 = 14;
+const NO_TYPE: usize = 14;
 
 // The code in the Ion document of the type that a word names, which is its index here. `int` is found at 2: 3 is the code of negative ints.
-pub(crate) fn type_code(name: &[u8]) -> u8 {
-    let names =
-        b"null bool int int float decimal timestamp symbol string clob blob list sexp struct";
-    (words::index(names, name) % 256) as u8
+pub(crate) fn type_code(name: &[u8]) -> usize {
+    words::index(
+        b"null bool int int float decimal timestamp symbol string clob blob list sexp struct",
+        name,
+    )
 }
 
 fn is_bool(word: &[u8]) -> bool {
@@ -64,25 +33,22 @@ fn is_hex_of(word: &[u8], digits: usize) -> bool {
 
 // Whether a word is a hex number with or without minus.
 fn is_integer(word: &[u8]) -> bool {
-    is_hex(magnitude(word))
+    is_hex(numbers::magnitude(word))
 }
 
 fn is_decimal(text: &[u8]) -> bool {
-    (count(text) == 3)
-        & is_integer(word(text, 1))
-        & words::is_signed(word(text, 2), words::MOST_I64)
+    (count(text) == 3) & is_integer(word(text, 1)) & numbers::is_i64(word(text, 2))
 }
 
 fn is_offset(word: &[u8]) -> bool {
-    check::same(word, b"?") | words::is_signed(word, words::MOST_I32)
+    check::same(word, b"?") | numbers::is_i32(word)
 }
 
 // Whether the words from index `from` to before `to` are numbers of at most `limit`.
 fn are_numbers(text: &[u8], from: usize, to: usize, limit: u64) -> bool {
     let mut i = from;
     while i < to {
-        let number = words::natural(word(text, i), limit);
-        if !number.fits {
+        if !numbers::is_natural(word(text, i), limit) {
             return false;
         }
         i += 1;
@@ -94,12 +60,10 @@ fn are_numbers(text: &[u8], from: usize, to: usize, limit: u64) -> bool {
 fn is_timestamp(text: &[u8]) -> bool {
     let words = count(text);
     let is_precision = (3 <= words) & (words != 6) & (words != 9) & (words <= 10);
-    if !is_precision {
-        return false;
-    }
-    is_offset(word(text, 1))
-        & are_numbers(text, 2, words::least(words, 9), words::MOST_I32)
-        & are_numbers(text, 9, words, words::MOST_U64)
+    is_precision
+        & is_offset(word(text, 1))
+        & are_numbers(text, 2, words::least(words, 9), MOST_I32)
+        & are_numbers(text, 9, words::least(words, 10), MOST_U64)
 }
 
 // Whether behind a name stand hex pairs, or nothing.
@@ -112,40 +76,29 @@ fn are_pairs(text: &[u8]) -> bool {
 // Whether a scalar whose name has one word behind it is of the form.
 fn is_right_word(scalar: usize, word: &[u8]) -> bool {
     match scalar {
-        NULL => type_code(word) != NO_TYPE,
-        BOOL => is_bool(word),
-        I64 => words::is_signed(word, words::MOST_I64),
-        INT => is_integer(word),
-        F32 => is_hex_of(word, 8),
-        F64 => is_hex_of(word, 16),
-        SYMBOL => words::is_name(word),
+        walk::NULL => type_code(word) != NO_TYPE,
+        walk::BOOL => is_bool(word),
+        walk::I64 => numbers::is_i64(word),
+        walk::INT => is_integer(word),
+        walk::F32 => is_hex_of(word, 8),
+        walk::F64 => is_hex_of(word, 16),
+        walk::SYMBOL => is_name(word),
         _ => false,
     }
 }
 
-fn is_right_scalar(text: &[u8]) -> bool {
-    let scalar = scalar_named(text);
-    match scalar {
-        DECIMAL => is_decimal(text),
-        TIMESTAMP => is_timestamp(text),
-        STRING | CLOB | BLOB => are_pairs(text),
-        _ => (count(text) == 2) & is_right_word(scalar, word(text, 1)),
-    }
-}
-
-fn is_right(line: &[u8], step: Step) -> bool
-    requires { ⌜ (length (now line) ≤ 4096) × Within (length (now line)) step ⌝ }
+// Whether the words of a part are of the form.
+fn is_right(part: usize, text: &[u8]) -> bool
+    requires { ⌜ length (now text) ≤ 4096 ⌝ }
 {
-    let part = step.part;
-    let from = step.from;
-    let to = step.to;
-    let text = &line[from..to];
     match part {
-        Part::Scalar => is_right_scalar(text),
-        Part::Annotations => words::are_names(text),
-        Part::Name => words::is_name(text),
-        Part::Malformed => false,
-        _ => true,
+        walk::DECIMAL => is_decimal(text),
+        walk::TIMESTAMP => is_timestamp(text),
+        walk::STRING | walk::CLOB | walk::BLOB => are_pairs(text),
+        walk::ANNOTATIONS => are_names(text),
+        walk::NAME => is_name(text),
+        walk::LIST | walk::SEXP | walk::STRUCT | walk::CLOSE | walk::MARK => true,
+        _ => (count(text) == 2) & is_right_word(part, word(text, 1)),
     }
 }
 
@@ -153,18 +106,20 @@ fn is_right(line: &[u8], step: Step) -> bool
 pub(crate) fn is_value(line: &[u8]) -> bool
     requires { ⌜ length (now line) ≤ 4096 ⌝ }
 {
-    let mut stack = [0u8; walk::LONGEST_LINE];
+    let mut stack = [walk::NOTHING; walk::LONGEST_LINE + 1];
     let mut at: usize = 0;
     let mut depth: usize = 0;
     let mut due = walk::VALUE;
     while at < line.len() {
-        let step = walk::next(line, &mut stack, at, depth, due);
-        if !is_right(line, step) {
+        let step = walk::next(line, at, due);
+        let from = step.from;
+        let to = step.to;
+        if !is_right(step.part, &line[from..to]) {
             return false;
         }
+        depth = walk::depth_behind(&mut stack, depth, step);
+        due = walk::due_behind(&stack, depth, step);
         at = step.at;
-        depth = step.depth;
-        due = step.due;
     }
     due == walk::NOTHING
 }

@@ -1,99 +1,73 @@
 // The trial program of document 01: reads lines, writes the value of each to a buffer of its own, and prints its bytes in lower-case hex, or `!` and
 // the number of the refusal.
 mod form;
+mod names;
 mod run;
 mod walk;
-mod words;
 
-ghost use mathlib.Core.Path.{_≡_};
 ghost use Prim.Native.Nat.{_+_, _≤_};
 ghost use lib.ListN.{length};
+use goatminute::STATE_SIZE;
 use libc::STDIN_FILENO;
 use libc::STDOUT_FILENO;
 
 const ROOM: usize = 16384;
 
-const STATE_SIZE: usize = 296;
+// How many bytes may wait to be printed where an answer, of at most two digits for each byte of `ROOM` and a line feed, is put behind them.
+const MOST_WAITING: usize = 32767;
 
-// Puts a byte behind the `used` bytes that wait to be printed; a full array is printed first. The result is how many wait.
-fn put(out: &mut [u8], used: usize, byte: u8) -> usize
-    requires { ⌜ (used ≤ length (now out)) × (1 ≤ length (now out)) ⌝ }
-    ensures { λ r. ⌜ r ≤ length (now (out .exit)) ⌝ }
+// Puts `!` and the number of a refusal, and answers how many bytes these are.
+fn put_refusal(out: &mut [u8], at: usize, number: u8) -> usize
+    ensures { λ r. ⌜ r ≤ 3 ⌝ }
 {
-    if used < out.len() {
-        out[used] = byte;
-        return used + 1;
+    let numbers = b"!0 !1 !2 !3 !4 !5 !6 !7 !8 !9 !10 !11 !12";
+    words::least(
+        buffer::copy(out, at, words::word(numbers, number as usize)),
+        3,
+    )
+}
+
+// Puts the finished bytes in hex, and answers how many digits these are.
+fn put_finished(out: &mut [u8], at: usize, state: &[u8; STATE_SIZE], buf: &[u8; 16384]) -> usize
+    ensures { λ r. ⌜ r ≤ 32768 ⌝ }
+{
+    let bytes: &[u8] = buf;
+    let n = words::least(goatminute::gm_finished(state, bytes), ROOM);
+    words::hex::put(out, at, &bytes[0..n])
+}
+
+// Puts the answer to a line, and answers how many bytes that is.
+fn put_answer(line: &[u8], out: &mut [u8], at: usize) -> usize
+    ensures { λ r. ⌜ r ≤ 32768 ⌝ }
+{
+    let mut state = [0u8; STATE_SIZE];
+    let mut buf = [0u8; ROOM];
+    let refusal = run::run(line, &mut state, &mut buf);
+    if refusal != 0 {
+        return put_refusal(out, at, refusal);
     }
-    io::write_all(STDOUT_FILENO, out);
-    out[0] = byte;
-    1
-}
-
-fn hex_digit(bits: u8) -> u8 {
-    let digit = bits % 16;
-    if digit < 10 {
-        return b'0' + digit;
-    }
-    b'a' + (digit - 10)
-}
-
-fn put_hex(out: &mut [u8], used: usize, bytes: &[u8]) -> usize
-    requires { ⌜ (used ≤ length (now out)) × (1 ≤ length (now out)) ⌝ }
-    ensures { λ r. ⌜ r ≤ length (now (out .exit)) ⌝ }
-{
-    let mut end = used;
-    let mut i: usize = 0;
-    while i < bytes.len() {
-        let byte = bytes[i];
-        end = put(out, end, hex_digit(byte / 16));
-        end = put(out, end, hex_digit(byte));
-        i += 1;
-    }
-    put(out, end, b'\n')
-}
-
-// Puts the first digit of a number that has two.
-fn put_tens(out: &mut [u8], used: usize, number: u8) -> usize
-    requires { ⌜ (used ≤ length (now out)) × (1 ≤ length (now out)) ⌝ }
-    ensures { λ r. ⌜ r ≤ length (now (out .exit)) ⌝ }
-{
-    if number < 10 {
-        return used;
-    }
-    put(out, used, b'0' + number / 10)
-}
-
-// Puts `!` and the number of a refusal.
-fn put_refusal(out: &mut [u8], used: usize, number: u8) -> usize
-    requires { ⌜ (used ≤ length (now out)) × (1 ≤ length (now out)) ⌝ }
-    ensures { λ r. ⌜ r ≤ length (now (out .exit)) ⌝ }
-{
-    let sign = put(out, used, b'!');
-    let tens = put_tens(out, sign, number);
-    let units = put(out, tens, b'0' + number % 10);
-    put(out, units, b'\n')
-}
-
-// The `ensures` gives the length, which lending the array as a slice needs.
-fn fresh_buffer() -> [u8; 16384]
-    ensures { λ r. ⌜ 16384 ≡ length r ⌝ }
-{
-    [0; ROOM]
+    put_finished(out, at, &state, &buf)
 }
 
 // Puts the answer to a line behind the bytes that wait to be printed. The result is how many wait.
 fn answer(line: &[u8], out: &mut [u8], used: usize) -> usize
-    requires { ⌜ (used ≤ length (now out)) × (1 ≤ length (now out)) ⌝ }
-    ensures { λ r. ⌜ r ≤ length (now (out .exit)) ⌝ }
+    requires { ⌜ (used ≤ 32767) × (65536 ≤ length (now out)) ⌝ }
+    ensures { λ r. ⌜ r ≤ 65536 ⌝ }
 {
-    let mut state = [0u8; STATE_SIZE];
-    let mut buf = fresh_buffer();
-    let refusal = run::run(line, &mut state, &mut buf);
-    if refusal != 0 {
-        return put_refusal(out, used, refusal);
+    let end = used + put_answer(line, out, used);
+    out[end] = b'\n';
+    end + 1
+}
+
+// Prints the bytes that wait, if they are too many. The result is how many wait then.
+fn print_waiting(waiting: &[u8]) -> usize
+    ensures { λ r. ⌜ r ≤ 32767 ⌝ }
+{
+    if waiting.len() <= MOST_WAITING {
+        return waiting.len();
     }
-    let n = words::least(goatminute::gm_finished(&state, &buf), ROOM);
-    put_hex(out, used, &buf[0..n])
+    io::write_all(STDOUT_FILENO, waiting);
+    0
 }
 
 // Prints the answers to the lines that end in a text. The result is where the rest starts.
@@ -105,6 +79,7 @@ fn answer_lines(text: &[u8]) -> usize
     let mut at: usize = 0;
     let mut end = words::find(text, 0, b'\n');
     while end < text.len() {
+        used = print_waiting(&out[0..used]);
         used = answer(&text[at..end], &mut out, used);
         at = end + 1;
         end = words::find(text, at, b'\n');

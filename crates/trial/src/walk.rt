@@ -1,11 +1,11 @@
-// The walk along a line: its brackets, and the parts between them. What is due behind each value that is not ended yet is kept on a stack, so a
-// line may be as deep as its bytes allow.
+// The walk along a line: its brackets, and the parts between them. What a bracket has to close is kept on a stack, so a line may be as deep as its
+// bytes allow.
 ghost use mathlib.Core.Path.{_≡_};
-ghost use Prim.Native.Nat.{_<_, _≤_};
+ghost use Prim.Native.Nat.{_+_, _<_, _≤_};
 ghost use lib.ListN.{length};
 ghost use Rattle.trial.specs.Steps.{Within};
-use crate::words::find;
-use crate::words::index;
+use words::byte_at;
+use words::find;
 
 pub(crate) const LONGEST_LINE: usize = 4096;
 
@@ -26,255 +26,258 @@ const FIELD: u8 = 4;
 // The bracket of a field or an `ann`.
 const BRACKET: u8 = 5;
 
-pub(crate) enum Part {
-    // A scalar's words, without its brackets.
-    Scalar,
-    List,
-    Sexp,
-    Struct,
-    // The annotations of the value that comes next.
-    Annotations,
-    // The name of the value that comes next.
-    Name,
-    // The bracket of a list, s-expression or struct.
-    Close,
-    // A space, or the bracket of a field or an `ann`.
-    Mark,
-    Malformed,
-}
+// The parts of a line, the first of them by the index of their names. A scalar is its words, without its brackets.
+pub(crate) const NULL: usize = 0;
 
-// A part, where its words stand, and the place behind it: what is due there, and how much of the stack is in use.
+pub(crate) const BOOL: usize = 1;
+
+pub(crate) const I64: usize = 2;
+
+pub(crate) const INT: usize = 3;
+
+pub(crate) const F32: usize = 4;
+
+pub(crate) const F64: usize = 5;
+
+pub(crate) const DECIMAL: usize = 6;
+
+pub(crate) const TIMESTAMP: usize = 7;
+
+pub(crate) const SYMBOL: usize = 8;
+
+pub(crate) const STRING: usize = 9;
+
+pub(crate) const CLOB: usize = 10;
+
+pub(crate) const BLOB: usize = 11;
+
+pub(crate) const LIST: usize = 12;
+
+pub(crate) const SEXP: usize = 13;
+
+pub(crate) const STRUCT: usize = 14;
+
+// The annotations of the value that comes next.
+pub(crate) const ANNOTATIONS: usize = 15;
+
+// A word that is none of these names, and all else that is not of the form.
+pub(crate) const MALFORMED: usize = 16;
+
+// The name of the value that comes next.
+pub(crate) const NAME: usize = 17;
+
+// The bracket of a list, s-expression or struct.
+pub(crate) const CLOSE: usize = 18;
+
+// A space, or the bracket of a field or an `ann`.
+pub(crate) const MARK: usize = 19;
+
+// A part, where its words stand, the place behind it and what is due there, or `NOTHING` where the stack says it. `pushed` is put on the stack, if it
+// is not `NOTHING`; `popped` counts what is taken from it.
 pub(crate) struct Step {
-    pub(crate) part: Part,
+    pub(crate) part: usize,
     pub(crate) from: usize,
     pub(crate) to: usize,
     pub(crate) at: usize,
-    pub(crate) depth: usize,
     pub(crate) due: u8,
+    pub(crate) pushed: u8,
+    pub(crate) popped: usize,
 }
 
-fn malformed(line: &[u8]) -> Step
-    ensures { λ r. ⌜ (r .from ≡ 0) × (r .to ≡ 0) × (r .at ≡ length (now (line .entry))) × (r .depth ≡ 0) ⌝ }
+fn malformed(at: usize) -> Step
+    requires { ⌜ at ≤ 4096 ⌝ }
+    ensures { λ r. ⌜ Within at 0 r ⌝ }
 {
     Step {
-        part: Part::Malformed,
+        part: MALFORMED,
         from: 0,
         to: 0,
-        at: line.len(),
-        depth: 0,
+        at: at + 1,
         due: NOTHING,
+        pushed: NOTHING,
+        popped: 0,
     }
 }
 
-// What is due behind a value that ends.
-fn top(stack: &[u8; 4096], depth: usize) -> u8
-    requires { ⌜ depth ≤ 4096 ⌝ }
-{
-    if depth == 0 {
-        return NOTHING;
-    }
-    stack[depth - 1]
-}
-
-fn lowered(depth: usize) -> usize
-    ensures { λ r. ⌜ r ≤ depth ⌝ }
-{
-    if depth == 0 {
-        return 0;
-    }
-    depth - 1
-}
-
-// A bracket that ends a value, a field or an `ann`.
-fn bracket(line: &[u8], stack: &[u8; 4096], at: usize, depth: usize, part: Part) -> Step
-    requires { ⌜ (at < length (now line)) × (length (now line) ≤ 4096) × (depth ≤ at) ⌝ }
-    ensures { λ r. ⌜ (at < r .at) × Within (length (now (line .entry))) r ⌝ }
+// A bracket that ends a list, s-expression or struct, a field or an `ann`.
+fn bracket(line: &[u8], at: usize, part: usize) -> Step
+    requires { ⌜ (at < length (now line)) × (length (now line) ≤ 4096) ⌝ }
+    ensures { λ r. ⌜ Within at (length (now (line .entry))) r ⌝ }
 {
     if line[at] != b')' {
-        return malformed(line);
+        return malformed(at);
     }
     Step {
         part,
-        from: at,
-        to: at,
+        from: 0,
+        to: 0,
         at: at + 1,
-        depth: lowered(depth),
-        due: top(stack, depth),
+        due: NOTHING,
+        pushed: NOTHING,
+        popped: 1,
     }
 }
 
-// A field of a struct behind its space: the bracket, the name and a space.
-fn field(line: &[u8], stack: &mut [u8; 4096], at: usize, depth: usize) -> Step
-    requires { ⌜ (at ≤ length (now line)) × (length (now line) ≤ 4096) × (depth < at) ⌝ }
-    ensures { λ r. ⌜ (at ≤ r .at) × Within (length (now (line .entry))) r ⌝ }
-{
-    if at == line.len() {
-        return malformed(line);
-    }
-    if line[at] != b'(' {
-        return malformed(line);
-    }
-    let to = find(line, at + 1, b' ');
-    if to == line.len() {
-        return malformed(line);
-    }
-    stack[depth] = FIELD;
-    stack[depth + 1] = BRACKET;
-    Step {
-        part: Part::Name,
-        from: at + 1,
-        to,
-        at: to + 1,
-        depth: depth + 2,
-        due: VALUE,
-    }
-}
-
-// A member of a list or s-expression behind its space.
-fn member(stack: &mut [u8; 4096], at: usize, depth: usize) -> Step
-    requires { ⌜ (at ≤ 4096) × (depth < at) ⌝ }
-    ensures { λ r. ⌜ (r .from ≡ at) × (r .to ≡ at) × (r .at ≡ at) × (r .depth ≤ at) ⌝ }
-{
-    stack[depth] = MEMBER;
-    Step {
-        part: Part::Mark,
-        from: at,
-        to: at,
-        at,
-        depth: depth + 1,
-        due: VALUE,
-    }
-}
-
-// What stands in a list, s-expression or struct, or its bracket.
-fn item(line: &[u8], stack: &mut [u8; 4096], at: usize, depth: usize, due: u8) -> Step
-    requires { ⌜ (at < length (now line)) × (length (now line) ≤ 4096) × (depth ≤ at) ⌝ }
-    ensures { λ r. ⌜ (at < r .at) × Within (length (now (line .entry))) r ⌝ }
+// A space before a member of a list or s-expression, or its bracket.
+fn member(line: &[u8], at: usize) -> Step
+    requires { ⌜ (at < length (now line)) × (length (now line) ≤ 4096) ⌝ }
+    ensures { λ r. ⌜ Within at (length (now (line .entry))) r ⌝ }
 {
     if line[at] != b' ' {
-        return bracket(line, stack, at, depth, Part::Close);
+        return bracket(line, at, CLOSE);
     }
-    if due == MEMBER {
-        return member(stack, at + 1, depth);
+    Step {
+        part: MARK,
+        from: 0,
+        to: 0,
+        at: at + 1,
+        due: VALUE,
+        pushed: NOTHING,
+        popped: 0,
     }
-    field(line, stack, at + 1, depth)
 }
 
-// The annotations from `from` on, the bracket and the space behind them.
-fn annotations(line: &[u8], stack: &mut [u8; 4096], from: usize, depth: usize) -> Step
-    requires { ⌜ (from ≤ length (now line)) × (length (now line) ≤ 4096) × (depth < from) ⌝ }
-    ensures { λ r. ⌜ (from ≤ r .at) × Within (length (now (line .entry))) r ⌝ }
+// A field of a struct, which is a space, a bracket, the name and a space, or the bracket of the struct.
+fn field(line: &[u8], at: usize) -> Step
+    requires { ⌜ (at < length (now line)) × (length (now line) ≤ 4096) ⌝ }
+    ensures { λ r. ⌜ Within at (length (now (line .entry))) r ⌝ }
 {
-    let to = find(line, from, b')');
-    if line.len() - to < 2 {
-        return malformed(line);
+    if line[at] != b' ' {
+        return bracket(line, at, CLOSE);
     }
-    if line[to + 1] != b' ' {
-        return malformed(line);
+    let from = at + 2;
+    let to = find(line, from, b' ');
+    if line.len() <= to {
+        return malformed(at);
     }
-    stack[depth] = BRACKET;
+    if line[at + 1] != b'(' {
+        return malformed(at);
+    }
     Step {
-        part: Part::Annotations,
+        part: NAME,
+        from,
+        to,
+        at: to + 1,
+        due: VALUE,
+        pushed: BRACKET,
+        popped: 0,
+    }
+}
+
+// The annotations of an `ann`, a word that ends at `end`: a space, a bracket, the names up to `to`, the bracket and a space.
+fn annotations(line: &[u8], at: usize, end: usize, to: usize, due: u8) -> Step
+    requires { ⌜ (at < end) × (end ≤ to) × (to < length (now line)) × (length (now line) ≤ 4096) ⌝ }
+    ensures { λ r. ⌜ Within at (length (now (line .entry))) r ⌝ }
+{
+    let from = end + 2;
+    if to < from {
+        return malformed(at);
+    }
+    let is_behind_ann = due == BARE_VALUE;
+    if is_behind_ann
+        | (line[end] != b' ')
+        | (line[end + 1] != b'(')
+        | (byte_at(line, to + 1) != b' ')
+    {
+        return malformed(at);
+    }
+    Step {
+        part: ANNOTATIONS,
         from,
         to,
         at: to + 2,
-        depth: depth + 1,
         due: BARE_VALUE,
+        pushed: BRACKET,
+        popped: 0,
     }
 }
 
-// An `ann` from the place behind that word on.
-fn annotated(line: &[u8], stack: &mut [u8; 4096], at: usize, depth: usize, due: u8) -> Step
-    requires { ⌜ (at ≤ length (now line)) × (length (now line) ≤ 4096) × (depth ≤ at) ⌝ }
-    ensures { λ r. ⌜ (at ≤ r .at) × Within (length (now (line .entry))) r ⌝ }
-{
-    if due == BARE_VALUE {
-        return malformed(line);
-    }
-    if line.len() - at < 2 {
-        return malformed(line);
-    }
-    if (line[at] != b' ') | (line[at + 1] != b'(') {
-        return malformed(line);
-    }
-    annotations(line, stack, at + 2, depth)
-}
-
-// A scalar from the place behind its bracket on.
-fn scalar(line: &[u8], stack: &[u8; 4096], from: usize, depth: usize) -> Step
-    requires { ⌜ (from ≤ length (now line)) × (length (now line) ≤ 4096) × (depth ≤ from) ⌝ }
-    ensures { λ r. ⌜ (from ≤ r .at) × Within (length (now (line .entry))) r ⌝ }
-{
-    let to = find(line, from, b')');
-    if to == line.len() {
-        return malformed(line);
-    }
-    Step {
-        part: Part::Scalar,
-        from,
-        to,
-        at: to + 1,
-        depth: lowered(depth),
-        due: top(stack, depth),
-    }
-}
-
-fn opening(part: Part, at: usize, depth: usize, due: u8) -> Step
-    ensures { λ r. ⌜ (r .from ≡ at) × (r .to ≡ at) × (r .at ≡ at) × (r .depth ≡ depth) ⌝ }
+fn opened(part: usize, end: usize, pushed: u8) -> Step
+    ensures { λ r. ⌜ (r .from ≡ 0) × (r .to ≡ 0) × (r .at ≡ end) ⌝ }
 {
     Step {
         part,
-        from: at,
-        to: at,
-        at,
-        depth,
-        due,
+        from: 0,
+        to: 0,
+        at: end,
+        due: NOTHING,
+        pushed,
+        popped: 0,
     }
 }
 
-// Where a word ends: at a space or a bracket.
-fn word_end(line: &[u8], at: usize) -> usize
-    requires { ⌜ at ≤ length (now line) ⌝ }
-    ensures { λ r. ⌜ (at ≤ r) × (r ≤ length (now (line .entry))) ⌝ }
-{
-    let mut i = at;
-    while i < line.len() {
-        let here = line[i];
-        if (here == b' ') | (here == b')') {
-            return i;
-        }
-        i += 1;
-    }
-    i
-}
-
-fn value(line: &[u8], stack: &mut [u8; 4096], at: usize, depth: usize, due: u8) -> Step
-    requires { ⌜ (at < length (now line)) × (length (now line) ≤ 4096) × (depth ≤ at) ⌝ }
-    ensures { λ r. ⌜ (at < r .at) × Within (length (now (line .entry))) r ⌝ }
+// A value, of which a scalar ends at the next bracket that closes.
+fn value(line: &[u8], at: usize, due: u8) -> Step
+    requires { ⌜ (at < length (now line)) × (length (now line) ≤ 4096) ⌝ }
+    ensures { λ r. ⌜ Within at (length (now (line .entry))) r ⌝ }
 {
     if line[at] != b'(' {
-        return malformed(line);
+        return malformed(at);
     }
     let from = at + 1;
-    let end = word_end(line, from);
-    match index(b"list sexp struct ann", &line[from..end]) {
-        0 => opening(Part::List, end, depth, MEMBER),
-        1 => opening(Part::Sexp, end, depth, MEMBER),
-        2 => opening(Part::Struct, end, depth, FIELD),
-        3 => annotated(line, stack, end, depth, due),
-        _ => scalar(line, stack, from, depth),
+    let to = find(line, from, b')');
+    if line.len() <= to {
+        return malformed(at);
+    }
+    let text = &line[from..to];
+    let name = find(text, 0, b' ');
+    let end = from + name;
+    let part = words::index(
+        b"null bool i64 int f32 f64 dec ts symbol string clob blob list sexp struct ann",
+        &text[0..name],
+    );
+    match part {
+        LIST | SEXP => opened(part, end, MEMBER),
+        STRUCT => opened(part, end, FIELD),
+        ANNOTATIONS => annotations(line, at, end, to, due),
+        _ => Step {
+            part,
+            from,
+            to,
+            at: to + 1,
+            due: NOTHING,
+            pushed: NOTHING,
+            popped: 0,
+        },
     }
 }
 
 // The step from a place on.
-pub(crate) fn next(line: &[u8], stack: &mut [u8; 4096], at: usize, depth: usize, due: u8) -> Step
-    requires { ⌜ (at < length (now line)) × (length (now line) ≤ 4096) × (depth ≤ at) ⌝ }
-    ensures { λ r. ⌜ (at < r .at) × Within (length (now (line .entry))) r ⌝ }
+pub(crate) fn next(line: &[u8], at: usize, due: u8) -> Step
+    requires { ⌜ (at < length (now line)) × (length (now line) ≤ 4096) ⌝ }
+    ensures { λ r. ⌜ Within at (length (now (line .entry))) r ⌝ }
 {
     match due {
-        VALUE | BARE_VALUE => value(line, stack, at, depth, due),
-        MEMBER | FIELD => item(line, stack, at, depth, due),
-        BRACKET => bracket(line, stack, at, depth, Part::Mark),
-        _ => malformed(line),
+        VALUE | BARE_VALUE => value(line, at, due),
+        MEMBER => member(line, at),
+        FIELD => field(line, at),
+        BRACKET => bracket(line, at, MARK),
+        _ => malformed(at),
     }
+}
+
+// How much of the stack is in use behind a step. At its foot stands `NOTHING`.
+pub(crate) fn depth_behind(stack: &mut [u8; 4097], depth: usize, step: Step) -> usize
+    requires { ⌜ depth < 4096 ⌝ }
+    ensures { λ r. ⌜ r ≤ depth + 1 ⌝ }
+{
+    let pushed = step.pushed;
+    if pushed != NOTHING {
+        stack[depth + 1] = pushed;
+        return depth + 1;
+    }
+    if depth < step.popped {
+        return 0;
+    }
+    depth - step.popped
+}
+
+// What is due behind a step.
+pub(crate) fn due_behind(stack: &[u8; 4097], depth: usize, step: Step) -> u8
+    requires { ⌜ depth ≤ 4096 ⌝ }
+{
+    if step.due != NOTHING {
+        return step.due;
+    }
+    stack[depth]
 }

@@ -1,13 +1,14 @@
--- `answer_lines` is safe and ends: each line is passed with its line feed. Assumes nothing.
+-- `answer_lines` is safe and ends: each line is passed with its line feed.
+-- Assumes nothing.
 use mathlib.Core.Path.{_≡_}
 use Prim.Native.Nat.{_-_, _≤_}
-use borrow.Author.Needs.{needs}
 use lib.ListN.{length}
+use borrow.Author.Needs.{needs}
 use Rattle.trial.proofs.answer_lines.Statement.{statement}
 use Rattle.trial.proofs.answer_lines.Tie as tie
 
 abbrev Inv-loop : tie.InvT-loop
-Inv-loop text out₀ used₀ at₀ end₀ out used at end = (at ≤ end) × (end ≤ length text) × (used ≤ 65536) × (length out ≡ 65536)
+Inv-loop text out₀ used₀ at₀ end₀ out used at end = (at ≤ end) × (at ≤ length text) × (used ≤ 65536) × (length out ≡ 65536)
 
 abbrev μ-loop : tie.MeasureT-loop
 μ-loop text out₀ used₀ at₀ end₀ out used at end = length text - end
@@ -20,6 +21,18 @@ find-requires c κs = search needs
 
 loop-holds : tie.Need-loop-holds Inv-loop μ-loop
 loop-holds c = search needs
+
+sub-print-waiting : tie.Need-sub-print-waiting Inv-loop μ-loop
+sub-print-waiting c = search needs
+
+part-print-waiting-start : tie.Need-part-print-waiting-start Inv-loop μ-loop
+part-print-waiting-start c = search needs
+
+part-print-waiting-end : tie.Need-part-print-waiting-end Inv-loop μ-loop
+part-print-waiting-end c = search needs
+
+print-waiting-requires : tie.Need-print-waiting-requires Inv-loop μ-loop
+print-waiting-requires c κs = search needs
 
 sub-answer : tie.Need-sub-answer Inv-loop μ-loop
 sub-answer c = search needs
@@ -72,6 +85,10 @@ answer-lines-spec =
     large-buffer-requires
     find-requires
     loop-holds
+    sub-print-waiting
+    part-print-waiting-start
+    part-print-waiting-end
+    print-waiting-requires
     sub-answer
     part-answer-start
     part-answer-end

@@ -1,13 +1,14 @@
--- `keep` is safe and ends: both places of a byte lie within the text. Assumes nothing.
+-- `keep` is safe and ends: it reads and writes within the text.
+-- Assumes nothing.
 use mathlib.Core.Path.{_≡_}
-use Prim.Native.Nat.{_-_, _+_, _≤_}
-use borrow.Author.Needs.{needs}
+use Prim.Native.Nat.{_-_, _≤_}
 use lib.ListN.{length}
+use borrow.Author.Needs.{needs}
 use Rattle.trial.proofs.keep.Statement.{statement}
 use Rattle.trial.proofs.keep.Tie as tie
 
 abbrev Inv-loop : tie.InvT-loop
-Inv-loop text₀ from count i₀ text i = (from + count ≤ length text) × (i ≤ count) × (length text ≡ length text₀)
+Inv-loop text₀ from count i₀ text i = (i ≤ count) × (length text ≡ length text₀)
 
 abbrev μ-loop : tie.MeasureT-loop
 μ-loop text₀ from count i₀ text i = count - i

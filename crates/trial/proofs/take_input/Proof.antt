@@ -1,8 +1,9 @@
--- `take_input` is safe, ends and answers a place within the text: the turns fall, and what is kept is at most 4,097 bytes. Assumes nothing.
+-- `take_input` is safe and ends: the turns fall, and what is kept is at most 4,097 bytes.
+-- Assumes nothing.
 use mathlib.Core.Path.{_≡_}
 use Prim.Native.Nat.{_≤_}
-use borrow.Author.Needs.{needs}
 use lib.ListN.{length}
+use borrow.Author.Needs.{needs}
 use Rattle.trial.proofs.take_input.Statement.{statement}
 use Rattle.trial.proofs.take_input.Tie as tie
 

@@ -1,4 +1,5 @@
--- `form::are_numbers` is safe and ends: the index stays before `to`. Assumes nothing.
+-- `form::are_numbers` is safe and ends: it goes along the words.
+-- Assumes nothing.
 use Prim.Native.Nat.{_-_, _≤_}
 use borrow.Author.Needs.{needs}
 use Rattle.trial.proofs.form.are_numbers.Statement.{statement}
@@ -16,8 +17,8 @@ loop-holds c = search needs
 word-requires : tie.Need-word-requires Inv-loop μ-loop
 word-requires c κs = search needs
 
-natural-requires : tie.Need-natural-requires Inv-loop μ-loop
-natural-requires c κs = search needs
+is-natural-requires : tie.Need-is-natural-requires Inv-loop μ-loop
+is-natural-requires c κs = search needs
 
 returns : tie.Need-returns Inv-loop μ-loop
 returns c = search needs
@@ -42,7 +43,7 @@ are-numbers-spec =
     μ-loop
     loop-holds
     word-requires
-    natural-requires
+    is-natural-requires
     returns
     add-i
     loop-less

@@ -1,12 +1,13 @@
--- `form::is_value` is safe and ends: each step goes on within the line, and the stack never holds more than the bytes passed. Assumes nothing.
-use Prim.Native.Nat.{_-_, _≤_}
-use borrow.Author.Needs.{needs}
+-- `form::is_value` is safe and ends: each step goes on, and the stack never holds more than the bytes passed.
+-- Assumes nothing.
+use Prim.Native.Nat.{_+_, _-_, _≤_}
 use lib.ListN.{length}
+use borrow.Author.Needs.{needs}
 use Rattle.trial.proofs.form.is_value.Statement.{statement}
 use Rattle.trial.proofs.form.is_value.Tie as tie
 
 abbrev Inv-loop : tie.InvT-loop
-Inv-loop line stack₀ at₀ depth₀ due₀ stack at depth due = (length line ≤ 4096) × (at ≤ length line) × (depth ≤ at)
+Inv-loop line stack₀ at₀ depth₀ due₀ stack at depth due = depth ≤ at
 
 abbrev μ-loop : tie.MeasureT-loop
 μ-loop line stack₀ at₀ depth₀ due₀ stack at depth due = length line - at
@@ -17,11 +18,26 @@ loop-holds c = search needs
 next-requires : tie.Need-next-requires Inv-loop μ-loop
 next-requires c κs = search needs
 
+sub-is-right : tie.Need-sub-is-right Inv-loop μ-loop
+sub-is-right c = search needs
+
+part-is-right-start : tie.Need-part-is-right-start Inv-loop μ-loop
+part-is-right-start c = search needs
+
+part-is-right-end : tie.Need-part-is-right-end Inv-loop μ-loop
+part-is-right-end c = search needs
+
 is-right-requires : tie.Need-is-right-requires Inv-loop μ-loop
 is-right-requires c κs = search needs
 
 returns : tie.Need-returns Inv-loop μ-loop
 returns c = search needs
+
+depth-behind-requires : tie.Need-depth-behind-requires Inv-loop μ-loop
+depth-behind-requires c κs = search needs
+
+due-behind-requires : tie.Need-due-behind-requires Inv-loop μ-loop
+due-behind-requires c κs = search needs
 
 loop-less : tie.Need-loop-less Inv-loop μ-loop
 loop-less c = search needs
@@ -40,8 +56,13 @@ is-value-spec =
     μ-loop
     loop-holds
     next-requires
+    sub-is-right
+    part-is-right-start
+    part-is-right-end
     is-right-requires
     returns
+    depth-behind-requires
+    due-behind-requires
     loop-less
     loop-again
     returns-2)

@@ -1,16 +1,17 @@
--- `run::run_value` is safe and ends: each step goes on within the line, and the stack never holds more than the bytes passed. Assumes nothing.
+-- `run::run_value` is safe and ends: each step goes on, and the stack never holds more than the bytes passed.
+-- Assumes nothing.
 use mathlib.Core.Path.{_≡_}
 use Prim.Native.Nat.{_-_, _≤_}
-use borrow.Author.Needs.{needs}
 use lib.ListN.{length}
+use borrow.Author.Needs.{needs}
 use Rattle.trial.proofs.run.run_value.Statement.{statement}
 use Rattle.trial.proofs.run.run_value.Tie as tie
 
 abbrev Inv-loop : tie.InvT-loop
-Inv-loop line state₀ buf₀ sids₀ stack₀ annotated₀ at₀ depth₀ due₀ state buf sids stack annotated at depth due = (length line ≤ 4096) × (at ≤ length line) × (depth ≤ at) × (annotated ≤ 32768) × (length sids ≡ 32768) × (length sids₀ ≡ 32768) × (length state ≡ length state₀) × (length buf ≡ length buf₀)
+Inv-loop line sids₀ state₀ buf₀ stack₀ annotated₀ at₀ depth₀ due₀ sids state buf stack annotated at depth due = (depth ≤ at) × (annotated ≤ 32768) × (length sids ≡ 32768)
 
 abbrev μ-loop : tie.MeasureT-loop
-μ-loop line state₀ buf₀ sids₀ stack₀ annotated₀ at₀ depth₀ due₀ state buf sids stack annotated at depth due = length line - at
+μ-loop line sids₀ state₀ buf₀ stack₀ annotated₀ at₀ depth₀ due₀ sids state buf stack annotated at depth due = length line - at
 
 loop-holds : tie.Need-loop-holds Inv-loop μ-loop
 loop-holds c = search needs
@@ -42,17 +43,17 @@ run-part-requires c κs = search needs
 same-length : tie.Need-same-length Inv-loop μ-loop
 same-length c = search needs
 
-same-length-2 : tie.Need-same-length-2 Inv-loop μ-loop
-same-length-2 c = search needs
-
-same-length-3 : tie.Need-same-length-3 Inv-loop μ-loop
-same-length-3 c = search needs
-
 returns : tie.Need-returns Inv-loop μ-loop
 returns c = search needs
 
 put-annotations-requires : tie.Need-put-annotations-requires Inv-loop μ-loop
 put-annotations-requires c κs = search needs
+
+depth-behind-requires : tie.Need-depth-behind-requires Inv-loop μ-loop
+depth-behind-requires c κs = search needs
+
+due-behind-requires : tie.Need-due-behind-requires Inv-loop μ-loop
+due-behind-requires c κs = search needs
 
 loop-less : tie.Need-loop-less Inv-loop μ-loop
 loop-less c = search needs
@@ -60,14 +61,8 @@ loop-less c = search needs
 loop-again : tie.Need-loop-again Inv-loop μ-loop
 loop-again c = search needs
 
-same-length-4 : tie.Need-same-length-4 Inv-loop μ-loop
-same-length-4 c = search needs
-
-same-length-5 : tie.Need-same-length-5 Inv-loop μ-loop
-same-length-5 c = search needs
-
-same-length-6 : tie.Need-same-length-6 Inv-loop μ-loop
-same-length-6 c = search needs
+same-length-2 : tie.Need-same-length-2 Inv-loop μ-loop
+same-length-2 c = search needs
 
 returns-2 : tie.Need-returns-2 Inv-loop μ-loop
 returns-2 c = search needs
@@ -88,13 +83,11 @@ run-value-spec =
     part-run-part-end
     run-part-requires
     same-length
-    same-length-2
-    same-length-3
     returns
     put-annotations-requires
+    depth-behind-requires
+    due-behind-requires
     loop-less
     loop-again
-    same-length-4
-    same-length-5
-    same-length-6
+    same-length-2
     returns-2)

@@ -1,13 +1,14 @@
--- `words::put_sid` is safe and ends: the eight places lie within the array. Assumes nothing.
+-- `names::put_sid` is safe and ends: it puts eight bytes.
+-- Assumes nothing.
 use mathlib.Core.Path.{_≡_}
-use Prim.Native.Nat.{_-_, _+_, _≤_}
-use borrow.Author.Needs.{needs}
+use Prim.Native.Nat.{_-_, _≤_}
 use lib.ListN.{length}
-use Rattle.trial.proofs.words.put_sid.Statement.{statement}
-use Rattle.trial.proofs.words.put_sid.Tie as tie
+use borrow.Author.Needs.{needs}
+use Rattle.trial.proofs.names.put_sid.Statement.{statement}
+use Rattle.trial.proofs.names.put_sid.Tie as tie
 
 abbrev Inv-loop : tie.InvT-loop
-Inv-loop out₀ at sid rest₀ i₀ out rest i = (i ≤ 8) × (at + 8 ≤ length out) × (length out ≡ length out₀)
+Inv-loop out₀ at sid rest₀ i₀ out rest i = (i ≤ 8) × (length out ≡ length out₀)
 
 abbrev μ-loop : tie.MeasureT-loop
 μ-loop out₀ at sid rest₀ i₀ out rest i = 8 - i

@@ -1,9 +1,10 @@
--- `words::are_letters` is safe and ends: the index stays within the word. Assumes nothing.
+-- `names::are_letters` is safe and ends: it goes along the word.
+-- Assumes nothing.
 use Prim.Native.Nat.{_-_, _≤_}
-use borrow.Author.Needs.{needs}
 use lib.ListN.{length}
-use Rattle.trial.proofs.words.are_letters.Statement.{statement}
-use Rattle.trial.proofs.words.are_letters.Tie as tie
+use borrow.Author.Needs.{needs}
+use Rattle.trial.proofs.names.are_letters.Statement.{statement}
+use Rattle.trial.proofs.names.are_letters.Tie as tie
 
 abbrev Inv-loop : tie.InvT-loop
 Inv-loop word i₀ i = i ≤ length word

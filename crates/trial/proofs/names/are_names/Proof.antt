@@ -1,12 +1,13 @@
--- `words::are_names` is safe and ends: each word is passed with the space behind it. Assumes nothing.
-use Prim.Native.Nat.{_-_, _+_, _≤_}
-use borrow.Author.Needs.{needs}
+-- `names::are_names` is safe and ends: each word is passed with its space.
+-- Assumes nothing.
+use Prim.Native.Nat.{_+_, _-_, _≤_}
 use lib.ListN.{length}
-use Rattle.trial.proofs.words.are_names.Statement.{statement}
-use Rattle.trial.proofs.words.are_names.Tie as tie
+use borrow.Author.Needs.{needs}
+use Rattle.trial.proofs.names.are_names.Statement.{statement}
+use Rattle.trial.proofs.names.are_names.Tie as tie
 
 abbrev Inv-loop : tie.InvT-loop
-Inv-loop text at₀ at = (length text ≤ 4096) × (at ≤ length text + 1)
+Inv-loop text at₀ at = at ≤ length text + 1
 
 abbrev μ-loop : tie.MeasureT-loop
 μ-loop text at₀ at = length text + 1 - at
