@@ -3,7 +3,6 @@
 // A number that stands for yes or no is no where it is 0.
 ghost use mathlib.Core.Path.{_≡_};
 ghost use Rattle.annotations.specs.Sids.{sidsOf};
-ghost use Rattle.scalars.specs.Types.{scalarArgument};
 ghost use Rattle.timestamp.specs.Arguments.{argumentOf};
 ghost use Rattle.machine.specs.Call.{write};
 ghost use Rattle.state_bytes.specs.StateBytes.{entered};
@@ -11,20 +10,7 @@ ghost use Rattle.entry_steps.specs.Entries.{enteredAs};
 ghost use Rattle.entry_numbers.specs.EntryCall.{gmWriteNull, gmWriteBool, gmWriteI64, gmWriteF32, gmWriteF64, gmWriteTimestamp, gmWriteSymbol};
 ghost use Rattle.entry_numbers.specs.EntryCall.{callOf};
 use machine::Refusal;
-use scalars::Scalar;
 use timestamp::Timestamp;
-
-// A scalar that no check of its own refuses.
-fn write_scalar(state: &mut [u8], buf: &mut [u8], annotations: &[u8], value: Scalar) -> u8
-    ensures { λ r. ⌜ enteredAs r (now (state .exit)) (now (buf .exit))
-        ≡ entered (write (sidsOf (now (annotations .entry))) (scalarArgument value)) (now (state .entry)) (now (buf .entry)) ⌝ }
-{
-    if !state_bytes::value_passes(state, buf.len()) {
-        return entry_numbers::answered(state_bytes::value_place(state, buf.len()));
-    }
-    let put = values::write_scalar(buf, state_bytes::used(state), annotations, value);
-    entry_steps::ended(state, put, false, Refusal::NoRoom)
-}
 
 // A null, by the type code.
 #[no_mangle]
@@ -37,12 +23,16 @@ pub extern "C" fn gm_write_null(
     ensures { λ r. ⌜ enteredAs r (now (state .exit)) (now (buf .exit))
         ≡ entered (callOf (gmWriteNull (now (annotations .entry)) code)) (now (state .entry)) (now (buf .entry)) ⌝ }
 {
-    write_scalar(
-        state,
+    if !state_bytes::value_passes(state, buf.len()) {
+        return entry_numbers::answered(state_bytes::value_place(state, buf.len()));
+    }
+    let put = values::write_null(
         buf,
+        state_bytes::used(state),
         annotations,
-        Scalar::Null(entry_numbers::type_of_code(code)),
-    )
+        entry_numbers::type_of_code(code),
+    );
+    entry_steps::ended(state, put, false, Refusal::NoRoom)
 }
 
 // A bool.
@@ -56,7 +46,11 @@ pub extern "C" fn gm_write_bool(
     ensures { λ r. ⌜ enteredAs r (now (state .exit)) (now (buf .exit))
         ≡ entered (callOf (gmWriteBool (now (annotations .entry)) value)) (now (state .entry)) (now (buf .entry)) ⌝ }
 {
-    write_scalar(state, buf, annotations, Scalar::Bool(value != 0))
+    if !state_bytes::value_passes(state, buf.len()) {
+        return entry_numbers::answered(state_bytes::value_place(state, buf.len()));
+    }
+    let put = values::write_bool(buf, state_bytes::used(state), annotations, value != 0);
+    entry_steps::ended(state, put, false, Refusal::NoRoom)
 }
 
 // An int of 64 bits with its sign.
@@ -70,7 +64,11 @@ pub extern "C" fn gm_write_i64(
     ensures { λ r. ⌜ enteredAs r (now (state .exit)) (now (buf .exit))
         ≡ entered (callOf (gmWriteI64 (now (annotations .entry)) value)) (now (state .entry)) (now (buf .entry)) ⌝ }
 {
-    write_scalar(state, buf, annotations, Scalar::I64(value))
+    if !state_bytes::value_passes(state, buf.len()) {
+        return entry_numbers::answered(state_bytes::value_place(state, buf.len()));
+    }
+    let put = values::write_i64(buf, state_bytes::used(state), annotations, value);
+    entry_steps::ended(state, put, false, Refusal::NoRoom)
 }
 
 // A float by the bits of binary32.
@@ -84,7 +82,11 @@ pub extern "C" fn gm_write_f32(
     ensures { λ r. ⌜ enteredAs r (now (state .exit)) (now (buf .exit))
         ≡ entered (callOf (gmWriteF32 (now (annotations .entry)) bits)) (now (state .entry)) (now (buf .entry)) ⌝ }
 {
-    write_scalar(state, buf, annotations, Scalar::F32Bits(bits))
+    if !state_bytes::value_passes(state, buf.len()) {
+        return entry_numbers::answered(state_bytes::value_place(state, buf.len()));
+    }
+    let put = values::write_f32(buf, state_bytes::used(state), annotations, bits);
+    entry_steps::ended(state, put, false, Refusal::NoRoom)
 }
 
 // A float by the bits of binary64, in four bytes where binary32 holds it.
@@ -98,7 +100,11 @@ pub extern "C" fn gm_write_f64(
     ensures { λ r. ⌜ enteredAs r (now (state .exit)) (now (buf .exit))
         ≡ entered (callOf (gmWriteF64 (now (annotations .entry)) bits)) (now (state .entry)) (now (buf .entry)) ⌝ }
 {
-    write_scalar(state, buf, annotations, Scalar::F64Bits(bits))
+    if !state_bytes::value_passes(state, buf.len()) {
+        return entry_numbers::answered(state_bytes::value_place(state, buf.len()));
+    }
+    let put = values::write_f64(buf, state_bytes::used(state), annotations, bits);
+    entry_steps::ended(state, put, false, Refusal::NoRoom)
 }
 
 // A timestamp by its local fields and its offset.
@@ -176,5 +182,9 @@ pub extern "C" fn gm_write_symbol(
     ensures { λ r. ⌜ enteredAs r (now (state .exit)) (now (buf .exit))
         ≡ entered (callOf (gmWriteSymbol (now (annotations .entry)) sid)) (now (state .entry)) (now (buf .entry)) ⌝ }
 {
-    write_scalar(state, buf, annotations, Scalar::Symbol(sid))
+    if !state_bytes::value_passes(state, buf.len()) {
+        return entry_numbers::answered(state_bytes::value_place(state, buf.len()));
+    }
+    let put = values::write_symbol(buf, state_bytes::used(state), annotations, sid);
+    entry_steps::ended(state, put, false, Refusal::NoRoom)
 }

@@ -6,14 +6,17 @@ ghost use mathlib.Core.List.{List};
 ghost use Prim.Native.Nat.{ℕ, _*_, _/_, _<_};
 ghost use lib.ListN.{length};
 ghost use Rattle.encoding.specs.Headers.{framedBytes, annotatedBytes};
-ghost use Rattle.encoding.specs.Argument.{checkedBytes, writeInt, writeDecimal, writeString, writeClob, writeBlob};
+ghost use Rattle.encoding.specs.Argument.{checkedBytes, writeNull, writeBool, writeI64, writeInt, writeF32, writeF64, writeDecimal};
+ghost use Rattle.encoding.specs.Argument.{writeSymbol, writeString, writeClob, writeBlob};
 ghost use Rattle.buffer.specs.Laid.{placed};
 ghost use Rattle.annotations.specs.Sids.{sidsOf};
 ghost use Rattle.annotations.specs.Prefix.{placedBefore};
 ghost use Rattle.timestamp.specs.Arguments.{argumentOf};
-ghost use Rattle.scalars.specs.Types.{scalarArgument};
+ghost use Rattle.scalars.specs.Types.{typeOf, scalarArgument};
 ghost use Rattle.values.specs.Values.{annotatedChecked, prefixFor, placedWrapper};
+pub use scalars::IonType;
 use scalars::Scalar;
+pub use scalars::is_negative_zero;
 use timestamp::Timestamp;
 
 const STRING: u8 = 0x80;
@@ -72,6 +75,36 @@ fn write_bytes(buf: &mut [u8], at: usize, annotations: &[u8], code: u8, bytes: &
     wrapper + scalars::write_bytes(buf, at + wrapper, code, bytes)
 }
 
+pub fn write_null(buf: &mut [u8], at: usize, annotations: &[u8], t: IonType) -> usize
+    ensures { λ r. ⌜ _≡_ {A = ℕ × List ℕ} (r, now (buf .exit))
+        (placed (now (buf .entry)) at (annotatedChecked (sidsOf (now (annotations .entry))) (writeNull (typeOf t)))) ⌝ }
+{
+    if annotations.len() == 0 {
+        return scalars::write_null(buf, at, t);
+    }
+    annotated(buf, at, annotations, Scalar::Null(t))
+}
+
+pub fn write_bool(buf: &mut [u8], at: usize, annotations: &[u8], value: bool) -> usize
+    ensures { λ r. ⌜ _≡_ {A = ℕ × List ℕ} (r, now (buf .exit))
+        (placed (now (buf .entry)) at (annotatedChecked (sidsOf (now (annotations .entry))) (writeBool value))) ⌝ }
+{
+    if annotations.len() == 0 {
+        return scalars::write_bool(buf, at, value);
+    }
+    annotated(buf, at, annotations, Scalar::Bool(value))
+}
+
+pub fn write_i64(buf: &mut [u8], at: usize, annotations: &[u8], value: i64) -> usize
+    ensures { λ r. ⌜ _≡_ {A = ℕ × List ℕ} (r, now (buf .exit))
+        (placed (now (buf .entry)) at (annotatedChecked (sidsOf (now (annotations .entry))) (writeI64 value))) ⌝ }
+{
+    if annotations.len() == 0 {
+        return scalars::write_i64(buf, at, value);
+    }
+    annotated(buf, at, annotations, Scalar::I64(value))
+}
+
 // The sign and a big-endian magnitude. Negative zero is refused.
 pub fn write_int(
     buf: &mut [u8],
@@ -91,6 +124,28 @@ pub fn write_int(
         return 0;
     }
     wrapper + scalars::write_int(buf, at + wrapper, negative, magnitude)
+}
+
+// An f32 by its bits.
+pub fn write_f32(buf: &mut [u8], at: usize, annotations: &[u8], bits: u32) -> usize
+    ensures { λ r. ⌜ _≡_ {A = ℕ × List ℕ} (r, now (buf .exit))
+        (placed (now (buf .entry)) at (annotatedChecked (sidsOf (now (annotations .entry))) (writeF32 bits))) ⌝ }
+{
+    if annotations.len() == 0 {
+        return floats::write_f32_bits(buf, at, bits);
+    }
+    annotated(buf, at, annotations, Scalar::F32Bits(bits))
+}
+
+// An f64 by its bits.
+pub fn write_f64(buf: &mut [u8], at: usize, annotations: &[u8], bits: u64) -> usize
+    ensures { λ r. ⌜ _≡_ {A = ℕ × List ℕ} (r, now (buf .exit))
+        (placed (now (buf .entry)) at (annotatedChecked (sidsOf (now (annotations .entry))) (writeF64 bits))) ⌝ }
+{
+    if annotations.len() == 0 {
+        return floats::write_f64_bits(buf, at, bits);
+    }
+    annotated(buf, at, annotations, Scalar::F64Bits(bits))
 }
 
 // The sign and the big-endian magnitude of the coefficient, and the exponent. A body over 32 bytes is refused.
@@ -141,6 +196,16 @@ pub fn write_timestamp(buf: &mut [u8], at: usize, annotations: &[u8], value: Tim
         return 0;
     }
     wrapper + timestamp::write(buf, at + wrapper, value)
+}
+
+pub fn write_symbol(buf: &mut [u8], at: usize, annotations: &[u8], sid: u64) -> usize
+    ensures { λ r. ⌜ _≡_ {A = ℕ × List ℕ} (r, now (buf .exit))
+        (placed (now (buf .entry)) at (annotatedChecked (sidsOf (now (annotations .entry))) (writeSymbol sid))) ⌝ }
+{
+    if annotations.len() == 0 {
+        return scalars::write_symbol(buf, at, sid);
+    }
+    annotated(buf, at, annotations, Scalar::Symbol(sid))
 }
 
 // Bytes that are not UTF-8 are refused.
