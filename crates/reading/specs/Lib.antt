@@ -1,0 +1,7 @@
+pub mod Refusals
+pub mod Headers
+pub mod Scalars
+pub mod Bodies
+pub mod Items
+pub mod Walk
+pub mod Exact
