@@ -1,7 +1,7 @@
 -- `read_header::frame` meets its contract: a length that the type never has, a body that the bytes cut, or the body.
 -- Assumes nothing.
 use native.Mathlib.Omega.{arith}
-use mathlib.Core.Path.{_≡_, sym, _∙_}
+use mathlib.Core.Path.{sym, _∙_}
 use borrow.Author.Needs.{needs}
 use Rattle.read_header.proofs.Headers.{framed-never, framed-cut, framed-whole}
 use Rattle.read_header.proofs.frame.Statement.{statement}
