@@ -132,8 +132,23 @@ pub fn answer_item(item: Item, at: usize, lent: &mut [u64]) -> u8
     match item {
         Item::No(refusal) => number_of(refusal),
         Item::End => accept_six(lent, 0, at as u64, at as u64, NO_MORE, at as u64, at as u64),
-        Item::Is { name, sids, sids_end, kind, start, stop } => {
-            accept_six(lent, name, sids as u64, sids_end as u64, kind as u64, start as u64, stop as u64)
+        Item::Is {
+            name,
+            sids,
+            sids_end,
+            kind,
+            start,
+            stop,
+        } => {
+            accept_six(
+                lent,
+                name,
+                sids as u64,
+                sids_end as u64,
+                kind as u64,
+                start as u64,
+                stop as u64,
+            )
         }
     }
 }
@@ -161,7 +176,11 @@ pub fn answer_decimal(decimal: Decimal, lent: &mut [u64]) -> u8
 {
     match decimal {
         Decimal::No(refusal) => number_of(refusal),
-        Decimal::Is { negative, exponent, coefficient } => accept_three(lent, bit_of(negative), exponent, coefficient as u64),
+        Decimal::Is {
+            negative,
+            exponent,
+            coefficient,
+        } => accept_three(lent, bit_of(negative), exponent, coefficient as u64),
     }
 }
 
@@ -170,7 +189,20 @@ pub fn answer_timestamp(timestamp: Timestamp, lent: &mut [u64]) -> u8
 {
     match timestamp {
         Timestamp::No(refusal) => number_of(refusal),
-        Timestamp::Is { known, negative, offset, count, year, month, day, hour, minute, second, digits, coefficient } => accept_twelve(
+        Timestamp::Is {
+            known,
+            negative,
+            offset,
+            count,
+            year,
+            month,
+            day,
+            hour,
+            minute,
+            second,
+            digits,
+            coefficient,
+        } => accept_twelve(
             lent,
             bit_of(known),
             bit_of(negative),

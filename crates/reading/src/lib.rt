@@ -22,14 +22,27 @@ pub enum Header {
 
 // Where the sids of a wrapper start and stop, and the header of the value that it wraps. A value without wrapper has no sids: they start and stop with its body.
 pub enum Wrapped {
-    Is { sids: usize, sids_end: usize, kind: u8, start: usize, stop: usize },
+    Is {
+        sids: usize,
+        sids_end: usize,
+        kind: u8,
+        start: usize,
+        stop: usize,
+    },
     No(Refusal),
 }
 
 // What stands at a place: its name (0 where there are none), its annotations' sids, its type byte and its body. The next item stands at `stop`.
 // A NOP pad has a type byte below 0F; a version marker has E0 and no body. At the end of what is read there is nothing.
 pub enum Item {
-    Is { name: u64, sids: usize, sids_end: usize, kind: u8, start: usize, stop: usize },
+    Is {
+        name: u64,
+        sids: usize,
+        sids_end: usize,
+        kind: u8,
+        start: usize,
+        stop: usize,
+    },
     End,
     No(Refusal),
 }
@@ -48,7 +61,11 @@ pub enum Value {
 
 // A decimal's body: the exponent, as a sign and a magnitude, and where in the body the coefficient starts, an Int.
 pub enum Decimal {
-    Is { negative: bool, exponent: u64, coefficient: usize },
+    Is {
+        negative: bool,
+        exponent: u64,
+        coefficient: usize,
+    },
     No(Refusal),
 }
 
