@@ -1,0 +1,18 @@
+-- What a list of calls spells comes back when its bytes are read (document 02, Item 1): the statements over the machine. The proofs are in proofs/.
+-- Assumes nothing.
+use Prim.Native.Nat.{ℕ, _≤_}
+use mathlib.Core.Path.{_≡_}
+use mathlib.Core.List.{List}
+use Rattle.machine.specs.Call.{Call, AllTyped}
+use Rattle.machine.specs.Machine.{started}
+use Rattle.machine.specs.Demands.{joined, spelled, Run}
+use Rattle.reading.specs.Items.{mostOpen}
+use Rattle.reading.specs.Walk.{streamEvents, streamDepth, shows, walk}
+
+-- What the machine spells has at most 32 containers open at once, whatever the buffer and whatever is left open.
+abbrev pub SpelledDepth : Type 0
+SpelledDepth = (cs : List Call) (buffer : List ℕ) → streamDepth (spelled cs buffer) ≤ mostOpen
+
+-- Of calls with arguments of their types, the joined bytes are walked to their end and show what was spelled.
+abbrev pub ReadBack : Type 0
+ReadBack = (cs : List Call) (buffer : List ℕ) → Run cs buffer → AllTyped cs → walk (joined cs (started buffer)) 0 ≡ shows (streamEvents (spelled cs buffer))
