@@ -1,0 +1,52 @@
+-- Reading back, of the machine's instance and of the same calls as a host makes them: what the walk shows of their joined bytes, written out.
+-- Assumes nothing.
+use Prim.Native.Nat.{ℕ}
+use mathlib.Core.Path.{_≡_, refl, sym, _∙_, ap, ap₂, subst₂}
+use mathlib.Core.Bool.{true, false}
+use mathlib.Core.List.{List, [], _∷_, _++_}
+use mathlib.Core.Option.{none, some}
+use lib.IntN.{pos, negsuc}
+use lib.Ieee.{ofBits}
+use Rattle.ion.specs.Value.{Scalar, Item, ionList, ionSexp, ionStruct, notANumber, infinite, signed, fraction, null, bool, int, float, decimal, timestamp, symbol, string, clob, blob}
+use Rattle.ion.specs.Fields.{bigEndian, groups, varUInt, varUInts, varInt, intField}
+use Rattle.ion.specs.Text.{begun, utf8From, utf8}
+use Rattle.ion.specs.Scalars.{floatOf, decimalOf, timestampOf, areFields, fractionOf, fractionAt, scalarOf}
+use Rattle.machine.proofs.Instances.{most, nines, limits, run, typed, joined-bytes, spelled-items, bytes, items}
+use Rattle.reading.specs.Headers.{varUIntFrom, varUIntAt, headerAt, marked, markerAt, topHeaderAt}
+use Rattle.reading.specs.Scalars.{codeFrom, bodyOf, scalarIn, sidsOf}
+use Rattle.reading.specs.Items.{wrappedAt, itemAt}
+use Rattle.reading.specs.Walk.{Event, marker, leaf, begins, ends, treeEvents, streamEvents, shows, walkFrom, walkIn, walk}
+
+abbrev pub events : List Event
+events =
+    marker
+    ∷ leaf none [] (null ionList)
+    ∷ begins none (most ∷ []) ionStruct
+    ∷ leaf (some most) (10 ∷ []) (int (negsuc 0x7FFFFFFFFFFFFFFF))
+    ∷ begins (some 5) [] ionList
+    ∷ leaf none [] (int (negsuc 254))
+    ∷ leaf none [] (float notANumber)
+    ∷ leaf none [] (float (infinite false))
+    ∷ leaf none [] (float notANumber)
+    ∷ leaf none [] (decimal (signed true 0x80) (negsuc 0x7FFFFFFFFFFFFFFF))
+    ∷ ends
+    ∷ leaf (some 6) [] (timestamp (some (pos 1439)) (1 ∷ 1 ∷ 1 ∷ 0 ∷ 1 ∷ 0 ∷ []) (fraction 18 999999999999999999))
+    ∷ leaf (some 7) [] (symbol most)
+    ∷ ends
+    ∷ marker
+    ∷ leaf none [] (string (0xC3 ∷ 0xA9 ∷ []))
+    ∷ leaf none [] (clob (0xFF ∷ []))
+    ∷ leaf none [] (blob (0 ∷ []))
+    ∷ begins none [] ionSexp
+    ∷ leaf none [] (bool true)
+    ∷ ends
+    ∷ []
+
+events-are : streamEvents items ≡ events
+unfolding streamEvents treeEvents
+events-are = refl
+
+-- by computing, without the theorem
+computed : walk bytes 0 ≡ shows events
+unfolding walkIn walkFrom itemAt wrappedAt sidsOf varUInts varUInt groups scalarIn bodyOf codeFrom headerAt topHeaderAt markerAt marked varUIntAt varUIntFrom scalarOf bigEndian utf8 utf8From begun floatOf ofBits decimalOf timestampOf areFields fractionOf fractionAt varInt intField
+computed = refl
