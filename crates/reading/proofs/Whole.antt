@@ -1,0 +1,135 @@
+-- What a body's answer tells is the scalar, whole: the parts that `decimalIn`, `timestampIn` and `symbolIn` name, put together, are what the grammar reads.
+-- Assumes nothing.
+use Prim.Native.Nat.{ℕ, zero, suc, _+_, _-_, _*_, _%_, _^_}
+use native.Mathlib.Omega.{arith}
+use mathlib.Core.Path.{_≡_, refl, sym, _∙_, ap}
+use mathlib.Core.Bool.{Bool, true, false, true≢false, false≢true, cond, _&&_}
+use mathlib.Core.List.{List, [], _∷_, _++_, append-assoc}
+use mathlib.Core.Option.{Option, none, some}
+use lib.Dec.{ltb, eqb}
+use lib.ListN.{length, take, drop, getD, length-append}
+use lib.Seq.{drop-at}
+use borrow.Author.Tests.{eqb-true}
+use Rattle.ion.specs.Value.{decimalCode, timestampCode, symbolCode, Signed, signed, Fraction, noFraction, fraction, Scalar, decimal, timestamp, symbol}
+use Rattle.ion.specs.Chain.{_>>=_, check}
+use Rattle.ion.specs.Fields.{uint, intField, groups, inU64, varUInt, varUInts, isI64, giveSign, varInt, number}
+use Rattle.ion.specs.Fields.{isNegative as signAt}
+use Rattle.ion.specs.Scalars.{offsetOf, areFields, fractionOf, fractionAt, decimalOf, timestampOf, scalarOf}
+use Rattle.ion.proofs.Tests.{by-cases}
+use Rattle.reading.specs.declared.Refusal.{Refusal}
+use Rattle.reading.specs.declared.Refusal.the-variants.{NotIon}
+use Rattle.reading.specs.declared.Decimal.{Decimal}
+use Rattle.reading.specs.declared.Decimal.the-variants as D
+use Rattle.reading.specs.declared.Timestamp.{Timestamp}
+use Rattle.reading.specs.declared.Timestamp.the-variants as T
+use Rattle.reading.specs.declared.Symbol.{Symbol}
+use Rattle.reading.specs.declared.Symbol.the-variants as S
+use Rattle.reading.specs.Scalars.{isSome}
+use Rattle.reading.specs.Bodies.{isNegative, magnitude, decimalFrom, decimalIn, isKnown, stamped, fractioned, exponentFrom, fractionFrom, fieldsFrom, offsetFrom, timestampIn, symbolIn}
+
+-- ---- what an answer about the body b tells
+
+abbrev pub decimalTold : List ℕ → Decimal → Option Scalar
+decimalTold b (D.Is negative exponent coefficient) = some (decimal (intField (drop coefficient b)) (number (signed negative exponent)))
+decimalTold b (D.No r) = none
+
+-- the digits that a fraction has, and the bytes of their coefficient
+abbrev pub fractionIn : ℕ → List ℕ → Fraction
+fractionIn zero bs = noFraction
+fractionIn (suc k) bs = fraction (suc k) (magnitude (intField bs))
+
+abbrev pub timestampTold : List ℕ → Timestamp → Option Scalar
+timestampTold b (T.Is known negative offset count year month day hour minute second digits coefficient) =
+    some (timestamp (offsetOf (signed negative offset))
+    (take count (year ∷ month ∷ day ∷ hour ∷ minute ∷ second ∷ []))
+    (fractionIn digits (drop coefficient b)))
+timestampTold b (T.No r) = none
+
+abbrev pub symbolTold : Symbol → Option Scalar
+symbolTold (S.Is n) = some (symbol n)
+symbolTold (S.No r) = none
+
+-- ---- the bytes behind a field end the body
+
+module _ {A : Type 0} where
+  abbrev Ends : List ℕ → Option (A × List ℕ) → Type 0
+  Ends b none = Unit {0}
+  Ends b (some x) = (l : List ℕ) × (b ≡ l ++ x .1)
+
+  ends-next : (c : ℕ) (bs : List ℕ) (x : Option (A × List ℕ)) → Ends bs x → Ends (c ∷ bs) x
+  ends-next c bs none h = tt
+  ends-next c bs (some x) h = (c ∷ h .0, ap (c ∷_) (h .1))
+
+  ends-check : (b : List ℕ) (t : Bool) (x : A × List ℕ) → Ends b (some x) → Ends b (check t (some x))
+  ends-check b true x h = h
+  ends-check b false x h = tt
+
+-- behind a part of the bytes
+ends-behind : {A : Type 0} (b l r : List ℕ) (x : Option (A × List ℕ)) → b ≡ l ++ r → Ends r x → Ends b x
+ends-behind b l r none e h = tt
+ends-behind b l r (some x) e h = (l ++ h .0, e ∙ ap (λ (y : List ℕ). l ++ y) (h .1) ∙ sym (append-assoc l (h .0) (x .1)))
+
+-- and stand where the length of the rest says
+ends-at : (b l r : List ℕ) → b ≡ l ++ r → drop (length b - length r) b ≡ r
+ends-at b l r e = rw e (drop-at l r (length (l ++ r) - length r) (omega (arith, length-append l r)))
+
+groups-ends : (acc : ℕ) (b : List ℕ) → Ends b (groups acc b)
+unfolding groups
+groups-ends acc [] = tt
+groups-ends acc (c ∷ bs) =
+    by-cases (ltb c 0x80)
+    (λ p. rw (p, groups) (ends-next c bs (groups (acc * 128 + c) bs) (groups-ends (acc * 128 + c) bs)))
+    (λ p. rw (p, groups) (c ∷ [], refl))
+
+varUInt-ends : (b : List ℕ) → Ends b (varUInt b)
+unfolding varUInt
+varUInt-ends b = on (groups 0 b) (groups-ends 0 b)
+  where
+    on : (x : Option (ℕ × List ℕ)) → Ends b x → Ends b (inU64 x)
+    on none h = tt
+    on (some x) h = ends-check b (ltb (x .0) (2 ^ 64)) x h
+
+varInt-ends : (b : List ℕ) → Ends b (varInt b)
+unfolding varInt
+varInt-ends [] = tt
+varInt-ends (c ∷ bs) =
+    by-cases (ltb c 0x80)
+    (λ p. rw (p, varInt) (on (groups (c % 64) bs) (ends-next c bs (groups (c % 64) bs) (groups-ends (c % 64) bs))))
+    (λ p. rw (p, varInt) (on (some (c % 64, bs)) (c ∷ [], refl)))
+  where
+    on : (x : Option (ℕ × List ℕ)) → Ends (c ∷ bs) x → Ends (c ∷ bs) (giveSign (signAt c) x)
+    on none h = tt
+    on (some x) h = ends-check (c ∷ bs) (isI64 (signed (signAt c) (x .0))) (signed (signAt c) (x .0), x .1) h
+
+varUInts-ends : (n : ℕ) (b : List ℕ) → Ends b (varUInts n b)
+unfolding varUInts
+varUInts-ends zero b = ([], refl)
+varUInts-ends (suc n) [] = ([], refl)
+varUInts-ends (suc n) (c ∷ bs) = first (varUInt (c ∷ bs)) (varUInt-ends (c ∷ bs)) (λ r. varUInts-ends n r)
+  where
+    rest : (k : ℕ) (x : Option (List ℕ × List ℕ)) → Ends (c ∷ bs) x → Ends (c ∷ bs) (x >>= λ y. some (k ∷ y .0, y .1))
+    rest k none h = tt
+    rest k (some y) h = h
+
+    first : (x : Option (ℕ × List ℕ)) → Ends (c ∷ bs) x → ((r : List ℕ) → Ends r (varUInts n r))
+        → Ends (c ∷ bs) (x >>= λ x. varUInts n (x .1) >>= λ y. some (x .0 ∷ y .0, y .1))
+    first none h go = tt
+    first (some x) h go = rest (x .0) (varUInts n (x .1)) (ends-behind (c ∷ bs) (h .0) (x .1) (varUInts n (x .1)) (h .1) (go (x .1)))
+
+-- ---- decimals
+
+pub decimal-whole : (b : List ℕ) → scalarOf decimalCode b ≡ decimalTold b (decimalIn b)
+unfolding scalarOf decimalOf decimalIn intField
+decimal-whole [] = refl
+decimal-whole (c ∷ bs) = on (varInt (c ∷ bs)) (varInt-ends (c ∷ bs))
+  where
+    on : (x : Option (Signed × List ℕ)) → Ends (c ∷ bs) x
+        → (x >>= λ e. some (decimal (intField (e .1)) (number (e .0)))) ≡ decimalTold (c ∷ bs) (decimalFrom (length (c ∷ bs)) x)
+    on none h = refl
+    on (some (signed s n, r)) h = rw (ends-at (c ∷ bs) (h .0) r (h .1))
+
+-- ---- symbols
+
+pub symbol-whole : (b : List ℕ) → scalarOf symbolCode b ≡ symbolTold (symbolIn b)
+unfolding scalarOf symbolIn
+symbol-whole b = by-cases (ltb (uint b) (2 ^ 64)) (λ p. rw p) (λ p. rw p)
