@@ -133,3 +133,35 @@ decimal-whole (c ∷ bs) = on (varInt (c ∷ bs)) (varInt-ends (c ∷ bs))
 pub symbol-whole : (b : List ℕ) → scalarOf symbolCode b ≡ symbolTold (symbolIn b)
 unfolding scalarOf symbolIn
 symbol-whole b = by-cases (ltb (uint b) (2 ^ 64)) (λ p. rw p) (λ p. rw p)
+
+-- ---- timestamps
+
+-- the fields that a calendar time can have are six at most
+fields-told : (f : List ℕ) → areFields f ≡ true
+    → take (length f) (getD f 0 0 ∷ getD f 1 0 ∷ getD f 2 0 ∷ getD f 3 0 ∷ getD f 4 0 ∷ getD f 5 0 ∷ []) ≡ f
+unfolding areFields
+fields-told [] e = refl
+fields-told (y ∷ []) e = refl
+fields-told (y ∷ m ∷ []) e = refl
+fields-told (y ∷ m ∷ d ∷ []) e = refl
+fields-told (y ∷ m ∷ d ∷ h ∷ []) e = refl
+fields-told (y ∷ m ∷ d ∷ h ∷ i ∷ []) e = refl
+fields-told (y ∷ m ∷ d ∷ h ∷ i ∷ s ∷ []) e = refl
+fields-told (y ∷ m ∷ d ∷ h ∷ i ∷ s ∷ x ∷ r) e = absurd (false≢true e)
+
+-- the digits of a fraction are as many as its exponent says, and the number that they make is the coefficient's magnitude
+abbrev Fractions : Signed → Option Fraction → Type 0
+Fractions c none = Unit {0}
+Fractions c (some noFraction) = Unit {0}
+Fractions c (some (fraction k n)) = (j : ℕ) × (k ≡ suc j) × (n ≡ magnitude c)
+
+fractions-check : (c : Signed) {t : Bool} (x : Fraction) → (t ≡ true → Fractions c (some x)) → Fractions c (check t (some x))
+fractions-check c {t = true} x h = h refl
+fractions-check c {t = false} x h = tt
+
+fraction-told : (e c : Signed) → Fractions c (fractionOf e c)
+unfolding fractionOf
+fraction-told (signed false e) (signed s c) = fractions-check (signed s c) noFraction (λ p. tt)
+fraction-told (signed true zero) (signed s c) = fractions-check (signed s c) noFraction (λ p. tt)
+fraction-told (signed true (suc e)) (signed false c) = fractions-check (signed false c) (fraction (suc e) c) (λ p. (e, refl, refl))
+fraction-told (signed true (suc e)) (signed true c) = fractions-check (signed true c) (fraction (suc e) 0) (λ p. (e, refl, sym (eqb-true c 0 p)))
