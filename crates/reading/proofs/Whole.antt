@@ -2,8 +2,8 @@
 -- Assumes nothing.
 use Prim.Native.Nat.{ℕ, zero, suc, _+_, _-_, _*_, _%_, _^_}
 use native.Mathlib.Omega.{arith}
-use mathlib.Core.Path.{_≡_, refl, sym, _∙_, ap, subst}
-use mathlib.Core.Bool.{Bool, true, false, true≢false, false≢true, cond, _&&_}
+use mathlib.Core.Path.{_≡_, refl, sym, _∙_, ap, ap₂, subst}
+use mathlib.Core.Bool.{Bool, true, false, false≢true, _&&_}
 use mathlib.Core.List.{List, [], _∷_, _++_, append-assoc}
 use mathlib.Core.Option.{Option, none, some}
 use lib.Dec.{ltb, eqb}
@@ -17,7 +17,6 @@ use Rattle.ion.specs.Fields.{isNegative as signAt}
 use Rattle.ion.specs.Scalars.{offsetOf, areFields, isCoefficient, fractionOf, fractionAt, decimalOf, timestampOf, scalarOf}
 use Rattle.ion.proofs.Tests.{by-cases}
 use Rattle.reading.specs.declared.Refusal.{Refusal}
-use Rattle.reading.specs.declared.Refusal.the-variants.{NotIon}
 use Rattle.reading.specs.declared.Decimal.{Decimal}
 use Rattle.reading.specs.declared.Decimal.the-variants as D
 use Rattle.reading.specs.declared.Timestamp.{Timestamp}
@@ -25,7 +24,7 @@ use Rattle.reading.specs.declared.Timestamp.the-variants as T
 use Rattle.reading.specs.declared.Symbol.{Symbol}
 use Rattle.reading.specs.declared.Symbol.the-variants as S
 use Rattle.reading.specs.Scalars.{isSome}
-use Rattle.reading.specs.Bodies.{isNegative, magnitude, decimalFrom, decimalIn, isKnown, stamped, fractioned, exponentFrom, fractionFrom, fieldsFrom, offsetFrom, timestampIn, symbolIn}
+use Rattle.reading.specs.Bodies.{magnitude, decimalFrom, decimalIn, stamped, fractioned, exponentFrom, fractionFrom, fieldsFrom, offsetFrom, timestampIn, symbolIn}
 
 -- ---- what an answer about the body b tells
 
@@ -126,7 +125,7 @@ decimal-whole (c ∷ bs) = on (varInt (c ∷ bs)) (varInt-ends (c ∷ bs))
     on : (x : Option (Signed × List ℕ)) → Ends (c ∷ bs) x
         → (x >>= λ e. some (decimal (intField (e .1)) (number (e .0)))) ≡ decimalTold (c ∷ bs) (decimalFrom (length (c ∷ bs)) x)
     on none h = refl
-    on (some (signed s n, r)) h = rw (ends-at (c ∷ bs) (h .0) r (h .1))
+    on (some (signed s n, r)) h = ap (λ (l : List ℕ). some (decimal (intField l) (number (signed s n)))) (sym (ends-at (c ∷ bs) (h .0) r (h .1)))
 
 -- ---- symbols
 
@@ -173,7 +172,7 @@ module _ (b : List ℕ) (o : Signed) (f : List ℕ) (is : areFields f ≡ true) 
   stamped-told k c x e = on o
     where
       on : (o : Signed) → some (timestamp (offsetOf o) f x) ≡ timestampTold b (stamped o f k c)
-      on (signed s n) = rw (fields-told f is, e)
+      on (signed s n) = ap₂ (λ (l : List ℕ) (y : Fraction). some (timestamp (offsetOf (signed s n)) l y)) (sym (fields-told f is)) e
 
   fractioned-told : (r : List ℕ) (x : Option Fraction) → drop (length b - length r) b ≡ r → Fractions (intField r) x
       → (x >>= λ y. some (timestamp (offsetOf o) f y)) ≡ timestampTold b (fractioned (length b) o f (length r) x)

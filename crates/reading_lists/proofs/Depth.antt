@@ -1,16 +1,15 @@
 -- What the machine spells has at most 32 containers open at once: each open container holds no more than the 32 leave under it, since an opening with
 -- 32 open is refused. By induction over the list of calls, refused ones included.
 -- Assumes nothing.
-use Prim.Native.Nat.{ℕ, zero, suc, _+_, _-_, _<_, _≤_}
+use Prim.Native.Nat.{ℕ, suc, _+_, _-_, _<_, _≤_}
 use native.Mathlib.Omega.{arith}
-use mathlib.Core.Path.{_≡_, refl, sym, _∙_, ap}
-use mathlib.Core.Bool.{Bool, true, false}
+use mathlib.Core.Path.{_≡_, refl}
 use mathlib.Core.List.{List, [], _∷_, _++_}
 use mathlib.Core.Option.{Option, none, some}
 use lib.Dec.{leb}
 use lib.ListN.{length}
 use borrow.Author.Tests.{leb-false, leb-true}
-use Rattle.ion.specs.Value.{Tree, scalar, sequence, struct, Members, noMembers, member, Fields, noFields, field, Item, marker, value, Scalar}
+use Rattle.ion.specs.Value.{Scalar, Tree, scalar, Members, noMembers, member, Fields, noFields, field, Item, marker, value}
 use Rattle.ion.proofs.Tests.{by-cases}
 use Rattle.encoding.specs.Headers.{markerBytes}
 use Rattle.encoding.specs.Argument.{Argument, meaning}

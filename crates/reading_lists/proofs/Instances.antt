@@ -1,21 +1,25 @@
 -- Reading back, of the machine's instance and of the same calls as a host makes them: what the walk shows of their joined bytes, written out.
 -- Assumes nothing.
 use Prim.Native.Nat.{ℕ}
-use mathlib.Core.Path.{_≡_, refl, sym, _∙_, ap, ap₂, subst₂}
+use mathlib.Core.Path.{_≡_, refl, _∙_, ap, subst₂}
 use mathlib.Core.Bool.{true, false}
-use mathlib.Core.List.{List, [], _∷_, _++_}
+use mathlib.Core.List.{List, [], _∷_}
 use mathlib.Core.Option.{none, some}
 use lib.IntN.{pos, negsuc}
 use lib.Ieee.{ofBits}
 use Rattle.ion.specs.Value.{Scalar, Item, ionList, ionSexp, ionStruct, notANumber, infinite, signed, fraction, null, bool, int, float, decimal, timestamp, symbol, string, clob, blob}
 use Rattle.ion.specs.Fields.{bigEndian, groups, varUInt, varUInts, varInt, intField}
 use Rattle.ion.specs.Text.{begun, utf8From, utf8}
-use Rattle.ion.specs.Scalars.{floatOf, decimalOf, timestampOf, areFields, fractionOf, fractionAt, scalarOf}
-use Rattle.machine.proofs.Instances.{most, nines, limits, run, typed, joined-bytes, spelled-items, bytes, items}
+use Rattle.ion.specs.Scalars.{floatOf, decimalOf, timestampOf, areFields, isCoefficient, fractionOf, fractionAt, scalarOf}
+use Rattle.machine.proofs.Instances.{most, nines, limits, run, typed, bytes, joined-bytes, items, spelled-items}
+use Rattle.entry_lists.proofs.Instances.{hostLimits, sevens}
+use Rattle.entry_lists.proofs.Instances.{limits as host}
 use Rattle.reading.specs.Headers.{varUIntFrom, varUIntAt, headerAt, marked, markerAt, topHeaderAt}
 use Rattle.reading.specs.Scalars.{codeFrom, bodyOf, scalarIn, sidsOf}
 use Rattle.reading.specs.Items.{wrappedAt, itemAt}
 use Rattle.reading.specs.Walk.{Event, marker, leaf, begins, ends, treeEvents, streamEvents, shows, walkFrom, walkIn, walk}
+use Rattle.reading.specs.Exact.{ReadingIsWalked}
+use Rattle.reading_lists.proofs.ReadBack.{read-back-by, host-read-back-by}
 
 abbrev pub events : List Event
 events =
@@ -46,7 +50,17 @@ events-are : streamEvents items ≡ events
 unfolding streamEvents treeEvents
 events-are = refl
 
--- by computing, without the theorem
+-- the walk over these bytes shows these items
+abbrev Shown : List ℕ → List (Item Scalar) → Type 0
+Shown b is = walk b 0 ≡ shows (streamEvents is)
+
+read-back-shown : ReadingIsWalked → walk bytes 0 ≡ shows events
+read-back-shown walked = subst₂ Shown joined-bytes spelled-items (read-back-by walked limits nines run typed) ∙ ap shows events-are
+
+host-read-back-shown : ReadingIsWalked → walk bytes 0 ≡ shows events
+host-read-back-shown walked = subst₂ Shown (host .joined) (host .spelled) (host-read-back-by walked hostLimits sevens nines (host .run)) ∙ ap shows events-are
+
+-- the same by computing, without the theorem
 computed : walk bytes 0 ≡ shows events
-unfolding walkIn walkFrom itemAt wrappedAt sidsOf varUInts varUInt groups scalarIn bodyOf codeFrom headerAt topHeaderAt markerAt marked varUIntAt varUIntFrom scalarOf bigEndian utf8 utf8From begun floatOf ofBits decimalOf timestampOf areFields fractionOf fractionAt varInt intField
+unfolding walkIn walkFrom itemAt wrappedAt sidsOf varUInts varUInt groups scalarIn bodyOf codeFrom headerAt topHeaderAt markerAt marked varUIntAt varUIntFrom scalarOf bigEndian utf8 utf8From begun floatOf ofBits decimalOf timestampOf areFields isCoefficient fractionOf fractionAt varInt intField
 computed = refl
