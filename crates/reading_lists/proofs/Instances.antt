@@ -1,23 +1,30 @@
 -- Reading back, of the machine's instance and of the same calls as a host makes them: what the walk shows of their joined bytes, written out.
 -- Assumes nothing.
-use Prim.Native.Nat.{ℕ}
+use Prim.Native.Nat.{ℕ, zero, suc}
 use mathlib.Core.Path.{_≡_, refl, _∙_, ap, subst₂}
 use mathlib.Core.Bool.{true, false}
-use mathlib.Core.List.{List, [], _∷_}
+use mathlib.Core.List.{List, [], _∷_, _++_}
 use mathlib.Core.Option.{none, some}
+use lib.ListN.{replicate}
 use lib.IntN.{pos, negsuc}
 use lib.Ieee.{ofBits}
-use Rattle.ion.specs.Value.{Scalar, Item, ionList, ionSexp, ionStruct, notANumber, infinite, signed, fraction, null, bool, int, float, decimal, timestamp, symbol, string, clob, blob}
+use Rattle.ion.specs.Value.{list, Scalar, Item, ionList, ionSexp, ionStruct, notANumber, infinite, signed, fraction, null, bool, int, float, decimal, timestamp, symbol, string, clob, blob}
 use Rattle.ion.specs.Fields.{bigEndian, groups, varUInt, varUInts, varInt, intField}
 use Rattle.ion.specs.Text.{begun, utf8From, utf8}
 use Rattle.ion.specs.Scalars.{floatOf, decimalOf, timestampOf, areFields, isCoefficient, fractionOf, fractionAt, scalarOf}
+use Rattle.encoding.specs.Digits.{lowDigits, countDigits, digitCount, digits}
+use Rattle.encoding.specs.Fields.{varUIntBytes}
+use Rattle.encoding.specs.Headers.{headerBytes, framedBytes}
+use Rattle.machine.specs.Call.{Call, sequenceType, opening, closing, AllTyped}
+use Rattle.machine.specs.Machine.{splice, closedBytes, containerFits, containersFit, fits, verdict, startVerdict, started, finishedLength}
+use Rattle.machine.specs.Demands.{joined, modelAfter, spelled, Run}
 use Rattle.machine.proofs.Instances.{most, nines, limits, run, typed, bytes, joined-bytes, items, spelled-items}
 use Rattle.entry_lists.proofs.Instances.{hostLimits, sevens}
 use Rattle.entry_lists.proofs.Instances.{limits as host}
 use Rattle.reading.specs.Headers.{varUIntFrom, varUIntAt, headerAt, marked, markerAt, topHeaderAt}
 use Rattle.reading.specs.Scalars.{codeFrom, bodyOf, scalarIn, sidsOf}
-use Rattle.reading.specs.Items.{wrappedAt, itemAt}
-use Rattle.reading.specs.Walk.{Event, marker, leaf, begins, ends, treeEvents, streamEvents, shows, walkFrom, walkIn, walk}
+use Rattle.reading.specs.Items.{mostOpen, wrappedAt, itemAt}
+use Rattle.reading.specs.Walk.{Event, marker, leaf, begins, ends, treeEvents, streamEvents, treeDepth, streamDepth, shows, walkFrom, walkIn, walk}
 use Rattle.reading.specs.Exact.{ReadingIsWalked}
 use Rattle.reading_lists.proofs.ReadBack.{read-back-by, host-read-back-by}
 
@@ -64,3 +71,32 @@ host-read-back-shown walked = subst₂ Shown (host .joined) (host .spelled) (hos
 computed : walk bytes 0 ≡ shows events
 unfolding walkIn walkFrom itemAt wrappedAt sidsOf varUInts varUInt groups scalarIn bodyOf codeFrom headerAt topHeaderAt markerAt marked varUIntAt varUIntFrom scalarOf bigEndian utf8 utf8From begun floatOf ofBits decimalOf timestampOf areFields isCoefficient fractionOf fractionAt varInt intField
 computed = refl
+
+-- ---- 32 containers open at once: of 33 openings and 33 closings one each is refused
+
+abbrev deep : List Call
+deep = replicate 33 (opening [] (sequenceType list)) ++ replicate 33 closing
+
+abbrev deepEvents : List Event
+deepEvents = marker ∷ (replicate 32 (begins none [] ionList) ++ replicate 32 ends)
+
+-- what is computed of them
+record Deep : Type 0 where
+  depth : streamDepth (spelled deep nines) ≡ mostOpen
+  run : Run deep nines
+  events : streamEvents (spelled deep nines) ≡ deepEvents
+  shown : walk (joined deep (started nines)) 0 ≡ shows deepEvents
+
+deepest : Deep
+unfolding treeDepth streamDepth treeEvents streamEvents joined modelAfter verdict startVerdict finishedLength fits containerFits containersFit splice closedBytes framedBytes
+    headerBytes varUIntBytes digits digitCount countDigits lowDigits walkIn walkFrom itemAt wrappedAt sidsOf varUInts varUInt groups scalarIn bodyOf codeFrom headerAt
+    topHeaderAt markerAt marked varUIntAt varUIntFrom
+deepest = record { depth = refl; run = record { starts = refl; ends = refl }; events = refl; shown = refl }
+
+all-typed : (n m : ℕ) → AllTyped (replicate n (opening [] (sequenceType list)) ++ replicate m closing)
+all-typed zero zero = tt
+all-typed zero (suc m) = (tt, all-typed zero m)
+all-typed (suc n) m = (tt, all-typed n m)
+
+deep-read-back-shown : ReadingIsWalked → walk (joined deep (started nines)) 0 ≡ shows deepEvents
+deep-read-back-shown walked = read-back-by walked deep nines (deepest .run) (all-typed 33 33) ∙ ap shows (deepest .events)
