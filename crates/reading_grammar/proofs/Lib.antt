@@ -1,2 +1,4 @@
 pub mod Places
 pub mod Numbers
+pub mod TypeBytes
+pub mod Headed

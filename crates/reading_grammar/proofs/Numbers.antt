@@ -119,3 +119,22 @@ sids-many l (sids-next (x ∷ xs) {b} {an} {a} e r) (suc n) h =
 pub sids-found : {l an : List ℕ} → l ⟶ sids an → sidsOf l ≡ some an
 unfolding sidsOf
 sids-found {l} {an} r = rw (sids-many l r (length l) (omega arith))
+
+many-sids : (n : ℕ) (l an r : List ℕ) → varUInts n l ≡ some (an, r) → length l ≤ n → l ⟶ sids an
+unfolding varUInts
+many-sids zero [] an r e h = subst (λ (x : List ℕ). [] ⟶ sids x) (ap (λ (x : List ℕ × List ℕ). x .0) (Option·some-injective ([], []) (an, r) e)) sids-end
+many-sids zero (b ∷ bs) an r e h = absurd (omega arith)
+many-sids (suc n) [] an r e h = subst (λ (x : List ℕ). [] ⟶ sids x) (ap (λ (x : List ℕ × List ℕ). x .0) (Option·some-injective ([], []) (an, r) e)) sids-end
+many-sids (suc n) (b ∷ bs) an r e h =
+    let m = bind-some (varUInt (b ∷ bs)) (λ x. varUInts n (x .1) >>= λ y. some (x .0 ∷ y .0, y .1)) (an, r) e in
+    let k = bind-some (varUInts n (m .0 .1)) (λ y. some (m .0 .0 ∷ y .0, y .1)) (an, r) (m .2) in
+    let v = varUInt-split (b ∷ bs) (m .0 .0) (m .0 .1) (m .1) in
+    let w : length (m .0 .1) ≤ n = omega (arith, ap length (v .1), length-append (v .0) (m .0 .1), varUInt-pos (v .0) (v .2)) in
+    subst (λ (x : List ℕ). (b ∷ bs) ⟶ sids x) (ap (λ (x : List ℕ × List ℕ). x .0) (Option·some-injective (m .0 .0 ∷ k .0 .0, k .0 .1) (an, r) (k .2)))
+    (subst (λ (x : List ℕ). x ⟶ sids (m .0 .0 ∷ k .0 .0)) (sym (v .1)) (sids-next (v .0) (v .2) (many-sids n (m .0 .1) (k .0 .0) (k .0 .1) (k .1) w)))
+
+pub found-sids : (l an : List ℕ) → sidsOf l ≡ some an → l ⟶ sids an
+unfolding sidsOf
+found-sids l an e =
+    let m = bind-some (varUInts (length l) l) (λ x. some (x .0)) an e in
+    many-sids (length l) l an (m .0 .1) (m .1 ∙ ap (λ (x : List ℕ). some (x, m .0 .1)) (Option·some-injective (m .0 .0) an (m .2))) (omega arith)
