@@ -2,3 +2,4 @@ pub mod Places
 pub mod Numbers
 pub mod TypeBytes
 pub mod Headed
+pub mod Bare
