@@ -243,3 +243,96 @@ found-scalar an h c x body hd e =
     found-leaf an (getD h 0 0) h body x (header-pos hd) refl (K.leaf (getD h 0 0) (omega (arith, k .is)) (omega (arith, k .is, k .small)))
     (rw (k .is, scalar-halves c (k .nibble) body (omega (arith, k .small)), ne-eqb (k .nibble) 15 (λ q. omega (arith, k .small))) (scalar-body c (k .nibble) body x e))
     (λ out s at r start stop p q y. plain-header out body r start stop hd (scalar-usual c body x e) p q y)
+
+-- ---- containers
+
+-- the bytes b, in any parent without names, are found to be the members vs
+abbrev pub MembersFound : List ℕ → Members Scalar → Type 0
+MembersFound b vs =
+    (f : ℕ) (s : List ℕ) (parent least depth at : ℕ) → hasNames parent ≡ false → isStream parent ≡ false → isSorted parent ≡ false
+    → Rest s at b → length b < f → depth + membersDepth vs ≤ 32 → walkFrom f s parent least depth at ≡ shows (memberEvents vs)
+
+-- the bytes b, in any struct, are found to be the fields fs; in a sorted one the names must not fall
+abbrev pub FieldsFound : List ℕ → Fields Scalar → Type 0
+FieldsFound b fs =
+    (f : ℕ) (s : List ℕ) (parent least depth at : ℕ) → hasNames parent ≡ true → isStream parent ≡ false → (isSorted parent ≡ true → sorted least fs ≡ true)
+    → Rest s at b → length b < f → depth + fieldsDepth fs ≤ 32 → walkFrom f s parent least depth at ≡ shows (fieldEvents fs)
+
+module _ (an : List ℕ) (kind : ℕ) (h body : List ℕ) (v : Value) (t : IonType) (es : List Event) (d : ℕ) (pos : 0 < length h) (byte : getD h 0 0 ≡ kind) (k : IsContainer kind)
+    (type : containerType kind ≡ t) (events : (name : Option ℕ) → treeEvents name v ≡ begins name an t ∷ (es ++ (ends ∷ []))) (depth-is : treeDepth v ≡ 1 + d)
+    (headed : (out : Refusal) (s : List ℕ) (at : ℕ) (r : List ℕ) (start stop : ℕ) → start ≡ at + length h → stop ≡ start + length body → Rest s at (h ++ (body ++ r)) → headerAt out s at ≡ H.Is kind start stop)
+    (inner : (u : List ℕ) (start f depth : ℕ) → Rest u start body → length body < f → depth + d ≤ 32 → walkFrom f u kind 0 depth start ≡ shows es) where
+  found-container : BareFound (h ++ body) an v
+  found-container = record {
+    kind = kind;
+    header = h;
+    body = body;
+    joins = refl;
+    pos = pos;
+    byte = byte;
+    pad = k .pad;
+    marker = k .marker;
+    wrapper = k .wrapper;
+    deep = λ q. omega arith;
+    good = rw (k .pad, k .marker, k .begun);
+    headed = headed;
+    walks = λ u start f depth name r lt le. rw (k .begun, type, inner u start f (depth + 1) r lt (omega arith), events name);
+  }
+
+found-list : (an h body : List ℕ) (vs : Members Scalar) → Header listCode (length body) h → MembersFound body vs → BareFound (h ++ body) an (sequence an list vs)
+unfolding treeEvents treeDepth
+found-list an h body vs hd ih =
+    let k = first hd in
+    let lo : 0xB0 ≤ getD h 0 0 = omega (arith, k .is) in
+    let hi : getD h 0 0 < 0xBF = omega (arith, k .is, k .small) in
+    found-container an (getD h 0 0) h body (sequence an list vs) ionList (memberEvents vs) (membersDepth vs) (header-pos hd) refl
+    (K.container (getD h 0 0) lo (omega arith) (λ e. omega arith) (λ e. omega arith)) (rw (lt-ltb (getD h 0 0) 0xC0 (omega arith))) (λ name. refl) refl
+    (λ out s at r start stop p q y. plain-header out body r start stop hd (usual 11 (length body) refl refl refl refl refl refl refl) p q y)
+    (λ u start f depth r lt le. ih f u (getD h 0 0) 0 depth start (rw (lt-leb 0xD0 (getD h 0 0) (omega arith))) (ne-eqb (getD h 0 0) 0 (λ e. omega arith)) (ne-eqb (getD h 0 0) 0xD1 (λ e. omega arith)) r lt le)
+
+found-sexp : (an h body : List ℕ) (vs : Members Scalar) → Header sexpCode (length body) h → MembersFound body vs → BareFound (h ++ body) an (sequence an sexp vs)
+unfolding treeEvents treeDepth
+found-sexp an h body vs hd ih =
+    let k = first hd in
+    let lo : 0xC0 ≤ getD h 0 0 = omega (arith, k .is) in
+    let hi : getD h 0 0 < 0xCF = omega (arith, k .is, k .small) in
+    found-container an (getD h 0 0) h body (sequence an sexp vs) ionSexp (memberEvents vs) (membersDepth vs) (header-pos hd) refl
+    (K.container (getD h 0 0) (omega arith) (omega arith) (λ e. omega arith) (λ e. omega arith)) (rw (le-ltb (getD h 0 0) 0xC0 lo, lt-ltb (getD h 0 0) 0xD0 (omega arith))) (λ name. refl) refl
+    (λ out s at r start stop p q y. plain-header out body r start stop hd (usual 12 (length body) refl refl refl refl refl refl refl) p q y)
+    (λ u start f depth r lt le. ih f u (getD h 0 0) 0 depth start (rw (lt-leb 0xD0 (getD h 0 0) (omega arith))) (ne-eqb (getD h 0 0) 0 (λ e. omega arith)) (ne-eqb (getD h 0 0) 0xD1 (λ e. omega arith)) r lt le)
+
+pub found-sequence : (an h body : List ℕ) (k : SequenceType) (vs : Members Scalar) → Header (sequenceCode k) (length body) h → MembersFound body vs → BareFound (h ++ body) an (sequence an k vs)
+found-sequence an h body list vs hd ih = found-list an h body vs hd ih
+found-sequence an h body sexp vs hd ih = found-sexp an h body vs hd ih
+
+-- a struct, sorted or not, by its type byte
+struct-found : (an : List ℕ) (kind : ℕ) (h body : List ℕ) (fs : Fields Scalar) → 0 < length h → getD h 0 0 ≡ kind → 0xD0 ≤ kind → kind < 0xDF
+    → ((out : Refusal) (s : List ℕ) (at : ℕ) (r : List ℕ) (start stop : ℕ) → start ≡ at + length h → stop ≡ start + length body → Rest s at (h ++ (body ++ r)) → headerAt out s at ≡ H.Is kind start stop)
+    → (isSorted kind ≡ true → sorted 0 fs ≡ true) → FieldsFound body fs → BareFound (h ++ body) an (struct an fs)
+unfolding treeEvents treeDepth
+struct-found an kind h body fs pos byte lo hi headed up ih =
+    found-container an kind h body (struct an fs) ionStruct (fieldEvents fs) (fieldsDepth fs) pos byte
+    (K.container kind (omega arith) (omega arith) (λ e. omega arith) (λ e. omega arith)) (rw (le-ltb kind 0xC0 (omega arith), le-ltb kind 0xD0 lo)) (λ name. refl) refl
+    headed
+    (λ u start f depth r lt le. ih f u kind 0 depth start (rw (le-leb 0xD0 kind lo, lt-ltb kind 0xDF hi)) (ne-eqb kind 0 (λ e. omega arith)) up r lt le)
+
+struct-usual : (n : ℕ) → n ≢ 1 → Usual 13 n
+struct-usual n ne = let z : eqb n 1 ≡ false = ne-eqb n 1 ne in record { shortly = refl; at-length = refl; framed = refl; plain = z; short-fits = rw z; long-fits = rw z }
+
+false-true : {X : Type 0} {b : Bool} → b ≡ false → b ≡ true → X
+false-true {b = true} e f = absurd (let y : _≡_ {A = ℕ} 0 1 = ap (λ c. cond c 1 0) (sym e) in omega arith)
+false-true {b = false} e f = absurd (let y : _≡_ {A = ℕ} 0 1 = ap (λ c. cond c 1 0) f in omega arith)
+
+pub found-struct : (an h body : List ℕ) (fs : Fields Scalar) → Header structCode (length body) h → length body ≢ 1 → FieldsFound body fs → BareFound (h ++ body) an (struct an fs)
+found-struct an h body fs hd ne ih =
+    let k = first hd in
+    let no : getD h 0 0 ≢ 0xD1 = λ e. k .not-one ne (omega (arith, k .is)) in
+    struct-found an (getD h 0 0) h body fs (header-pos hd) refl (omega (arith, k .is)) (omega (arith, k .is, k .small))
+    (λ out s at r start stop p q y. plain-header out body r start stop hd (struct-usual (length body) ne) p q y)
+    (λ e. false-true (ne-eqb (getD h 0 0) 0xD1 no) e) ih
+
+pub found-sorted : (an l body : List ℕ) (fs : Fields Scalar) → VarUInt l (length body) → 0 < length body → length body ≢ 1 → sorted 0 fs ≡ true → FieldsFound body fs → BareFound (0xD1 ∷ (l ++ body)) an (struct an fs)
+found-sorted an l body fs v pos ne up ih =
+    struct-found an 0xD1 (0xD1 ∷ l) body fs (omega arith) refl (omega arith) (omega arith)
+    (λ out s at r start stop p q y. sorted-header out l body r start stop v (omega arith) (omega arith) q y)
+    (λ e. up) ih
