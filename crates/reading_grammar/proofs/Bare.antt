@@ -154,7 +154,7 @@ found-float64 an b n = found-float an 0x48 8 b (float (floatOf binary64 (uint b)
 -- ---- the scalars that have a length and a body
 
 usual : (t n : ℕ) → eqb t 15 ≡ false → eqb t 1 ≡ false → eqb t 4 ≡ false → eqb t 14 ≡ false → eqb t 13 ≡ false → eqb t 3 ≡ false → eqb t 6 ≡ false → Usual t n
-usual t n a b c d e f g = record { shortly = rw (a, b, c, d); at-length = rw (a, b, c, d); framed = b; plain = rw e; short-fits = rw (f, g, d, e); long-fits = rw (f, g, d, e) }
+usual t n a b c d e f g = record { shortly = λ lt. rw (a, b, c, d); at-length = rw (a, b, c, d); framed = b; plain = rw e; short-fits = rw (f, g, d, e); long-fits = rw (f, g, d, e) }
 
 -- negative zero has no body
 negative-usual : (body : List ℕ) (x : Scalar) → scalarOf negativeCode body ≡ some x → Usual 3 (length body)
@@ -162,7 +162,7 @@ unfolding scalarOf bigEndian
 negative-usual [] x e = absurd (Option·none-ne-some x e)
 negative-usual (b ∷ bs) x e =
     let z : eqb (length (b ∷ bs)) 0 ≡ false = ne-eqb (length (b ∷ bs)) 0 (λ q. omega arith) in
-    record { shortly = refl; at-length = refl; framed = refl; plain = refl; short-fits = rw z; long-fits = rw z }
+    record { shortly = λ lt. refl; at-length = refl; framed = refl; plain = refl; short-fits = rw z; long-fits = rw z }
 
 -- one byte is no offset and year
 one-byte-time : (b : ℕ) (x : Scalar) → timestampOf (b ∷ []) ≡ some x → ⊥
@@ -180,7 +180,7 @@ timestamp-usual [] x e = absurd (Option·none-ne-some x e)
 timestamp-usual (b ∷ []) x e = absurd (one-byte-time b x e)
 timestamp-usual (a ∷ b ∷ bs) x e =
     let z : ltb (length (a ∷ b ∷ bs)) 2 ≡ false = le-ltb (length (a ∷ b ∷ bs)) 2 (omega arith) in
-    record { shortly = refl; at-length = refl; framed = refl; plain = refl; short-fits = rw z; long-fits = rw z }
+    record { shortly = λ lt. refl; at-length = refl; framed = refl; plain = refl; short-fits = rw z; long-fits = rw z }
 
 scalar-usual : (c : TypeCode) (body : List ℕ) (x : Scalar) → scalarOf c body ≡ some x → Usual (highBits c) (length body)
 unfolding scalarOf
@@ -317,7 +317,7 @@ struct-found an kind h body fs pos byte lo hi headed up ih =
     (λ u start f depth r lt le. ih f u kind 0 depth start (rw (le-leb 0xD0 kind lo, lt-ltb kind 0xDF hi)) (ne-eqb kind 0 (λ e. omega arith)) up r lt le)
 
 struct-usual : (n : ℕ) → n ≢ 1 → Usual 13 n
-struct-usual n ne = let z : eqb n 1 ≡ false = ne-eqb n 1 ne in record { shortly = refl; at-length = refl; framed = refl; plain = z; short-fits = rw z; long-fits = rw z }
+struct-usual n ne = let z : eqb n 1 ≡ false = ne-eqb n 1 ne in record { shortly = λ lt. refl; at-length = refl; framed = refl; plain = z; short-fits = rw z; long-fits = rw z }
 
 false-true : {X : Type 0} {b : Bool} → b ≡ false → b ≡ true → X
 false-true {b = true} e f = absurd (let y : _≡_ {A = ℕ} 0 1 = ap (λ c. cond c 1 0) (sym e) in omega arith)

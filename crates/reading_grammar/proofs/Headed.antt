@@ -38,7 +38,7 @@ module _ (out : Refusal) (s : List ℕ) (at b t l : ℕ) (first : getD s at 0 �
 
 -- a type code t whose headers of n bytes have nothing special
 pub record Usual (t n : ℕ) : Type 0 where
-  pub shortly : impossible t n ≡ false
+  pub shortly : n < 14 → impossible t n ≡ false
   pub at-length : impossible t 14 ≡ false
   pub framed : eqb t 1 ≡ false
   pub plain : (eqb t 13 && eqb n 1) ≡ false
@@ -68,7 +68,7 @@ plain-header out {s} {at} {c} body r start stop (short lt) u e f x =
     let n : ℕ = length body in
     let all : length s ≡ at + (1 + (length body + length r)) = rest-length x ∙ ap (λ (k : ℕ). at + k) (omega (arith, length-append body r)) in
     rw e
-    (short-header out s at (highBits c * 16 + length body) (highBits c) (length body) (rest-head x) (omega arith) (high c (length body) (omega arith)) (low c (length body) (omega arith)) (u .shortly)
+    (short-header out s at (highBits c * 16 + length body) (highBits c) (length body) (rest-head x) (omega arith) (high c (length body) (omega arith)) (low c (length body) (omega arith)) (u .shortly lt)
     (rw (ne-eqb (length body) 15 (λ q. omega arith), u .framed)) (rw (ne-eqb (length body) 14 (λ q. omega arith), u .plain)) (u .short-fits) stop (omega arith) (omega arith))
 plain-header out {s} {at} {c} body r start stop (long {l} v) u e f x =
     let all : length s ≡ at + (1 + (length l + (length body + length r))) = rest-length x ∙ ap (λ (k : ℕ). at + k) (omega (arith, length-append l (body ++ r), length-append body r)) in

@@ -3,3 +3,4 @@ pub mod Numbers
 pub mod TypeBytes
 pub mod Headed
 pub mod Bare
+pub mod One
