@@ -4,3 +4,5 @@ pub mod TypeBytes
 pub mod Headed
 pub mod Bare
 pub mod One
+pub mod Steps
+pub mod Walked
