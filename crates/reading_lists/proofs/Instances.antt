@@ -25,8 +25,7 @@ use Rattle.reading.specs.Headers.{varUIntFrom, varUIntAt, headerAt, marked, mar
 use Rattle.reading.specs.Scalars.{codeFrom, bodyOf, scalarIn, sidsOf}
 use Rattle.reading.specs.Items.{mostOpen, wrappedAt, itemAt}
 use Rattle.reading.specs.Walk.{Event, marker, leaf, begins, ends, treeEvents, streamEvents, treeDepth, streamDepth, shows, walkFrom, walkIn, walk}
-use Rattle.reading.specs.Exact.{ReadingIsWalked}
-use Rattle.reading_lists.proofs.ReadBack.{read-back-by, host-read-back-by}
+use Rattle.reading_lists.proofs.ReadBack.{read-back, host-read-back}
 
 abbrev pub events : List Event
 events =
@@ -61,11 +60,11 @@ events-are = refl
 abbrev Shown : List ℕ → List (Item Scalar) → Type 0
 Shown b is = walk b 0 ≡ shows (streamEvents is)
 
-read-back-shown : ReadingIsWalked → walk bytes 0 ≡ shows events
-read-back-shown walked = subst₂ Shown joined-bytes spelled-items (read-back-by walked limits nines run typed) ∙ ap shows events-are
+read-back-shown : walk bytes 0 ≡ shows events
+read-back-shown = subst₂ Shown joined-bytes spelled-items (read-back limits nines run typed) ∙ ap shows events-are
 
-host-read-back-shown : ReadingIsWalked → walk bytes 0 ≡ shows events
-host-read-back-shown walked = subst₂ Shown (host .joined) (host .spelled) (host-read-back-by walked hostLimits sevens nines (host .run)) ∙ ap shows events-are
+host-read-back-shown : walk bytes 0 ≡ shows events
+host-read-back-shown = subst₂ Shown (host .joined) (host .spelled) (host-read-back hostLimits sevens nines (host .run)) ∙ ap shows events-are
 
 -- the same by computing, without the theorem
 computed : walk bytes 0 ≡ shows events
@@ -98,5 +97,5 @@ all-typed zero zero = tt
 all-typed zero (suc m) = (tt, all-typed zero m)
 all-typed (suc n) m = (tt, all-typed n m)
 
-deep-read-back-shown : ReadingIsWalked → walk (joined deep (started nines)) 0 ≡ shows deepEvents
-deep-read-back-shown walked = read-back-by walked deep nines (deepest .run) (all-typed 33 33) ∙ ap shows (deepest .events)
+deep-read-back-shown : walk (joined deep (started nines)) 0 ≡ shows deepEvents
+deep-read-back-shown = read-back deep nines (deepest .run) (all-typed 33 33) ∙ ap shows (deepest .events)
