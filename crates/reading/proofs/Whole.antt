@@ -24,29 +24,8 @@ use Rattle.reading.specs.declared.Timestamp.the-variants as T
 use Rattle.reading.specs.declared.Symbol.{Symbol}
 use Rattle.reading.specs.declared.Symbol.the-variants as S
 use Rattle.reading.specs.Scalars.{isSome}
+use Rattle.reading.specs.Told.{decimalTold, fractionIn, timestampTold, symbolTold, KnownTold, DecimalWhole, TimestampWhole, SymbolWhole}
 use Rattle.reading.specs.Bodies.{magnitude, decimalFrom, decimalIn, stamped, fractioned, exponentFrom, fractionFrom, fieldsFrom, offsetFrom, timestampIn, symbolIn}
-
--- ---- what an answer about the body b tells
-
-abbrev pub decimalTold : List ℕ → Decimal → Option Scalar
-decimalTold b (D.Is negative exponent coefficient) = some (decimal (intField (drop coefficient b)) (number (signed negative exponent)))
-decimalTold b (D.No r) = none
-
--- the digits that a fraction has, and the bytes of their coefficient
-abbrev pub fractionIn : ℕ → List ℕ → Fraction
-fractionIn zero bs = noFraction
-fractionIn (suc k) bs = fraction (suc k) (magnitude (intField bs))
-
-abbrev pub timestampTold : List ℕ → Timestamp → Option Scalar
-timestampTold b (T.Is known negative offset count year month day hour minute second digits coefficient) =
-    some (timestamp (offsetOf (signed negative offset))
-    (take count (year ∷ month ∷ day ∷ hour ∷ minute ∷ second ∷ []))
-    (fractionIn digits (drop coefficient b)))
-timestampTold b (T.No r) = none
-
-abbrev pub symbolTold : Symbol → Option Scalar
-symbolTold (S.Is n) = some (symbol n)
-symbolTold (S.No r) = none
 
 -- ---- the bytes behind a field end the body
 
@@ -117,7 +96,7 @@ varUInts-ends (suc n) (c ∷ bs) = first (varUInt (c ∷ bs)) (varUInt-ends (c �
 
 -- ---- decimals
 
-pub decimal-whole : (b : List ℕ) → scalarOf decimalCode b ≡ decimalTold b (decimalIn b)
+pub decimal-whole : DecimalWhole
 unfolding scalarOf decimalOf decimalIn intField
 decimal-whole [] = refl
 decimal-whole (c ∷ bs) = on (varInt (c ∷ bs)) (varInt-ends (c ∷ bs))
@@ -129,7 +108,7 @@ decimal-whole (c ∷ bs) = on (varInt (c ∷ bs)) (varInt-ends (c ∷ bs))
 
 -- ---- symbols
 
-pub symbol-whole : (b : List ℕ) → scalarOf symbolCode b ≡ symbolTold (symbolIn b)
+pub symbol-whole : SymbolWhole
 unfolding scalarOf symbolIn
 symbol-whole b = by-cases (ltb (uint b) (2 ^ 64)) (λ p. rw p) (λ p. rw p)
 
@@ -196,7 +175,7 @@ fields-whole : (b : List ℕ) (o : Signed) (x : Option (List ℕ × List ℕ)) �
 fields-whole b o none h = refl
 fields-whole b o (some f) h = by-cases (areFields (f .0)) (λ p. rw p (fraction-whole b o (f .0) p (h .0) (f .1) (h .1))) (λ p. rw p)
 
-pub timestamp-whole : (b : List ℕ) → scalarOf timestampCode b ≡ timestampTold b (timestampIn b)
+pub timestamp-whole : TimestampWhole
 unfolding scalarOf timestampOf timestampIn
 timestamp-whole b = on (varInt b) (varInt-ends b)
   where
@@ -207,10 +186,6 @@ timestamp-whole b = on (varInt b) (varInt-ends b)
     on (some o) h = fields-whole b (o .0) (varUInts 6 (o .1)) (ends-behind b (h .0) (o .1) (varUInts 6 (o .1)) (h .1) (varUInts-ends 6 (o .1)))
 
 -- the offset is said to be known exactly where there is one
-abbrev pub KnownTold : Timestamp → Type 0
-KnownTold (T.Is known negative offset count year month day hour minute second digits coefficient) = known ≡ isSome (offsetOf (signed negative offset))
-KnownTold (T.No r) = Unit {0}
-
 stamped-known : (o : Signed) (f : List ℕ) (k c : ℕ) → KnownTold (stamped o f k c)
 stamped-known (signed false n) f k c = refl
 stamped-known (signed true zero) f k c = refl
@@ -242,23 +217,3 @@ timestamp-known b = by-offset (varInt b)
     by-offset (some o) = by-fields (o .0) (varUInts 6 (o .1))
 
 -- ---- by the cases of the answer
-
-pub decimal-is : (b : List ℕ) (n : Bool) (e c : ℕ) → decimalIn b ≡ D.Is n e c → scalarOf decimalCode b ≡ some (decimal (intField (drop c b)) (number (signed n e)))
-decimal-is b n e c h = decimal-whole b ∙ ap (decimalTold b) h
-
-pub decimal-is-none : (b : List ℕ) (r : Refusal) → decimalIn b ≡ D.No r → scalarOf decimalCode b ≡ none
-decimal-is-none b r h = decimal-whole b ∙ ap (decimalTold b) h
-
-pub timestamp-is : (b : List ℕ) (known n : Bool) (o count y mo d h mi s digits c : ℕ) → timestampIn b ≡ T.Is known n o count y mo d h mi s digits c
-    → (scalarOf timestampCode b ≡ some (timestamp (offsetOf (signed n o)) (take count (y ∷ mo ∷ d ∷ h ∷ mi ∷ s ∷ [])) (fractionIn digits (drop c b))))
-    × (known ≡ isSome (offsetOf (signed n o)))
-timestamp-is b known n o count y mo d h mi s digits c e = (timestamp-whole b ∙ ap (timestampTold b) e, subst KnownTold e (timestamp-known b))
-
-pub timestamp-is-none : (b : List ℕ) (r : Refusal) → timestampIn b ≡ T.No r → scalarOf timestampCode b ≡ none
-timestamp-is-none b r h = timestamp-whole b ∙ ap (timestampTold b) h
-
-pub symbol-is : (b : List ℕ) (n : ℕ) → symbolIn b ≡ S.Is n → scalarOf symbolCode b ≡ some (symbol n)
-symbol-is b n h = symbol-whole b ∙ ap symbolTold h
-
-pub symbol-is-none : (b : List ℕ) (r : Refusal) → symbolIn b ≡ S.No r → scalarOf symbolCode b ≡ none
-symbol-is-none b r h = symbol-whole b ∙ ap symbolTold h
