@@ -6,3 +6,4 @@ pub mod Bare
 pub mod One
 pub mod Steps
 pub mod Walked
+pub mod Framing
