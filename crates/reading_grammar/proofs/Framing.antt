@@ -119,14 +119,14 @@ neither {a = false} e = (refl, e)
 pub contrary : {X : Type 0} {b : Bool} → b ≡ false → b ≡ true → X
 contrary p q = absurd (false≢true (sym p ∙ q))
 
-or-left : {a b : Bool} → (a || b) ≡ true → b ≡ false → a ≡ true
+pub or-left : {a b : Bool} → (a || b) ≡ true → b ≡ false → a ≡ true
 or-left {a = true} e p = refl
 or-left {a = false} e p = contrary p e
 
-halves : (k : ℕ) → k / 16 * 16 + k % 16 ≡ k
+pub halves : (k : ℕ) → k / 16 * 16 + k % 16 ≡ k
 halves k = div-add-mod' k 16
 
-framing-header : (c : TypeCode) {k n : ℕ} {l : List ℕ} → Framing k n l → k / 16 ≡ highBits c → alone (k / 16) (k % 16) ≡ false → (eqb (highBits c) 13 && eqb (k % 16) 1) ≡ false → Header c n (k ∷ l)
+pub framing-header : (c : TypeCode) {k n : ℕ} {l : List ℕ} → Framing k n l → k / 16 ≡ highBits c → alone (k / 16) (k % 16) ≡ false → (eqb (highBits c) 13 && eqb (k % 16) 1) ≡ false → Header c n (k ∷ l)
 framing-header c (by-itself a z) h p q = contrary p a
 framing-header c {k} {n} (by-low-bits a m e) h p q =
     let u : k % 16 ≢ 15 = eqb-false (k % 16) 15 (neither a .0) in

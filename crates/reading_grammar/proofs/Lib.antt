@@ -7,3 +7,4 @@ pub mod One
 pub mod Steps
 pub mod Walked
 pub mod Framing
+pub mod Derived
