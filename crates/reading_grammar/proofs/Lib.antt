@@ -8,3 +8,6 @@ pub mod Steps
 pub mod Walked
 pub mod Framing
 pub mod Derived
+pub mod Unwrapped
+pub mod Items
+pub mod Read

@@ -79,7 +79,7 @@ module _ (s : List ℕ) (parent least depth at name next : ℕ) (b : List ℕ) (
 
 -- ---- a pad
 
-pad-shows-none : (k : ℕ) (body : List ℕ) → isPad k ≡ true → scalarIn k body ≡ none
+pub pad-shows-none : (k : ℕ) (body : List ℕ) → isPad k ≡ true → scalarIn k body ≡ none
 unfolding scalarIn codeFrom bodyOf
 pad-shows-none k body e =
     let h : k < 15 = ltb-true k 15 e in
