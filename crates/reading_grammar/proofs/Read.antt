@@ -397,3 +397,21 @@ stream-sound : (f : ℕ) → StreamSound f
 unfolding walkFrom
 stream-sound zero s least at b x size e = absurd (omega arith)
 stream-sound (suc f) s least at b x size e = stream-step f (stream-sound f) s least at b x size (itemAt s 0 least 0 at) refl e
+
+-- ---- the whole walk
+
+walk-is : (s : List ℕ) (at : ℕ) → walk s at ≡ walkFrom (suc (length s)) s 0 0 0 at
+unfolding walkIn
+walk-is s at = rw (le-leb (length s) (length s) (omega arith), take-length s)
+
+starts-within : (f : ℕ) (s : List ℕ) (at : ℕ) → walkFrom (suc f) s 0 0 0 at .1 ≡ R.Whole → at ≤ length s
+unfolding walkFrom itemAt
+starts-within f s at e = by-cases (ltb (length s) at) (λ p. refused-not-whole (rw p at e)) (λ p. ltb-false (length s) at p)
+
+-- A walk that comes to its end shows a reading, with at most 32 containers open at once.
+pub walk-is-reading : WalkIsReading
+walk-is-reading s at e =
+    let w : walkFrom (suc (length s)) s 0 0 0 at .1 ≡ R.Whole = rw (walk-is s at) at e in
+    let h : at ≤ length s = starts-within (length s) s at w in
+    let m = stream-sound (suc (length s)) s 0 at (drop at s) (record { within = h; is = refl }) (omega (arith, length-drop at s)) w in
+    (h, (m .is, (m .reading, (m .shallow, ap (λ (x : Walk). x .0) (walk-is s at) ∙ m .shown))))
