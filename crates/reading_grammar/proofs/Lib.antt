@@ -11,3 +11,4 @@ pub mod Derived
 pub mod Unwrapped
 pub mod Items
 pub mod Read
+pub mod Examples

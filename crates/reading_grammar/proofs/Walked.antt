@@ -16,10 +16,12 @@ use Rattle.ion.specs.Fields.{VarUInt, varUInts}
 use Rattle.ion.specs.Grammar.{sorted, Phrase, padding, sids, bare, one, members, fields, stream, _⟶_, pad, sids-end, sids-next, is-null, is-false, is-true, is-zero, is-float32, is-float64, is-scalar, is-sequence, is-struct, is-sorted, is-bare, is-annotated, members-end, members-pad, members-next, fields-end, fields-pad, fields-next, stream-end, stream-pad, stream-marker, stream-next, Reads}
 use Rattle.ion.proofs.Tests.{by-cases, both}
 use Rattle.ion.proofs.Fields.{varUInt-pos}
+use Rattle.reading.specs.declared.Refusal.{Refusal}
 use Rattle.reading.specs.declared.Refusal.the-variants.{NotIon}
 use Rattle.reading.specs.declared.Number.the-variants as N
+use Rattle.reading.specs.declared.Reading.the-variants as R
 use Rattle.reading.specs.Items.{isSorted, isStream, hasNames, nameAt, itemAt, mostOpen}
-use Rattle.reading.specs.Walk.{Event, treeEvents, memberEvents, fieldEvents, streamEvents, treeDepth, membersDepth, fieldsDepth, streamDepth, higher, shows, walkFrom, walkIn, walk}
+use Rattle.reading.specs.Walk.{Event, treeEvents, memberEvents, fieldEvents, streamEvents, treeDepth, membersDepth, fieldsDepth, streamDepth, higher, Walk, shows, walkFrom, walkIn, walk}
 use Rattle.reading.specs.Exact.{ReadingIsWalked}
 use Rattle.reading_grammar.proofs.Places.{Rest, rest-length, rest-next}
 use Rattle.reading_grammar.proofs.Numbers.{number-found, sids-found}
@@ -196,3 +198,10 @@ unfolding walkIn
 reading-is-walked s at is h r le =
     rw (le-leb (length s) (length s) (omega arith), take-length s)
     (found r (suc (length s)) s 0 at (record { within = h; is = refl }) (omega (arith, length-drop at s)) le)
+
+-- Where the walk is refused, no reading has at most 32 containers open.
+pub refused-is-no-reading : (s : List ℕ) (at : ℕ) (is : List (Item Scalar)) (r : Refusal) (place : ℕ) → at ≤ length s → walk s at .1 ≡ R.Refused r place → Reads (drop at s) is → streamDepth is ≤ mostOpen → ⊥
+refused-is-no-reading s at is r place h e x le =
+    let w : R.Whole ≡ R.Refused r place = sym (ap (λ (y : Walk). y .1) (reading-is-walked s at is h x le)) ∙ e in
+    let z : _≡_ {A = ℕ} 0 1 = cc in
+    omega arith
