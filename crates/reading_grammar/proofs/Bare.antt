@@ -1,35 +1,33 @@
 -- A value without its annotation wrapper, at a place: its header, its scalar or its members, as the walk finds them.
 -- Assumes nothing.
-use Prim.Native.Nat.{ℕ, zero, suc, _+_, _*_, _/_, _%_, _^_, _≤_, _<_}
+use Prim.Native.Nat.{ℕ, _+_, _*_, _/_, _%_, _≤_, _<_}
 use native.Mathlib.Omega.{arith}
-use mathlib.Core.Path.{_≡_, refl, sym, _∙_, ap}
+use mathlib.Core.Path.{_≡_, refl, sym, ap}
 use mathlib.Core.Logic.{_≢_}
-use mathlib.Core.Bool.{Bool, true, false, cond, _&&_, _||_, not}
-use mathlib.Core.List.{List, [], _∷_, _++_, append-nil}
-use mathlib.Core.Option.{Option, none, some, Option·none-ne-some}
-use lib.Dec.{ltb, leb, eqb}
+use mathlib.Core.Bool.{Bool, true, false, cond}
+use mathlib.Core.List.{List, [], _∷_, _++_}
+use mathlib.Core.Option.{Option, some, Option·none-ne-some}
+use lib.Dec.{ltb, eqb}
 use lib.Ieee.{binary32, binary64}
-use lib.ListN.{length, take, getD, length-append}
-use borrow.Author.Tests.{lt-ltb, le-ltb, le-leb, lt-leb, ne-eqb, eq-eqb}
+use lib.ListN.{length, getD}
+use borrow.Author.Tests.{lt-ltb, le-ltb, le-leb, lt-leb, ne-eqb}
 use Rattle.ion.specs.Value.{IonType, ionList, ionSexp, ionStruct, TypeCode, nullCode, boolCode, positiveCode, negativeCode, floatCode, decimalCode, timestampCode, symbolCode, stringCode, clobCode, blobCode, listCode, sexpCode, structCode, annotationCode, highBits, nullType, SequenceType, list, sexp, sequenceCode}
-use Rattle.ion.specs.Value.{Signed, signed, finite, Scalar, null, bool, float, Value, scalar, sequence, struct, Members, Fields}
-use Rattle.ion.specs.Chain.{_>>=_, check}
-use Rattle.ion.specs.Fields.{VarUInt, uint, bigEndian, varInt, giveSign, varUInts, groups, isI64, isNegative}
+use Rattle.ion.specs.Value.{signed, finite, Scalar, null, bool, float, Value, scalar, sequence, struct, Members, Fields}
+use Rattle.ion.specs.Chain.{_>>=_}
+use Rattle.ion.specs.Fields.{VarUInt, uint, bigEndian, varInt, varUInts, groups, isI64, isNegative}
 use Rattle.ion.specs.Scalars.{scalarOf, timestampOf, areFields, floatOf}
-use Rattle.ion.specs.Grammar.{Header, short, long, sorted}
+use Rattle.ion.specs.Grammar.{Header, sorted}
 use Rattle.ion.proofs.Tests.{by-cases}
-use Rattle.ion.proofs.Fields.{varUInt-pos}
-use Rattle.ion.proofs.Exact.{bind-some}
 use Rattle.reading.specs.declared.Refusal.{Refusal}
 use Rattle.reading.specs.declared.Header.the-variants as H
-use Rattle.reading.specs.Headers.{impossible, alone, measured, never, headerAt}
-use Rattle.reading.specs.Scalars.{scalarIn, bodyOf, isSome}
+use Rattle.reading.specs.Headers.{impossible, alone, headerAt}
+use Rattle.reading.specs.Scalars.{scalarIn, bodyOf}
 use Rattle.reading.specs.Items.{isPad, isMarker, isWrapper, opens, reads, hasNames, isSorted, isStream}
 use Rattle.reading.specs.Walk.{Event, leaf, begins, ends, treeEvents, treeDepth, memberEvents, fieldEvents, membersDepth, fieldsDepth, Walk, shows, containerType, containerWalk, leafWalk, walkFrom}
 use Rattle.reading_grammar.proofs.Places.{Rest}
 use Rattle.reading_grammar.proofs.TypeBytes as K
 use Rattle.reading_grammar.proofs.TypeBytes.{IsLeaf, IsContainer, high, low, codeOf-highBits}
-use Rattle.reading_grammar.proofs.Headed.{Usual, First, first, header-pos, plain-header, sorted-header, byte-header, float-header}
+use Rattle.reading_grammar.proofs.Headed.{Usual, first, header-pos, plain-header, sorted-header, byte-header, float-header}
 
 -- what the walk makes of a type byte and its body, which fills t from `start` on
 abbrev pub contentWalk : ℕ → List ℕ → ℕ → Option ℕ → List ℕ → ℕ → ℕ → List ℕ → Walk

@@ -1,27 +1,27 @@
 -- The other way, at one value: what is found behind a header is a pad, a scalar or a container of the grammar.
 -- Assumes nothing.
-use Prim.Native.Nat.{ℕ, zero, suc, _+_, _*_, _/_, _%_, _≤_, _<_}
+use Prim.Native.Nat.{ℕ, _+_, _*_, _/_, _%_, _≤_, _<_}
 use native.Mathlib.Omega.{arith}
 use mathlib.Core.Path.{_≡_, refl, sym, _∙_, ap, subst}
 use mathlib.Core.Logic.{_≢_}
-use mathlib.Core.Bool.{Bool, true, false, cond, _&&_, _||_, not, or-true}
-use mathlib.Core.List.{List, [], _∷_, _++_, append-nil}
-use mathlib.Core.Option.{Option, none, some, Option·some-injective, Option·none-ne-some}
+use mathlib.Core.Bool.{true, false, cond, _||_, not, or-true}
+use mathlib.Core.List.{List, [], _∷_, _++_}
+use mathlib.Core.Option.{some, Option·some-injective, Option·none-ne-some}
 use lib.Dec.{ltb, leb, eqb}
 use lib.Ieee.{binary32, binary64}
 use lib.ListN.{length}
-use borrow.Author.Tests.{ltb-true, ltb-false, leb-true, leb-false, eqb-true, eqb-false, ne-eqb, eq-eqb, not-true}
-use Rattle.ion.specs.Value.{IonType, TypeCode, nullCode, boolCode, positiveCode, negativeCode, floatCode, decimalCode, timestampCode, symbolCode, stringCode, clobCode, blobCode, listCode, sexpCode, structCode, annotationCode, highBits, nullType, list, sexp}
-use Rattle.ion.specs.Value.{finite, Scalar, null, bool, float, Value, scalar, sequence, struct, Members, Fields}
+use borrow.Author.Tests.{ltb-true, leb-true, eqb-true, eqb-false, ne-eqb, not-true}
+use Rattle.ion.specs.Value.{TypeCode, nullCode, boolCode, positiveCode, negativeCode, floatCode, decimalCode, timestampCode, symbolCode, stringCode, clobCode, blobCode, listCode, sexpCode, structCode, annotationCode, highBits, nullType, list, sexp}
+use Rattle.ion.specs.Value.{finite, Scalar, null, bool, float, scalar, sequence, struct, Members, Fields}
 use Rattle.ion.specs.Chain.{_>>=_}
 use Rattle.ion.specs.Fields.{VarUInt, uint}
 use Rattle.ion.specs.Scalars.{scalarOf, floatOf}
-use Rattle.ion.specs.Grammar.{Header, sorted, padding, bare, members, fields, _⟶_, pad, is-null, is-false, is-true, is-zero, is-float32, is-float64, is-scalar, is-sequence, is-struct, is-sorted}
+use Rattle.ion.specs.Grammar.{sorted, padding, bare, members, fields, _⟶_, pad, is-null, is-false, is-true, is-zero, is-float32, is-float64, is-scalar, is-sequence, is-struct, is-sorted}
 use Rattle.ion.proofs.Tests.{by-cases, both}
 use Rattle.ion.proofs.Exact.{bind-some}
-use Rattle.reading.specs.Headers.{impossible, alone, measured, never}
+use Rattle.reading.specs.Headers.{impossible, alone}
 use Rattle.reading.specs.Scalars.{codeFrom, codeOf, floatIn, boolOf, bodyOf, scalarIn}
-use Rattle.reading.specs.Items.{isPad, opens, isWrapper, isSorted}
+use Rattle.reading.specs.Items.{isPad, opens, isSorted}
 use Rattle.reading_grammar.proofs.Framing.{Framing, by-itself, by-low-bits, by-field, neither, contrary, or-left, framing-header, halves}
 
 -- ---- pads

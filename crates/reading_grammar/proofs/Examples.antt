@@ -5,9 +5,9 @@ use native.Mathlib.Omega.{arith}
 use mathlib.Core.Path.{_≡_, refl}
 use mathlib.Core.Bool.{true, false}
 use mathlib.Core.List.{List, [], _∷_}
-use mathlib.Core.Option.{Option, none, some}
+use mathlib.Core.Option.{none, some}
 use lib.IntN.{pos}
-use lib.ListN.{length, drop}
+use lib.ListN.{drop}
 use Rattle.ion.specs.Value.{ionNull, ionList, ionStruct, Scalar, null, bool, int, list, scalar, sequence, struct, noMembers, member, noFields, field, Item, value}
 use Rattle.ion.specs.Value as Ion
 use Rattle.ion.specs.Fields.{bigEndian, groups, varUInt, varUInts}
@@ -16,7 +16,6 @@ use Rattle.ion.specs.Grammar.{Reads}
 use Rattle.ion.proofs.Readings.{readerWhole}
 use Rattle.ion.proofs.Exact.{exactly}
 use Rattle.reading.specs.declared.Refusal.the-variants.{NotIon}
-use Rattle.reading.specs.declared.Reading.the-variants as R
 use Rattle.reading.specs.Headers.{varUIntFrom, varUIntAt, headerAt, marked, markerAt, topHeaderAt}
 use Rattle.reading.specs.Scalars.{codeFrom, bodyOf, scalarIn, sidsOf}
 use Rattle.reading.specs.Items.{mostOpen, wrappedAt, itemAt}

@@ -1,29 +1,28 @@
 -- The other way, at one header: a header that is found at a place is one of the grammar.
 -- Assumes nothing.
-use Prim.Native.Nat.{ℕ, zero, suc, _+_, _*_, _/_, _%_, _≤_, _<_}
+use Prim.Native.Nat.{ℕ, suc, _+_, _*_, _/_, _%_, _≤_, _<_}
 use native.Mathlib.Omega.{arith}
 use native.Mathlib.Nat.{div-add-mod'}
-use native.Mathlib.Numerals.{add-one}
-use mathlib.Core.Path.{_≡_, refl, sym, _∙_, ap, subst}
+use mathlib.Core.Path.{_≡_, refl, sym, _∙_, subst}
 use mathlib.Core.Logic.{_≢_}
-use mathlib.Core.Bool.{Bool, true, false, false≢true, cond, _&&_, _||_, not}
+use mathlib.Core.Bool.{Bool, true, false, false≢true, _&&_, _||_}
 use mathlib.Core.List.{List, [], _∷_, _++_}
 use lib.Dec.{ltb, leb, eqb}
 use lib.ListN.{length, take, drop, getD, length-append, take-append-drop}
-use lib.Seq.{length-take-le, drop-cons, drop-drop}
-use borrow.Author.Tests.{ltb-true, ltb-false, leb-true, leb-false, eqb-true, eqb-false}
+use lib.Seq.{length-take-le, drop-cons}
+use borrow.Author.Tests.{ltb-true, leb-true, eqb-true, eqb-false}
 use Rattle.ion.specs.Value.{TypeCode, highBits}
 use Rattle.ion.specs.Fields.{VarUInt}
 use Rattle.ion.specs.Grammar.{Header, short, long}
-use Rattle.ion.proofs.Tests.{by-cases, both}
+use Rattle.ion.proofs.Tests.{by-cases}
 use Rattle.reading.specs.declared.Refusal.{Refusal}
 use Rattle.reading.specs.declared.Number.{Number}
 use Rattle.reading.specs.declared.Number.the-variants as N
 use Rattle.reading.specs.declared.Header.the-variants as H
 use Rattle.reading.specs.Headers as S
 use Rattle.reading.specs.Headers.{varUIntAt, impossible, alone, measured, never, headerAt}
-use Rattle.reading_grammar.proofs.Places.{Rest, rest-length, rest-next, rest-tail}
-use Rattle.reading_grammar.proofs.Numbers.{Numbered, found-number}
+use Rattle.reading_grammar.proofs.Places.{Rest, rest-length, rest-tail}
+use Rattle.reading_grammar.proofs.Numbers.{found-number}
 
 -- how the length n of the body behind the type byte k is told, and by which bytes
 pub data Framing (k n : ℕ) : List ℕ → Type 0 where

@@ -1,25 +1,22 @@
 -- A header of the grammar is found at its place: type byte, then length, then a body that lies within the bytes.
 -- Assumes nothing.
-use Prim.Native.Nat.{ℕ, suc, _+_, _*_, _/_, _%_, _≤_, _<_}
+use Prim.Native.Nat.{ℕ, _+_, _*_, _/_, _%_, _≤_, _<_}
 use native.Mathlib.Omega.{arith}
-use mathlib.Core.Path.{_≡_, refl, sym, _∙_, ap}
+use mathlib.Core.Path.{_≡_, refl, _∙_, ap}
 use mathlib.Core.Logic.{_≢_}
-use mathlib.Core.Bool.{Bool, true, false, cond, _&&_, _||_}
-use mathlib.Core.List.{List, [], _∷_, _++_}
-use lib.Dec.{ltb, leb, eqb}
+use mathlib.Core.Bool.{true, false, _&&_}
+use mathlib.Core.List.{List, _∷_, _++_}
+use lib.Dec.{eqb}
 use lib.ListN.{length, getD, length-append}
-use borrow.Author.Tests.{lt-ltb, le-leb, ne-eqb, le-ltb}
+use borrow.Author.Tests.{lt-ltb, le-leb, ne-eqb}
 use Rattle.ion.specs.Value.{TypeCode, highBits}
 use Rattle.ion.specs.Fields.{VarUInt}
 use Rattle.ion.specs.Grammar.{Header, short, long}
-use Rattle.ion.proofs.Fields.{varUInt-pos}
 use Rattle.reading.specs.declared.Refusal.{Refusal}
-use Rattle.reading.specs.declared.Number.{Number}
 use Rattle.reading.specs.declared.Number.the-variants as N
-use Rattle.reading.specs.declared.Header as DH
 use Rattle.reading.specs.declared.Header.the-variants as H
 use Rattle.reading.specs.Headers.{varUIntAt, impossible, alone, measured, never, headerAt}
-use Rattle.reading_grammar.proofs.Places.{Rest, rest-length, rest-next, rest-head, rest-tail}
+use Rattle.reading_grammar.proofs.Places.{Rest, rest-length, rest-head, rest-tail}
 use Rattle.reading_grammar.proofs.Numbers.{number-found}
 use Rattle.reading_grammar.proofs.TypeBytes.{high, low}
 

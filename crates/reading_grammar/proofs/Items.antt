@@ -1,30 +1,27 @@
 -- The other way, at one item: what an item that is found tells, test by test.
 -- Assumes nothing.
-use Prim.Native.Nat.{ℕ, zero, suc, _+_, _*_, _/_, _%_, _≤_, _<_}
+use Prim.Native.Nat.{ℕ, _+_, _≤_, _<_}
 use native.Mathlib.Omega.{arith}
-use mathlib.Core.Path.{_≡_, refl, sym, _∙_, ap, subst}
+use mathlib.Core.Path.{_≡_, refl, _∙_, ap}
 use mathlib.Core.Logic.{_≢_}
-use mathlib.Core.Bool.{Bool, true, false, false≢true, cond, _&&_, _||_, not}
+use mathlib.Core.Bool.{true, false, _&&_, _||_, not}
 use mathlib.Core.List.{List, [], _∷_, _++_}
 use lib.Dec.{ltb, leb, eqb}
-use lib.ListN.{length, take, drop, getD, length-append}
+use lib.ListN.{length}
 use lib.Seq.{slice}
-use borrow.Author.Tests.{ltb-true, ltb-false, leb-true, eqb-true, eqb-false, not-false}
-use Rattle.ion.proofs.Tests.{by-cases, both}
+use borrow.Author.Tests.{ltb-false, eqb-true, eqb-false, not-false}
+use Rattle.ion.proofs.Tests.{by-cases}
 use Rattle.reading.specs.declared.Refusal.{Refusal}
-use Rattle.reading.specs.declared.Refusal.the-variants.{NotIon, CutShort}
 use Rattle.reading.specs.declared.Number.{Number}
 use Rattle.reading.specs.declared.Number.the-variants as N
 use Rattle.reading.specs.declared.Header.the-variants as H
 use Rattle.reading.specs.declared.Wrapped.{Wrapped}
 use Rattle.reading.specs.declared.Wrapped.the-variants as W
-use Rattle.reading.specs.declared.Item.{Item}
 use Rattle.reading.specs.declared.Item.the-variants as I
-use Rattle.reading.specs.Headers.{headerAt, marked, markerAt, topHeaderAt}
+use Rattle.reading.specs.Headers.{marked}
 use Rattle.reading.specs.Items as S
-use Rattle.reading.specs.Items.{isPad, opens, falls, reads, isStream, nameAt, headIn, unwrapped, judged, itemAt}
-use Rattle.reading_grammar.proofs.Places.{Rest, rest-length, rest-next}
-use Rattle.reading_grammar.proofs.Framing.{neither, contrary, no-header}
+use Rattle.reading.specs.Items.{opens, falls, reads, nameAt, headIn, unwrapped, judged, itemAt}
+use Rattle.reading_grammar.proofs.Framing.{neither, no-header}
 
 no-item : {X : Type 0} {r : Refusal} {a b c d e g : ℕ} → I.No r ≡ I.Is a b c d e g → X
 no-item e = absurd (let z : _≡_ {A = ℕ} 0 1 = cc in omega arith)

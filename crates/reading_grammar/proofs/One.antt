@@ -1,34 +1,32 @@
 -- A value, bare or in its annotation wrapper, and a pad, at a place: as the walk finds them.
 -- Assumes nothing.
-use Prim.Native.Nat.{ℕ, zero, suc, _+_, _*_, _≤_, _<_}
+use Prim.Native.Nat.{ℕ, _+_, _≤_, _<_}
 use native.Mathlib.Omega.{arith}
 use mathlib.Core.Path.{_≡_, refl, sym, _∙_, ap}
 use mathlib.Core.Logic.{_≢_}
-use mathlib.Core.Bool.{Bool, true, false, cond, _&&_, _||_, not}
+use mathlib.Core.Bool.{true, false, cond}
 use mathlib.Core.List.{List, [], _∷_, _++_, append-assoc, append-nil}
-use mathlib.Core.Option.{Option, none, some, Option·some-injective}
-use lib.Dec.{ltb, leb, eqb}
+use mathlib.Core.Option.{Option, some, Option·some-injective}
+use lib.Dec.{ltb, eqb}
 use lib.ListN.{length, take, getD, length-append, List·getD-append}
-use lib.Seq.{slice, length-take-le}
-use borrow.Author.Tests.{le-leb, lt-ltb, ne-eqb, eq-eqb, le-ltb}
-use Rattle.ion.specs.Value.{nullCode, annotationCode, highBits, Value}
+use borrow.Author.Tests.{le-leb, ne-eqb, eq-eqb, le-ltb}
+use Rattle.ion.specs.Value.{nullCode, annotationCode, Value}
 use Rattle.ion.specs.Fields.{VarUInt, varUInts}
-use Rattle.ion.specs.Grammar.{Header, sids, _⟶_}
+use Rattle.ion.specs.Grammar.{Header}
 use Rattle.ion.proofs.Fields.{varUInt-pos}
 use Rattle.reading.specs.declared.Refusal.{Refusal}
 use Rattle.reading.specs.declared.Refusal.the-variants.{NotIon}
-use Rattle.reading.specs.declared.Number.the-variants as N
 use Rattle.reading.specs.declared.Header.the-variants as H
 use Rattle.reading.specs.declared.Wrapped.the-variants as W
-use Rattle.reading.specs.Headers.{impossible, never, varUIntAt, headerAt}
-use Rattle.reading.specs.Scalars.{isSome, sidsOf}
+use Rattle.reading.specs.Headers.{headerAt}
+use Rattle.reading.specs.Scalars.{sidsOf}
 use Rattle.reading.specs.Items.{isPad, isMarker, isWrapper, opens, reads, wrappedAt, unwrapped}
 use Rattle.reading.specs.Walk.{treeEvents, treeDepth, shows}
 use Rattle.reading_grammar.proofs.Places.{Rest, rest-length, rest-next, rest-slice, rest-within}
-use Rattle.reading_grammar.proofs.Numbers.{number-found, sids-found}
+use Rattle.reading_grammar.proofs.Numbers.{number-found}
 use Rattle.reading_grammar.proofs.TypeBytes as K
 use Rattle.reading_grammar.proofs.TypeBytes.{IsPadding}
-use Rattle.reading_grammar.proofs.Headed.{Usual, First, first, header-pos, plain-header}
+use Rattle.reading_grammar.proofs.Headed.{Usual, first, header-pos, plain-header}
 use Rattle.reading_grammar.proofs.Bare.{contentWalk, BareFound}
 
 -- the bytes b are found to be the value v: x is all before the sids, y all between them and the body

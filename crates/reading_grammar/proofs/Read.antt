@@ -1,19 +1,18 @@
 -- A walk that comes to its end shows a reading: by recursion over the fuel.
 -- Assumes nothing.
-use Prim.Native.Nat.{ℕ, zero, suc, _+_, _*_, _/_, _%_, _≤_, _<_}
+use Prim.Native.Nat.{ℕ, zero, suc, _+_, _/_, _%_, _≤_, _<_}
 use native.Mathlib.Omega.{arith}
 use mathlib.Core.Path.{_≡_, refl, sym, _∙_, ap, subst}
-use mathlib.Core.Logic.{_≢_}
-use mathlib.Core.Bool.{Bool, true, false, false≢true, cond, _&&_, _||_, not}
+use mathlib.Core.Bool.{Bool, true, false, cond, _&&_}
 use mathlib.Core.List.{List, [], _∷_, _++_}
 use mathlib.Core.Option.{Option, none, some}
 use lib.Dec.{ltb, leb, eqb}
 use lib.ListN.{length, take, drop, getD, length-append, length-drop}
 use lib.Seq.{slice, take-length}
-use borrow.Author.Tests.{ltb-true, ltb-false, le-ltb, lt-ltb, le-leb, lt-leb, leb-true, leb-false, eqb-true, eqb-false, ne-eqb, eq-eqb}
+use borrow.Author.Tests.{ltb-true, ltb-false, le-ltb, lt-ltb, le-leb, lt-leb, leb-false, ne-eqb}
 use Rattle.ion.specs.Value.{Scalar, IonType, ionList, ionSexp, ionStruct, list, sexp, Value, scalar, sequence, struct, Members, noMembers, member, Fields, noFields, field, Item, marker, value}
 use Rattle.ion.specs.Fields.{VarUInt}
-use Rattle.ion.specs.Grammar.{sorted, padding, bare, one, members, fields, stream, _⟶_, members-end, members-pad, members-next, fields-end, fields-pad, fields-next, stream-end, stream-pad, stream-marker, stream-next, Reads}
+use Rattle.ion.specs.Grammar.{sorted, padding, bare, one, members, fields, stream, _⟶_, members-end, members-pad, members-next, fields-end, fields-pad, fields-next, stream-end, stream-pad, stream-marker, stream-next}
 use Rattle.ion.proofs.Tests.{by-cases, both, and-true}
 use Rattle.reading.specs.declared.Refusal.{Refusal}
 use Rattle.reading.specs.declared.Refusal.the-variants.{NotIon}
@@ -26,19 +25,19 @@ use Rattle.reading.specs.declared.Item.the-variants as I
 use Rattle.reading.specs.declared.Reading.{Reading}
 use Rattle.reading.specs.declared.Reading.the-variants as R
 use Rattle.reading.specs.Headers.{impossible, headerAt, markerAt, topHeaderAt}
-use Rattle.reading.specs.Scalars.{isSome, scalarIn, sidsOf}
-use Rattle.reading.specs.Items.{isPad, isMarker, isWrapper, opens, isStream, hasNames, isSorted, falls, reads, raised, nameAt, headIn, unwrapped, itemAt}
+use Rattle.reading.specs.Scalars.{scalarIn}
+use Rattle.reading.specs.Items.{isPad, isMarker, opens, isStream, hasNames, isSorted, falls, reads, raised, headIn, unwrapped, itemAt}
 use Rattle.reading.specs.Walk as Shown
-use Rattle.reading.specs.Walk.{Event, leaf, begins, ends, treeEvents, memberEvents, fieldEvents, streamEvents, treeDepth, membersDepth, fieldsDepth, streamDepth, higher, Walk, before, _andThen_, shows, nameIn, annotations, containerType, leafWalk, containerWalk, itemWalk, stepWalk, walkFrom, walkIn, walk}
+use Rattle.reading.specs.Walk.{Event, leaf, begins, ends, treeEvents, memberEvents, fieldEvents, streamEvents, treeDepth, membersDepth, fieldsDepth, streamDepth, higher, Walk, before, _andThen_, shows, nameIn, containerType, leafWalk, containerWalk, itemWalk, stepWalk, walkFrom, walkIn, walk}
 use Rattle.reading.specs.Exact.{WalkIsReading}
-use Rattle.reading_grammar.proofs.Places.{Rest, rest-length, rest-next, rest-slice}
-use Rattle.reading_grammar.proofs.Numbers.{Numbered, found-number}
+use Rattle.reading_grammar.proofs.Places.{Rest, rest-length, rest-next}
+use Rattle.reading_grammar.proofs.Numbers.{found-number}
 use Rattle.reading_grammar.proofs.TypeBytes as K
-use Rattle.reading_grammar.proofs.Framing.{Framing, neither, contrary}
+use Rattle.reading_grammar.proofs.Framing.{Framing, contrary}
 use Rattle.reading_grammar.proofs.Derived.{pad-reading, scalar-reading, Opening, opening, list-reading, sexp-reading, struct-reading}
 use Rattle.reading_grammar.proofs.Unwrapped.{Valued, found-value, some-of}
 use Rattle.reading_grammar.proofs.Items.{Judged, item-judged, item-end, marked-bytes}
-use Rattle.reading_grammar.proofs.Steps.{outIn, headIn-plain, pad-shows-none}
+use Rattle.reading_grammar.proofs.Steps.{outIn, pad-shows-none}
 
 -- ---- two walks in a row that come to their end
 

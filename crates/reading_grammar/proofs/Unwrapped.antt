@@ -1,17 +1,17 @@
 -- The other way, at a value in its annotation wrapper: what is found is a wrapper of the grammar, or a bare value.
 -- Assumes nothing.
-use Prim.Native.Nat.{ℕ, zero, suc, _+_, _*_, _/_, _%_, _≤_, _<_}
+use Prim.Native.Nat.{ℕ, _+_, _/_, _%_, _≤_, _<_}
 use native.Mathlib.Omega.{arith}
-use mathlib.Core.Path.{_≡_, refl, sym, _∙_, ap, subst}
+use mathlib.Core.Path.{_≡_, refl, sym, _∙_, ap}
 use mathlib.Core.Logic.{_≢_}
-use mathlib.Core.Bool.{Bool, true, false, false≢true, cond, _&&_, _||_, not}
+use mathlib.Core.Bool.{true, false, false≢true, _&&_, _||_, not}
 use mathlib.Core.List.{List, [], _∷_, _++_, append-nil, append-assoc}
 use mathlib.Core.Option.{Option, none, some}
-use lib.Dec.{ltb, leb, eqb}
+use lib.Dec.{leb, eqb}
 use lib.ListN.{length, take, drop, length-append, take-append-drop}
 use lib.Seq.{slice, slice-empty, length-take-le}
 use borrow.Author.Tests.{ltb-true, leb-true, eqb-true, ne-eqb, not-false}
-use Rattle.ion.specs.Value.{annotationCode, highBits, Value}
+use Rattle.ion.specs.Value.{annotationCode, Value}
 use Rattle.ion.specs.Fields.{VarUInt, varUInts}
 use Rattle.ion.specs.Grammar.{Header, sids, bare, one, _⟶_, sids-end, sids-next, is-bare, is-annotated}
 use Rattle.ion.proofs.Tests.{by-cases, both}
@@ -22,12 +22,12 @@ use Rattle.reading.specs.declared.Number.the-variants as N
 use Rattle.reading.specs.declared.Header.{Header as Head}
 use Rattle.reading.specs.declared.Header.the-variants as H
 use Rattle.reading.specs.declared.Wrapped.the-variants as W
-use Rattle.reading.specs.Headers.{impossible, alone, varUIntAt, headerAt}
+use Rattle.reading.specs.Headers.{impossible, varUIntAt, headerAt}
 use Rattle.reading.specs.Scalars.{isSome, sidsOf}
 use Rattle.reading.specs.Items.{isPad, isWrapper, filled, annotated, wrappedAt, unwrapped}
 use Rattle.reading.specs.Walk.{annotations}
 use Rattle.reading_grammar.proofs.Places.{Rest, rest-length, rest-next, rest-slice, rest-within}
-use Rattle.reading_grammar.proofs.Numbers.{Numbered, found-number, found-sids}
+use Rattle.reading_grammar.proofs.Numbers.{found-number, found-sids}
 use Rattle.reading_grammar.proofs.Framing.{Framing, Framed, header-framed, framing-header, neither, contrary}
 
 no-wrapped : {X : Type 0} {r : Refusal} {a b c d e : ℕ} → W.No r ≡ W.Is a b c d e → X

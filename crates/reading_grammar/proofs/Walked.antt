@@ -1,18 +1,18 @@
 -- Every reading is what the walk shows: recursion over the grammar's productions.
 -- Assumes nothing.
-use Prim.Native.Nat.{ℕ, zero, suc, _+_, _*_, _≤_, _<_}
+use Prim.Native.Nat.{ℕ, zero, suc, _+_, _≤_, _<_}
 use native.Mathlib.Omega.{arith}
 use mathlib.Core.Path.{_≡_, refl, sym, _∙_, ap}
 use mathlib.Core.Logic.{_≢_}
-use mathlib.Core.Bool.{Bool, true, false, cond, _&&_, _||_, not}
-use mathlib.Core.List.{List, [], _∷_, _++_, append-nil}
-use mathlib.Core.Option.{Option, none, some}
-use lib.Dec.{ltb, leb, eqb}
-use lib.ListN.{length, take, drop, getD, length-append, length-drop}
+use mathlib.Core.Bool.{true, false, cond, _&&_}
+use mathlib.Core.List.{List, [], _∷_, _++_}
+use mathlib.Core.Option.{none, some}
+use lib.Dec.{ltb, leb}
+use lib.ListN.{length, drop, length-append, length-drop}
 use lib.Seq.{take-length}
-use borrow.Author.Tests.{le-ltb, le-leb, ne-eqb, eq-eqb, leb-true, leb-false}
+use borrow.Author.Tests.{le-ltb, le-leb, eq-eqb, leb-true, leb-false}
 use Rattle.ion.specs.Value.{Scalar, Value, Members, noMembers, member, Fields, noFields, field, Item, marker, value}
-use Rattle.ion.specs.Fields.{VarUInt, varUInts}
+use Rattle.ion.specs.Fields.{VarUInt}
 use Rattle.ion.specs.Grammar.{sorted, Phrase, padding, sids, bare, one, members, fields, stream, _⟶_, pad, sids-end, sids-next, is-null, is-false, is-true, is-zero, is-float32, is-float64, is-scalar, is-sequence, is-struct, is-sorted, is-bare, is-annotated, members-end, members-pad, members-next, fields-end, fields-pad, fields-next, stream-end, stream-pad, stream-marker, stream-next, Reads}
 use Rattle.ion.proofs.Tests.{by-cases, both}
 use Rattle.ion.proofs.Fields.{varUInt-pos}
@@ -20,7 +20,7 @@ use Rattle.reading.specs.declared.Refusal.{Refusal}
 use Rattle.reading.specs.declared.Refusal.the-variants.{NotIon}
 use Rattle.reading.specs.declared.Number.the-variants as N
 use Rattle.reading.specs.declared.Reading.the-variants as R
-use Rattle.reading.specs.Items.{isSorted, isStream, hasNames, nameAt, itemAt, mostOpen}
+use Rattle.reading.specs.Items.{isSorted, hasNames, nameAt, itemAt, mostOpen}
 use Rattle.reading.specs.Walk.{Event, treeEvents, memberEvents, fieldEvents, streamEvents, treeDepth, membersDepth, fieldsDepth, streamDepth, higher, Walk, shows, walkFrom, walkIn, walk}
 use Rattle.reading.specs.Exact.{ReadingIsWalked}
 use Rattle.reading_grammar.proofs.Places.{Rest, rest-length, rest-next}
