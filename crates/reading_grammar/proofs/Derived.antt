@@ -22,7 +22,8 @@ use Rattle.ion.proofs.Exact.{bind-some}
 use Rattle.reading.specs.Headers.{impossible, alone}
 use Rattle.reading.specs.Scalars.{codeFrom, codeOf, floatIn, boolOf, bodyOf, scalarIn}
 use Rattle.reading.specs.Items.{isPad, opens, isSorted}
-use Rattle.reading_grammar.proofs.Framing.{Framing, by-itself, by-low-bits, by-field, neither, contrary, or-left, framing-header, halves}
+use Rattle.reading_grammar.proofs.Tests.{neither, contrary, or-left}
+use Rattle.reading_grammar.proofs.Framing.{Framing, by-itself, by-low-bits, by-field, framing-header, halves}
 
 -- ---- pads
 

@@ -21,6 +21,7 @@ use Rattle.reading.specs.declared.Number.the-variants as N
 use Rattle.reading.specs.declared.Header.the-variants as H
 use Rattle.reading.specs.Headers as S
 use Rattle.reading.specs.Headers.{varUIntAt, impossible, alone, measured, never, headerAt}
+use Rattle.reading_grammar.proofs.Tests.{neither, contrary, or-left}
 use Rattle.reading_grammar.proofs.Places.{Rest, rest-length, rest-tail}
 use Rattle.reading_grammar.proofs.Numbers.{found-number}
 
@@ -110,17 +111,6 @@ header-framed out s at k start stop e =
     (λ h. no-header (rw h at e))
 
 -- ---- a header of the grammar
-
-pub neither : {a b : Bool} → (a || b) ≡ false → (a ≡ false) × (b ≡ false)
-neither {a = true} e = absurd (false≢true (sym e))
-neither {a = false} e = (refl, e)
-
-pub contrary : {X : Type 0} {b : Bool} → b ≡ false → b ≡ true → X
-contrary p q = absurd (false≢true (sym p ∙ q))
-
-pub or-left : {a b : Bool} → (a || b) ≡ true → b ≡ false → a ≡ true
-or-left {a = true} e p = refl
-or-left {a = false} e p = contrary p e
 
 pub halves : (k : ℕ) → k / 16 * 16 + k % 16 ≡ k
 halves k = div-add-mod' k 16

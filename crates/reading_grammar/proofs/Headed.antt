@@ -62,7 +62,6 @@ pub plain-header : (out : Refusal) {s : List ℕ} {at : ℕ} {c : TypeCode} {h :
     → Header c (length body) h → Usual (highBits c) (length body) → start ≡ at + length h → stop ≡ start + length body → Rest s at (h ++ (body ++ r))
     → headerAt out s at ≡ H.Is (getD h 0 0) start stop
 plain-header out {s} {at} {c} body r start stop (short lt) u e f x =
-    let n : ℕ = length body in
     let all : length s ≡ at + (1 + (length body + length r)) = rest-length x ∙ ap (λ (k : ℕ). at + k) (omega (arith, length-append body r)) in
     rw e
     (short-header out s at (highBits c * 16 + length body) (highBits c) (length body) (rest-head x) (omega arith) (high c (length body) (omega arith)) (low c (length body) (omega arith)) (u .shortly lt)
@@ -94,3 +93,8 @@ float-header out {s} {at} b l body r stop hi lo lt can n e x =
     let all : length s ≡ at + (1 + (length body + length r)) = rest-length x ∙ ap (λ (k : ℕ). at + k) (omega (arith, length-append body r)) in
     short-header out s at b 4 l (rest-head x) (omega arith) hi lo can
     (rw (ne-eqb l 15 (λ q. omega arith))) (rw (ne-eqb l 14 (λ q. omega arith))) refl stop (omega arith) (omega arith)
+
+-- Wherever these bytes of a header and a body stand, the header is found, with the type byte k.
+abbrev pub HeaderFound : ℕ → List ℕ → List ℕ → Type 0
+HeaderFound k h body =
+    (out : Refusal) (s : List ℕ) (at : ℕ) (r : List ℕ) (start stop : ℕ) → start ≡ at + length h → stop ≡ start + length body → Rest s at (h ++ (body ++ r)) → headerAt out s at ≡ H.Is k start stop

@@ -21,7 +21,8 @@ use Rattle.reading.specs.declared.Item.the-variants as I
 use Rattle.reading.specs.Headers.{marked}
 use Rattle.reading.specs.Items as S
 use Rattle.reading.specs.Items.{opens, falls, reads, nameAt, headIn, unwrapped, judged, itemAt}
-use Rattle.reading_grammar.proofs.Framing.{neither, no-header}
+use Rattle.reading_grammar.proofs.Tests.{neither}
+use Rattle.reading_grammar.proofs.Framing.{no-header}
 
 no-item : {X : Type 0} {r : Refusal} {a b c d e g : ℕ} → I.No r ≡ I.Is a b c d e g → X
 no-item e = absurd (let z : _≡_ {A = ℕ} 0 1 = cc in omega arith)

@@ -22,6 +22,7 @@ use Rattle.reading.specs.Headers.{headerAt}
 use Rattle.reading.specs.Scalars.{sidsOf}
 use Rattle.reading.specs.Items.{isPad, isMarker, isWrapper, opens, reads, wrappedAt, unwrapped}
 use Rattle.reading.specs.Walk.{treeEvents, treeDepth, shows}
+use Rattle.reading_grammar.proofs.Tests.{contrary}
 use Rattle.reading_grammar.proofs.Places.{Rest, rest-length, rest-next, rest-slice, rest-within}
 use Rattle.reading_grammar.proofs.Numbers.{number-found}
 use Rattle.reading_grammar.proofs.TypeBytes as K
@@ -53,7 +54,7 @@ pub record OneFound (b : List ℕ) (v : Value) : Type 0 where
 -- ---- without a wrapper
 
 marker-not : (k : ℕ) → isMarker k ≡ false → k ≢ 0xE0
-marker-not k e q = let y : _≡_ {A = ℕ} 1 0 = ap (λ b. cond b 1 0) (sym (eq-eqb k 0xE0 q) ∙ e) in omega arith
+marker-not k e q = contrary e (eq-eqb k 0xE0 q)
 
 pub one-bare : (b : List ℕ) (v : Value) → BareFound b [] v → OneFound b v
 unfolding sidsOf varUInts
@@ -132,7 +133,6 @@ module _ (h l n b an : List ℕ) (a : ℕ) (v : Value) (hd : Header annotationCo
     good = w .good;
     unwraps = λ out s at r from to start stop p q i j z.
       let m : Rest s at (h ++ ((l ++ (n ++ b)) ++ r)) = rw (append-assoc h (l ++ (n ++ b)) r) at z in
-      let begin : ℕ = at + length h in
       let size : length (l ++ (n ++ b)) ≡ length l + (length n + (length (w .header) + length (w .body))) = omega (arith, length-append l (n ++ b), length-append n b, ap length (w .joins), length-append (w .header) (w .body)) in
       let e₁ : from ≡ at + length h + length l = omega (arith, length-append h l) in
       let e₂ : stop ≡ at + length h + length (l ++ (n ++ b)) = omega arith in

@@ -30,12 +30,13 @@ use Rattle.reading.specs.Items.{isPad, isMarker, opens, isStream, hasNames, isS
 use Rattle.reading.specs.Walk as Shown
 use Rattle.reading.specs.Walk.{Event, leaf, begins, ends, treeEvents, memberEvents, fieldEvents, streamEvents, treeDepth, membersDepth, fieldsDepth, streamDepth, higher, Walk, before, _andThen_, shows, nameIn, containerType, leafWalk, containerWalk, itemWalk, stepWalk, walkFrom, walkIn, walk}
 use Rattle.reading.specs.Exact.{WalkIsReading}
+use Rattle.reading_grammar.proofs.Tests.{contrary, some-of}
 use Rattle.reading_grammar.proofs.Places.{Rest, rest-length, rest-next}
 use Rattle.reading_grammar.proofs.Numbers.{found-number}
 use Rattle.reading_grammar.proofs.TypeBytes as K
-use Rattle.reading_grammar.proofs.Framing.{Framing, contrary}
+use Rattle.reading_grammar.proofs.Framing.{Framing}
 use Rattle.reading_grammar.proofs.Derived.{pad-reading, scalar-reading, Opening, opening, list-reading, sexp-reading, struct-reading}
-use Rattle.reading_grammar.proofs.Unwrapped.{Valued, found-value, some-of}
+use Rattle.reading_grammar.proofs.Unwrapped.{Valued, found-value}
 use Rattle.reading_grammar.proofs.Items.{Judged, item-judged, item-end, marked-bytes}
 use Rattle.reading_grammar.proofs.Steps.{outIn, pad-shows-none}
 

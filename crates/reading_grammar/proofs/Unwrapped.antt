@@ -26,19 +26,16 @@ use Rattle.reading.specs.Headers.{impossible, varUIntAt, headerAt}
 use Rattle.reading.specs.Scalars.{isSome, sidsOf}
 use Rattle.reading.specs.Items.{isPad, isWrapper, filled, annotated, wrappedAt, unwrapped}
 use Rattle.reading.specs.Walk.{annotations}
+use Rattle.reading_grammar.proofs.Tests.{neither, contrary, some-of}
 use Rattle.reading_grammar.proofs.Places.{Rest, rest-length, rest-next, rest-slice, rest-within}
 use Rattle.reading_grammar.proofs.Numbers.{found-number, found-sids}
-use Rattle.reading_grammar.proofs.Framing.{Framing, Framed, header-framed, framing-header, neither, contrary}
+use Rattle.reading_grammar.proofs.Framing.{Framing, Framed, header-framed, framing-header}
 
 no-wrapped : {X : Type 0} {r : Refusal} {a b c d e : ℕ} → W.No r ≡ W.Is a b c d e → X
 no-wrapped e = absurd (let z : _≡_ {A = ℕ} 0 1 = cc in omega arith)
 
 wrapped-injective : {a b c d e a′ b′ c′ d′ e′ : ℕ} → W.Is a b c d e ≡ W.Is a′ b′ c′ d′ e′ → (a ≡ a′) × (b ≡ b′) × (c ≡ c′) × (d ≡ d′) × (e ≡ e′)
 wrapped-injective e = (cc, cc, cc, cc, cc)
-
-pub some-of : {A : Type 0} (o : Option A) → isSome o ≡ true → (x : A) × (o ≡ some x)
-some-of none e = absurd (false≢true e)
-some-of (some x) e = (x, refl)
 
 -- ---- the body of a wrapper
 
@@ -195,7 +192,6 @@ module _ (s : List ℕ) (at c i j from to k start stop : ℕ) (f : Framed s at c
   body-there : Rest s start (inner-head .body ++ f .rest)
   body-there =
       let g = inner-head in
-      let m : List ℕ = g .body ++ f .rest in
       rest-next (k ∷ g .tail) (g .body ++ f .rest) start (omega (arith, g .starts))
       (rest-next (w .n) (k ∷ (g .tail ++ (g .body ++ f .rest))) to (w .stops) (rest-next (w .l) (w .n ++ (k ∷ (g .tail ++ (g .body ++ f .rest)))) from (w .starts) all-here))
 
