@@ -11,5 +11,6 @@ pub mod Framing
 pub mod Derived
 pub mod Unwrapped
 pub mod Items
+pub mod Values
 pub mod Read
 pub mod Examples
