@@ -74,10 +74,10 @@ one-bare b v w = record {
   deep = w .deep;
   good = w .good;
   unwraps = λ out s at r from to start stop p q e f z.
-    let u : to ≡ from = omega arith in
-    let t : start ≡ from = omega arith in
-    let m : Rest s at (w .header ++ (w .body ++ r)) = rw append-assoc at (rw (w .joins) at z) in
-    rw (w .headed out s at r start stop (omega arith) f m, w .wrapper, u, t);
+      let u : to ≡ from = omega arith in
+      let t : start ≡ from = omega arith in
+      let m : Rest s at (w .header ++ (w .body ++ r)) = rw append-assoc at (rw (w .joins) at z) in
+      rw (w .headed out s at r start stop (omega arith) f m, w .wrapper, u, t);
   walks = w .walks;
 }
 
@@ -103,8 +103,18 @@ module _ (h l n b an : List ℕ) (a : ℕ) (v : Value) (hd : Header annotationCo
       let y : Rest t from (n ++ b) = rest-next l (n ++ b) from p x in
       let z : Rest t to b = rest-next n b to q y in
       let z′ : Rest t to (w .header ++ (w .body ++ [])) = rw (← append-nil (w .body)) at (rw (w .joins) at z) in
-      rw (number-found NotIon l (n ++ b) from e p x, le-leb 1 (length n) (sids-pos n k), ← q, le-leb to (length t) (omega arith), rest-slice n b to q y, k,
-      w .headed NotIon t to [] start stop i j z′, w .pad, w .wrapper, eq-eqb stop (length t) (sym len))
+      rw (
+        number-found NotIon l (n ++ b) from e p x,
+        le-leb 1 (length n) (sids-pos n k),
+        ← q,
+        le-leb to (length t) (omega arith),
+        rest-slice n b to q y,
+        k,
+        w .headed NotIon t to [] start stop i j z′,
+        w .pad,
+        w .wrapper,
+        eq-eqb stop (length t) (sym len),
+      )
 
   wrapper-size : 3 ≤ length (l ++ (n ++ b))
   wrapper-size = omega (arith, length-append l (n ++ b), length-append n b, ap length (w .joins), length-append (w .header) (w .body), varUInt-pos l e, sids-pos n k, w .pos)
@@ -132,14 +142,14 @@ module _ (h l n b an : List ℕ) (a : ℕ) (v : Value) (hd : Header annotationCo
     deep = w .deep;
     good = w .good;
     unwraps = λ out s at r from to start stop p q i j z.
-      let m : Rest s at (h ++ ((l ++ (n ++ b)) ++ r)) = rw (append-assoc h (l ++ (n ++ b)) r) at z in
-      let size : length (l ++ (n ++ b)) ≡ length l + (length n + (length (w .header) + length (w .body))) = omega (arith, length-append l (n ++ b), length-append n b, ap length (w .joins), length-append (w .header) (w .body)) in
-      let e₁ : from ≡ at + length h + length l = omega (arith, length-append h l) in
-      let e₂ : stop ≡ at + length h + length (l ++ (n ++ b)) = omega arith in
-      let in-s : Rest s (at + length h) ((l ++ (n ++ b)) ++ r) = rest-next h ((l ++ (n ++ b)) ++ r) (at + length h) refl m in
-      let in-t : Rest (take stop s) (at + length h) (l ++ (n ++ b)) = rest-within (l ++ (n ++ b)) r stop e₂ in-s in
-      rw (plain-header out (l ++ (n ++ b)) r (at + length h) stop hd (wrapper-usual (length (l ++ (n ++ b))) wrapper-size) refl e₂ m, wrapper-byte)
-      (wrapped-found (take stop s) (at + length h) from to start stop e₁ q i j (rest-length in-t ∙ sym e₂) in-t);
+        let m : Rest s at (h ++ ((l ++ (n ++ b)) ++ r)) = rw (append-assoc h (l ++ (n ++ b)) r) at z in
+        let size : length (l ++ (n ++ b)) ≡ length l + (length n + (length (w .header) + length (w .body))) = omega (arith, length-append l (n ++ b), length-append n b, ap length (w .joins), length-append (w .header) (w .body)) in
+        let e₁ : from ≡ at + length h + length l = omega (arith, length-append h l) in
+        let e₂ : stop ≡ at + length h + length (l ++ (n ++ b)) = omega arith in
+        let in-s : Rest s (at + length h) ((l ++ (n ++ b)) ++ r) = rest-next h ((l ++ (n ++ b)) ++ r) (at + length h) refl m in
+        let in-t : Rest (take stop s) (at + length h) (l ++ (n ++ b)) = rest-within (l ++ (n ++ b)) r stop e₂ in-s in
+        rw (plain-header out (l ++ (n ++ b)) r (at + length h) stop hd (wrapper-usual (length (l ++ (n ++ b))) wrapper-size) refl e₂ m, wrapper-byte)
+        (wrapped-found (take stop s) (at + length h) from to start stop e₁ q i j (rest-length in-t ∙ sym e₂) in-t);
     walks = w .walks;
   }
 

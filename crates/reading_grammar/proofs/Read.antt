@@ -150,9 +150,10 @@ pub bodies-sound : (f : ℕ) → MembersSound f × FieldsSound f
 unfolding walkFrom
 bodies-sound zero = (λ s parent least depth at b n ns le x size e. absurd (omega arith), λ s parent least depth at b n ns le x size e. absurd (omega arith))
 bodies-sound (suc f) =
-    let ih = bodies-sound f in
-    (λ s parent least depth at b n ns le x size e. members-step f (ih .0) (ih .1) s parent least depth at b n ns le x size (itemAt s parent least depth at) refl e,
-    λ s parent least depth at b n ns le x size e. fields-step f (ih .0) (ih .1) s parent least depth at b n ns le x size (itemAt s parent least depth at) refl e)
+    let ih = bodies-sound f in (
+      λ s parent least depth at b n ns le x size e. members-step f (ih .0) (ih .1) s parent least depth at b n ns le x size (itemAt s parent least depth at) refl e,
+      λ s parent least depth at b n ns le x size e. fields-step f (ih .0) (ih .1) s parent least depth at b n ns le x size (itemAt s parent least depth at) refl e,
+    )
 
 -- ---- streams
 

@@ -61,8 +61,18 @@ module _ (s : List ℕ) (parent least depth at name next : ℕ) (b : List ℕ) (
   item-found : itemAt s parent least depth at ≡ I.Is name from to (w .kind) start stop
   unfolding itemAt
   item-found =
-      rw (le-ltb (length s) at (omega arith), ne-eqb at (length s) (λ e. omega arith), named, headIn-plain s parent next first-byte, w .unwraps (outIn parent) s next r from to start stop p q i j x,
-      body-slice, w .good, w .pad, rises, not-deep (w .kind) depth (treeDepth v) (w .deep) shallow)
+      rw (
+        le-ltb (length s) at (omega arith),
+        ne-eqb at (length s) (λ e. omega arith),
+        named,
+        headIn-plain s parent next first-byte,
+        w .unwraps (outIn parent) s next r from to start stop p q i j x,
+        body-slice,
+        w .good,
+        w .pad,
+        rises,
+        not-deep (w .kind) depth (treeDepth v) (w .deep) shallow,
+      )
 
   item-walks : (f : ℕ) → length b ≤ f → itemWalk (λ t k l d m. walkFrom f t k l d m) s parent depth name from to (w .kind) start stop ≡ shows (treeEvents (nameIn parent name) v)
   item-walks f h =
@@ -91,8 +101,17 @@ module _ (s : List ℕ) (parent least depth at name next : ℕ) (b r : List ℕ)
   pad-item : itemAt s parent least depth at ≡ I.Is name (next + w .size) (next + w .size) (w .kind) (next + w .size) stop
   unfolding itemAt
   pad-item =
-      rw (le-ltb (length s) at (omega arith), ne-eqb at (length s) (λ e. omega arith), named, headIn-plain s parent next pad-byte, w .headed (outIn parent) s next r stop j x,
-      w .is .wrapper, w .is .pad, w .is .shut, and-false (isSorted parent))
+      rw (
+        le-ltb (length s) at (omega arith),
+        ne-eqb at (length s) (λ e. omega arith),
+        named,
+        headIn-plain s parent next pad-byte,
+        w .headed (outIn parent) s next r stop j x,
+        w .is .wrapper,
+        w .is .pad,
+        w .is .shut,
+        and-false (isSorted parent),
+      )
 
   pub step-pad : (f : ℕ) (es : List Event) → walkFrom f s parent least depth stop ≡ shows es → walkFrom (suc f) s parent least depth at ≡ shows es
   unfolding walkFrom

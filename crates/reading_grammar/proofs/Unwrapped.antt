@@ -72,7 +72,16 @@ module _ (t : List ℕ) (at from to k start stop : ℕ) where
       let h = neither {a = isWrapper c} (d .1) in
       let w = wrapped-injective (rw m at e) in
       record {
-        l = l; n = n; b = b; an = an; here = x; sized = v; starts = omega (arith, w .0); stops = omega (arith, w .0, w .1); known = y; some-sid = z;
+        l = l;
+        n = n;
+        b = b;
+        an = an;
+        here = x;
+        sized = v;
+        starts = omega (arith, w .0);
+        stops = omega (arith, w .0, w .1);
+        known = y;
+        some-sid = z;
         headed = rw (← w .1, ← w .2, ← w .3, ← w .4) u;
         pad = rw (← w .2) (d .0);
         wrapper = rw (← w .2) (h .0);
@@ -213,7 +222,7 @@ module _ (s : List ℕ) (at c i j from to k start stop : ℕ) (f : Framed s at c
         possible = g .possible;
         framing = g .framing;
         value = λ v r. rw body-parts
-          (annotated-reading (c ∷ f .tail) (w .l) (w .n) (w .b) (w .an) v (wrapper-head c (rw body-parts at (f .framing)) wr) (w .sized) (found-sids (w .n) (w .an) (w .known)) (w .some-sid) (rw value-bytes r));
+            (annotated-reading (c ∷ f .tail) (w .l) (w .n) (w .b) (w .an) v (wrapper-head c (rw body-parts at (f .framing)) wr) (w .sized) (found-sids (w .n) (w .an) (w .known)) (w .some-sid) (rw value-bytes r));
         pad = λ e. contrary (w .pad) e;
       }
 

@@ -67,7 +67,7 @@ value-step : (f : ℕ) (s : List ℕ) (parent least depth at name next : ℕ) (p
     → walkFrom (suc f) s parent least depth at ≡ shows (treeEvents (cond (hasNames parent) (some name) none) v ++ es)
 value-step f s parent least depth at name next p b v es w inside named x rises shallow le rest =
     let size : length p ≡ length (w .x) + (length (w .names) + (length (w .y) + length (w .body))) =
-      omega (arith, ap length (w .joins), length-append (w .x) (w .names ++ (w .y ++ w .body)), length-append (w .names) (w .y ++ w .body), length-append (w .y) (w .body)) in
+    omega (arith, ap length (w .joins), length-append (w .x) (w .names ++ (w .y ++ w .body)), length-append (w .names) (w .y ++ w .body), length-append (w .y) (w .body)) in
     step-value s parent least depth at name next p v b w inside named x rises shallow
     (next + length (w .x)) (next + length (w .x) + length (w .names)) (next + length (w .x) + length (w .names) + length (w .y)) (next + length p)
     refl refl refl (omega arith) f es le (rest (rest-next p b (next + length p) refl x))
