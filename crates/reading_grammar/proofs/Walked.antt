@@ -21,7 +21,7 @@ use Rattle.reading.specs.declared.Refusal.the-variants.{NotIon}
 use Rattle.reading.specs.declared.Number.the-variants as N
 use Rattle.reading.specs.declared.Reading.the-variants as R
 use Rattle.reading.specs.Items.{isSorted, hasNames, nameAt, itemAt, mostOpen}
-use Rattle.reading.specs.Walk.{Event, treeEvents, memberEvents, fieldEvents, streamEvents, treeDepth, membersDepth, fieldsDepth, streamDepth, higher, Walk, shows, walkFrom, walkIn, walk}
+use Rattle.reading.specs.Walk.{Event, treeEvents, memberEvents, fieldEvents, streamEvents, treeDepth, membersDepth, fieldsDepth, streamDepth, higher, Walk, shows, nameIn, walkFrom, walkIn, walk}
 use Rattle.reading.specs.Exact.{ReadingIsWalked}
 use Rattle.reading_grammar.proofs.Places.{Rest, rest-length, rest-next}
 use Rattle.reading_grammar.proofs.Numbers.{number-found, sids-found}
@@ -56,15 +56,15 @@ unfolding walkFrom itemAt
 walk-ends zero s parent least depth at x h = absurd (omega arith)
 walk-ends (suc f) s parent least depth at x h = rw (le-ltb (length s) at (omega (arith, rest-length x)), eq-eqb at (length s) (omega (arith, rest-length x)))
 
--- ---- members
+-- ---- one item
 
 one-length : {b : List ℕ} {v : Value} → OneFound b v → 0 < length b
 one-length {b} w = omega (arith, ap length (w .joins), length-append (w .x) (w .names ++ (w .y ++ w .body)), w .pos)
 
--- a value, given its name
+-- a value behind its name, and all that follows
 value-step : (f : ℕ) (s : List ℕ) (parent least depth at name next : ℕ) (p b : List ℕ) (v : Value) (es : List Event) → OneFound p v → at < length s → nameAt s parent at ≡ N.Is name next → Rest s next (p ++ b)
     → (isSorted parent && ltb name least) ≡ false → depth + treeDepth v ≤ 32 → length p ≤ f → (Rest s (next + length p) b → walkFrom f s parent name depth (next + length p) ≡ shows es)
-    → walkFrom (suc f) s parent least depth at ≡ shows (treeEvents (cond (hasNames parent) (some name) none) v ++ es)
+    → walkFrom (suc f) s parent least depth at ≡ shows (treeEvents (nameIn parent name) v ++ es)
 value-step f s parent least depth at name next p b v es w inside named x rises shallow le rest =
     let size : length p ≡ length (w .x) + (length (w .names) + (length (w .y) + length (w .body))) =
     omega (arith, ap length (w .joins), length-append (w .x) (w .names ++ (w .y ++ w .body)), length-append (w .names) (w .y ++ w .body), length-append (w .y) (w .body)) in
@@ -72,10 +72,13 @@ value-step f s parent least depth at name next p b v es w inside named x rises s
     (next + length (w .x)) (next + length (w .x) + length (w .names)) (next + length (w .x) + length (w .names) + length (w .y)) (next + length p)
     refl refl refl (omega arith) f es le (rest (rest-next p b (next + length p) refl x))
 
+-- a pad behind its name, and all that follows
 pad-step : (f : ℕ) (s : List ℕ) (parent least depth at name next : ℕ) (p b : List ℕ) (es : List Event) → PadFound p → at < length s → nameAt s parent at ≡ N.Is name next → Rest s next (p ++ b)
     → (Rest s (next + length p) b → walkFrom f s parent least depth (next + length p) ≡ shows es) → walkFrom (suc f) s parent least depth at ≡ shows es
 pad-step f s parent least depth at name next p b es w inside named x rest =
     step-pad s parent least depth at name next p b w inside named x (next + length p) refl f es (rest (rest-next p b (next + length p) refl x))
+
+-- ---- members
 
 no-name : (s : List ℕ) (parent at : ℕ) → hasNames parent ≡ false → nameAt s parent at ≡ N.Is 0 at
 no-name s parent at e = rw e
