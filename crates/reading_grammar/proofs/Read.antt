@@ -29,7 +29,7 @@ use Rattle.reading.specs.Scalars.{scalarIn}
 use Rattle.reading.specs.Items.{isPad, isMarker, opens, isStream, hasNames, isSorted, falls, reads, raised, headIn, unwrapped, itemAt}
 use Rattle.reading.specs.Walk as Shown
 use Rattle.reading.specs.Walk.{Event, leaf, begins, ends, treeEvents, memberEvents, fieldEvents, streamEvents, treeDepth, membersDepth, fieldsDepth, streamDepth, higher, Walk, before, _andThen_, shows, nameIn, containerType, leafWalk, containerWalk, itemWalk, stepWalk, walkFrom, walkIn, walk}
-use Rattle.reading.specs.Exact.{WalkIsReading}
+use Rattle.reading_grammar.specs.Exact.{WalkIsReading}
 use Rattle.reading_grammar.proofs.Tests.{contrary, some-of}
 use Rattle.reading_grammar.proofs.Places.{Rest, rest-length, rest-next}
 use Rattle.reading_grammar.proofs.Numbers.{found-number}

@@ -22,7 +22,7 @@ use Rattle.reading.specs.declared.Number.the-variants as N
 use Rattle.reading.specs.declared.Reading.the-variants as R
 use Rattle.reading.specs.Items.{isSorted, hasNames, nameAt, itemAt, mostOpen}
 use Rattle.reading.specs.Walk.{Event, treeEvents, memberEvents, fieldEvents, streamEvents, treeDepth, membersDepth, fieldsDepth, streamDepth, higher, Walk, shows, nameIn, walkFrom, walkIn, walk}
-use Rattle.reading.specs.Exact.{ReadingIsWalked}
+use Rattle.reading_grammar.specs.Exact.{ReadingIsWalked}
 use Rattle.reading_grammar.proofs.Places.{Rest, rest-length, rest-next}
 use Rattle.reading_grammar.proofs.Numbers.{number-found, sids-found}
 use Rattle.reading_grammar.proofs.Bare.{BareFound, MembersFound, FieldsFound, found-null, found-false, found-true, found-zero, found-float32, found-float64, found-scalar, found-sequence, found-struct, found-sorted}
