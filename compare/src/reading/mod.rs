@@ -5,6 +5,7 @@
 pub mod fields;
 pub mod item;
 pub mod scalar;
+pub mod streams;
 pub mod text;
 pub mod vectors;
 pub mod walk;

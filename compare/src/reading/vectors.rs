@@ -141,23 +141,35 @@ pub fn var_uint(number: u64) -> Vec<u8> {
     bytes
 }
 
+/// A stream and the position that it is read from.
+type Stream = (Vec<u8>, usize);
+
+/// Each rule with its streams.
+fn rules() -> Vec<(&'static str, Vec<Stream>)> {
+    let written = |text: &&str| {
+        let (hex, position) = text.split_once('@').unwrap_or((text, "0"));
+        (bytes(hex), position.parse().expect("a position"))
+    };
+    let mut rules: Vec<(&str, Vec<Stream>)> = RULES.iter().map(|rule| (rule.says, rule.streams.iter().map(written).collect())).collect();
+    for (says, stream) in made() {
+        match rules.last_mut() {
+            Some((said, streams)) if *said == says => streams.push((stream, 0)),
+            _ => rules.push((says, vec![(stream, 0)])),
+        }
+    }
+    rules
+}
+
+pub fn streams() -> Vec<Stream> {
+    rules().into_iter().flat_map(|(_, streams)| streams).collect()
+}
+
 /// Lines `HEX POSITION ANSWER`, those of a rule behind a line `# ` and what the rule says. No bytes are a minus.
 pub fn lines() -> Vec<String> {
     let mut lines = Vec::new();
-    for rule in RULES {
-        lines.push(format!("# {}", rule.says));
-        for stream in rule.streams {
-            let (hex, position) = stream.split_once('@').unwrap_or((stream, "0"));
-            lines.push(line(&bytes(hex), position.parse().expect("a position")));
-        }
-    }
-    let mut said = "";
-    for (says, stream) in made() {
-        if says != said {
-            lines.push(format!("# {says}"));
-            said = says;
-        }
-        lines.push(line(&stream, 0));
+    for (says, streams) in rules() {
+        lines.push(format!("# {says}"));
+        lines.extend(streams.iter().map(|(stream, position)| line(stream, *position)));
     }
     lines
 }
