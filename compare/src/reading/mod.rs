@@ -9,6 +9,7 @@ pub mod streams;
 pub mod text;
 pub mod vectors;
 pub mod walk;
+pub mod written;
 
 pub use item::{item, Item};
 pub use scalar::{Float, Fraction, Scalar, Timestamp};
