@@ -1,6 +1,6 @@
 //! read-streams SEED COUNT: streams through the reader and the model. First those that are always the same: every byte string of up to
-//! two bytes from every position, the vectors, and a log of a few records cut at every byte and with every byte changed; then COUNT
-//! random ones. The last line is 'N streams, D differences'.
+//! two bytes from every position, the vectors, fractions around one, and a log of a few records cut at every byte and with every byte
+//! changed; then COUNT random ones. The last line is 'N streams, D differences'.
 
 use std::process::ExitCode;
 
@@ -20,6 +20,9 @@ fn main() -> ExitCode {
     short(&mut tally);
     for (stream, position) in vectors::streams() {
         tally.walk(&stream, position);
+    }
+    for stream in streams::fractions() {
+        tally.walk(&stream, 0);
     }
     match log() {
         Ok(log) => damaged(&mut tally, &log),
