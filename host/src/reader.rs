@@ -15,16 +15,20 @@ use crate::{
 /// use goatminute::{Reader, Value};
 ///
 /// # fn main() -> Result<(), goatminute::ReadRefusal> {
-/// // {$10: 812.5, $11: [true]} with annotation $20
+/// // $ion_1_0 $20::{$10: 8125d-1, $11: [true]}
 /// let mut reader = Reader::new(b"\xE0\x01\x00\xEA\xEB\x81\x94\xD8\x8A\x53\xC1\x1F\xBD\x8B\xB1\x11");
 /// while let Some(item) = reader.next() {
 ///     let item = item?;
 ///     if let Value::Struct = item.value {
 ///         assert!(item.annotations.eq([20]));
 ///         reader.step_in()?;
-///         let load = reader.next().expect("a field")?;
-///         assert_eq!(load.name, Some(10));
-///         assert!(matches!(load.value, Value::Decimal(decimal) if decimal.exponent == -1));
+///         for field in reader.by_ref() {
+///             let field = field?;
+///             match field.value {
+///                 Value::Decimal(load) => assert_eq!((field.name, load.exponent), (Some(10), -1)),
+///                 _ => assert_eq!(field.name, Some(11)),
+///             }
+///         }
 ///         reader.step_out()?;
 ///     }
 /// }
