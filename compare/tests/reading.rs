@@ -85,7 +85,13 @@ fn a_body_that_the_stream_cuts_is_14_before_its_content() {
 
 #[test]
 fn headers_that_cannot_be_are_13_even_as_the_last_byte() {
-    all(&["f0", "ff", "12", "1e", "41", "4e", "4d", "30", "3e80", "60", "61", "6e81", "ef", "e1", "e2", "ee82", "d180", "d181", "de81"], "!13@0");
+    all(
+        &[
+            "f0", "ff", "12", "1e", "41", "4e", "4d", "30", "3e80", "60", "61", "6e81", "ef", "e1", "e2", "ee82", "d180", "d181",
+            "de81",
+        ],
+        "!13@0",
+    );
     // a length past 64 bits, as soon as it is
     all(&["2e02000000000000000000", "2e7f7f7f7f7f7f7f7f7f7f", "0e027f7f7f7f7f7f7f7fff"], "!13@0");
     // and the greatest that is not

@@ -1,6 +1,8 @@
 //! Measures the writer and the reader. `bench winch N` writes N records of a winch log, reads them back and prints their size, hash and
 //! times; `bench calls`, `bench closes` and `bench strings` print tables. Times of the tables are the least of many turns.
-use goatminute::{sys, Decimal, ListWriter, ReadRefusal, Reader, Refusal, StructWriter, Timestamp, WriteValues, Writer, STATE_SIZE};
+use goatminute::{
+    sys, Decimal, ListWriter, ReadRefusal, Reader, Refusal, StructWriter, Timestamp, WriteValues, Writer, STATE_SIZE,
+};
 use std::env;
 use std::hint::black_box;
 use std::process::ExitCode;

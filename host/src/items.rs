@@ -90,7 +90,13 @@ impl<'a> Magnitude<'a> {
     /// The sign and the magnitude of an Int: the top bit of its first byte is the sign.
     pub(crate) fn of_int(bytes: &'a [u8]) -> (bool, Self) {
         match bytes.split_first() {
-            Some((first, rest)) => (first & 0x80 != 0, Magnitude { first: first & 0x7F, rest }),
+            Some((first, rest)) => (
+                first & 0x80 != 0,
+                Magnitude {
+                    first: first & 0x7F,
+                    rest,
+                },
+            ),
             None => (false, Magnitude { first: 0, rest: &[] }),
         }
     }

@@ -54,7 +54,10 @@ fn scalars_come_whole() {
     assert_eq!(only(b"\x28\x80\0\0\0\0\0\0\0").value.as_i64(), None);
     assert_eq!(only(b"\x11").value.as_i64(), None);
     assert!(matches!(only(b"\x40").value, Value::Float(Float::Zero)));
-    assert!(matches!(only(b"\x44\x7F\xC0\x00\x01").value, Value::Float(Float::Binary32(0x7FC00001))));
+    assert!(matches!(
+        only(b"\x44\x7F\xC0\x00\x01").value,
+        Value::Float(Float::Binary32(0x7FC00001))
+    ));
     assert!(matches!(only(b"\x48\xBF\xF8\0\0\0\0\0\0").value, Value::Float(float) if float.value() == -1.5));
     let Value::Decimal(decimal) = only(b"\x53\xC1\x9F\xBD").value else {
         panic!("no decimal")
@@ -84,9 +87,7 @@ fn exponents_reach_the_ends_of_64_bits() {
 fn timestamps_come_in_utc_and_local() {
     let mut buf = [0; 64];
     let mut writer = Writer::new(&mut buf).unwrap();
-    let written = Timestamp::second(2026, 1, 1, 0, 30, 59)
-        .with_offset(60)
-        .with_fraction(3, 7);
+    let written = Timestamp::second(2026, 1, 1, 0, 30, 59).with_offset(60).with_fraction(3, 7);
     writer.write_timestamp(written).unwrap();
     writer.write_timestamp(Timestamp::month(1999, 12)).unwrap();
     let mut reader = Reader::at(writer.finished(), 4);
@@ -112,8 +113,14 @@ fn timestamps_come_in_utc_and_local() {
 #[test]
 fn offsets_to_the_ends_of_64_bits_have_a_local_time() {
     for (stream, offset) in [
-        (b"\x6E\x90\x00\x7F\x7F\x7F\x7F\x7F\x7F\x7F\x7F\xFF\x0F\xD0\x81\x81\x80\x80", i64::MAX),
-        (b"\x6E\x90\x41\x00\x00\x00\x00\x00\x00\x00\x00\x80\x0F\xD0\x81\x81\x80\x80", i64::MIN),
+        (
+            b"\x6E\x90\x00\x7F\x7F\x7F\x7F\x7F\x7F\x7F\x7F\xFF\x0F\xD0\x81\x81\x80\x80",
+            i64::MAX,
+        ),
+        (
+            b"\x6E\x90\x41\x00\x00\x00\x00\x00\x00\x00\x00\x80\x0F\xD0\x81\x81\x80\x80",
+            i64::MIN,
+        ),
     ] {
         let Value::Timestamp(read) = only(stream).value else {
             panic!("no timestamp")
@@ -247,8 +254,14 @@ fn thirty_two_containers_are_entered() {
 #[test]
 fn refusals_have_words_and_place() {
     let words = |stream: &[u8], position| Reader::at(stream, position).next().unwrap().unwrap_err().to_string();
-    assert_eq!(words(b"\x82a", 0), "the stream stops inside a value, a pad or a version marker (refusal 14) at byte 0");
-    assert_eq!(words(b"\x20\xFF", 1), "the bytes are outside the grammar of Ion 1.0 (refusal 13) at byte 1");
+    assert_eq!(
+        words(b"\x82a", 0),
+        "the stream stops inside a value, a pad or a version marker (refusal 14) at byte 0"
+    );
+    assert_eq!(
+        words(b"\x20\xFF", 1),
+        "the bytes are outside the grammar of Ion 1.0 (refusal 13) at byte 1"
+    );
     assert_eq!(words(b"", 1), "the position is past the stream's end (refusal 2) at byte 1");
 }
 

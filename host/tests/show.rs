@@ -64,11 +64,17 @@ fn timestamps() {
         (b"\x67\x80\x0F\xD0\x81\x81\x80\x80", "2000-01-01T00:00Z"),
         (b"\x67\xFC\x0F\xD0\x81\x81\x80\x80", "1999-12-31T23:00-01:00"),
         (b"\x69\xBC\x0F\xEA\x83\x8E\x93\x9E\x87\xC3", "2026-03-14T20:30:07.000+01:00"),
-        (b"\x6A\xBC\x0F\xEA\x83\x8E\x93\x9E\x87\xC3\x07", "2026-03-14T20:30:07.007+01:00"),
+        (
+            b"\x6A\xBC\x0F\xEA\x83\x8E\x93\x9E\x87\xC3\x07",
+            "2026-03-14T20:30:07.007+01:00",
+        ),
         // what the text has no form for
         (b"\x63\x80\x0F\xD0", "2000T /* offset 0 minutes */"),
         (b"\x63\xC0\x4E\x90", "10000T /* UTC year 10000 */"),
-        (b"\x68\x0B\xA0\x0F\xD0\x81\x81\x80\x80", "2000-01-01T00:00Z /* offset 1440 minutes */"),
+        (
+            b"\x68\x0B\xA0\x0F\xD0\x81\x81\x80\x80",
+            "2000-01-01T00:00Z /* offset 1440 minutes */",
+        ),
         (
             b"\x6E\x90\x41\0\0\0\0\0\0\0\0\x80\x0F\xD0\x81\x81\x80\x80",
             "2000-01-01T00:00Z /* offset -9223372036854775808 minutes */",
@@ -106,7 +112,10 @@ fn numbers_of_any_length() {
 #[test]
 fn containers() {
     let record = b"\xEE\x96\x82\x94\x95\xDE\x91\x8A\x21\x01\x8B\xB5\x20\xE3\x81\x84\x0F\x8C\xC3\x11\x71\x0A\x8D\xD0";
-    assert_eq!(line(record), "$20::$21::{$10: 1, $11: [0, $4::null], $12: (true $10), $13: {}}");
+    assert_eq!(
+        line(record),
+        "$20::$21::{$10: 1, $11: [0, $4::null], $12: (true $10), $13: {}}"
+    );
     assert_eq!(line(b"\xB0"), "[]");
     assert_eq!(shown(b"\x20\x00\x10").0, "0\nfalse\n");
     assert_eq!(shown(b"").0, "");
@@ -115,7 +124,10 @@ fn containers() {
 #[test]
 fn a_refusal_ends_the_text() {
     let refused = |refusal, place| Err(ReadRefusal { refusal, place });
-    assert_eq!(shown(b"\x20\xB3\x20\x12\x20"), ("0\n[0\n".to_string(), refused(Refusal::NotIon, 3)));
+    assert_eq!(
+        shown(b"\x20\xB3\x20\x12\x20"),
+        ("0\n[0\n".to_string(), refused(Refusal::NotIon, 3))
+    );
     assert_eq!(shown(b"\x20\x82a"), ("0\n".to_string(), refused(Refusal::CutShort, 1)));
     assert_eq!(shown(b"\xE0\x02"), (String::new(), refused(Refusal::NotIon, 0)));
 }

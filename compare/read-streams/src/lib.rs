@@ -9,6 +9,9 @@ use goatminute::{sys, Float, Fraction, IonType, Magnitude, Precision, ReadRefusa
 /// An answer that the model has no word for.
 pub type Odd = String;
 
+/// The type byte of no item.
+const NOTHING: u8 = 0xff;
+
 /// A walk through the host crate's reader, every container entered.
 pub fn walk(stream: &[u8], position: usize) -> Result<(Vec<Event>, Ending), Odd> {
     let mut reader = Reader::at(stream, position);
@@ -46,7 +49,7 @@ pub fn item(stream: &[u8], place: Place) -> Result<Result<Option<Item>, Refusal>
         Ok(parts) => parts,
         Err(why) => return refusal(why).map(Err),
     };
-    Ok(Ok((parts.kind != 0xff).then(|| Item {
+    Ok(Ok((parts.kind != NOTHING).then_some(Item {
         name: parts.name,
         sids: parts.sids..parts.sids_end,
         kind: parts.kind,

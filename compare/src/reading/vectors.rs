@@ -87,14 +87,21 @@ fn made() -> Vec<(&'static str, Vec<u8>)> {
     for count in [32, 33] {
         made.push((depth, nested(count, |body| headed(0xb0, body), vec![])));
         made.push((depth, nested(count, |body| headed(0xc0, body), vec![])));
-        made.push((depth, nested(count, |body| headed(0xd0, if body.is_empty() { body } else { [&[0x8a], &body[..]].concat() }), vec![])));
+        made.push((
+            depth,
+            nested(count, |body| headed(0xd0, if body.is_empty() { body } else { [&[0x8a], &body[..]].concat() }), vec![]),
+        ));
         made.push((depth, nested(count, |body| annotated(headed(0xb0, body)), vec![])));
     }
-    for inside in [&[0x20][..], &[0xbf], &[0xcf], &[0xdf], &[0xe3, 0x81, 0x8a, 0xbf], &[0xb0], &[0xc0], &[0xd0], &[0xe3, 0x81, 0x8a, 0xb0]] {
+    for inside in
+        [&[0x20][..], &[0xbf], &[0xcf], &[0xdf], &[0xe3, 0x81, 0x8a, 0xbf], &[0xb0], &[0xc0], &[0xd0], &[0xe3, 0x81, 0x8a, 0xb0]]
+    {
         made.push((depth, nested(32, |body| headed(0xb0, body), inside.to_vec())));
     }
     let last = "4 is the last refusal at a header, and comes in stream order";
-    for inside in [&[0x12, 0xb0][..], &[0xb0, 0x12], &[0xb1], &[0xd1, 0x80], &[0xde, 0x81], &[0x20, 0xb0], &[0xe4, 0x81, 0x8a, 0xb0, 0x20]] {
+    for inside in
+        [&[0x12, 0xb0][..], &[0xb0, 0x12], &[0xb1], &[0xd1, 0x80], &[0xde, 0x81], &[0x20, 0xb0], &[0xe4, 0x81, 0x8a, 0xb0, 0x20]]
+    {
         made.push((last, nested(32, |body| headed(0xb0, body), inside.to_vec())));
     }
     for inside in [&[0x8b, 0x20, 0x8a, 0xb0][..], &[0x8a, 0x20, 0x8a, 0xb0], &[0x8a, 0x20, 0x8b, 0xb0]] {
@@ -150,7 +157,8 @@ fn rules() -> Vec<(&'static str, Vec<Stream>)> {
         let (hex, position) = text.split_once('@').unwrap_or((text, "0"));
         (bytes(hex), position.parse().expect("a position"))
     };
-    let mut rules: Vec<(&str, Vec<Stream>)> = RULES.iter().map(|rule| (rule.says, rule.streams.iter().map(written).collect())).collect();
+    let mut rules: Vec<(&str, Vec<Stream>)> =
+        RULES.iter().map(|rule| (rule.says, rule.streams.iter().map(written).collect())).collect();
     for (says, stream) in made() {
         match rules.last_mut() {
             Some((said, streams)) if *said == says => streams.push((stream, 0)),

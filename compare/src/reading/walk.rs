@@ -23,7 +23,10 @@ pub enum Container {
 pub enum Ending {
     Whole,
     /// The item that does not read begins at `place`: a field with its name, an annotated value with its wrapper.
-    Refused { refusal: Refusal, place: usize },
+    Refused {
+        refusal: Refusal,
+        place: usize,
+    },
 }
 
 /// From a position of a stream.

@@ -52,9 +52,7 @@ fn scalar(value: &Value) -> Scalar {
         Value::Int(int) => Scalar::Int(int.clone()),
         Value::F32(bits) => Scalar::Float(Float::Binary64(Float::Binary32(*bits).value())),
         Value::F64(bits) => Scalar::Float(Float::Binary64(Float::Binary64(*bits).value())),
-        Value::Decimal { coefficient, exponent } => {
-            Scalar::Decimal { coefficient: coefficient.clone(), exponent: *exponent }
-        }
+        Value::Decimal { coefficient, exponent } => Scalar::Decimal { coefficient: coefficient.clone(), exponent: *exponent },
         Value::Timestamp(local) => Scalar::Timestamp(utc(local)),
         Value::Symbol(symbol) => Scalar::Symbol(sid(symbol)),
         Value::String(bytes) => Scalar::String(bytes.clone()),
