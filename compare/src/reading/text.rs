@@ -3,8 +3,9 @@
 //! `m` is a marker; `[`, `(` and `{` begin a list, an s-expression and a struct, and `.` ends one. A scalar is a letter and what
 //! it holds: `n` null, by its type code; `b` bool; `i` int, sign and magnitude in hex; `f` float, its bytes in hex; `d` decimal,
 //! sign and coefficient in hex, `:`, exponent; `t` timestamp, offset or `?`, `:`, UTC fields, `:`, digits of the fraction and
-//! their number in hex, or nothing; `s` symbol; `u` string, `c` clob and `o` blob, their bytes in hex. A name stands before it
-//! with `=`, each annotation with `::`. The last word is how the walk ended: `whole`, or `!`, the number, `@` and the place.
+//! their number in hex, or nothing; `s` symbol; `u` string, `c` clob and `o` blob, their bytes in hex. Magnitudes and coefficients
+//! are without leading zero bytes. A name stands before its value with `=`, each annotation with `::`. The last word is how the walk
+//! ended: `whole`, or `!`, the number, `@` and the place.
 
 use std::fmt::{self, Display, Formatter, Write};
 
