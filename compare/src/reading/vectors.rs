@@ -182,7 +182,7 @@ pub fn lines() -> Vec<String> {
     lines
 }
 
-fn line(stream: &[u8], position: usize) -> String {
+pub fn line(stream: &[u8], position: usize) -> String {
     let (events, ending) = walk(stream, position);
     let hex = if stream.is_empty() { "-".to_string() } else { Hex(stream).to_string() };
     format!("{hex} {position} {}", text::line(&events, ending))
