@@ -170,7 +170,8 @@ size_t gm_finished(const uint8_t *state, size_t state_len, const uint8_t *buf, s
  * A stream is begun with end = its length and 0 for the others, at any position.
  *
  * What is answered goes to a slice that is lent for it, as many numbers as it holds; a refused call leaves it as it was,
- * but for gm_read_rest. Of several reasons at one item the order is 2, 13, 14, 4. */
+ * but for gm_read_rest. The first reason answers: 2; 13 for a header that cannot be; 14 for one that the stream cuts, or whose
+ * body it cuts; 13 for what the body holds, and for all that does not fit into its container; 4. */
 
 #define GM_NOTHING 0xFF /* the kind of no item: the position is the end */
 #define GM_MARKER 0xE0  /* the kind of a version marker */

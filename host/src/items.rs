@@ -162,7 +162,7 @@ pub struct ReadTimestamp<'a> {
     pub precision: Precision,
     /// Minutes east of UTC; `None` is the unknown offset.
     pub offset: Option<i64>,
-    /// The fields of UTC; past the precision they are the year's first moment's.
+    /// The fields of UTC.
     pub utc: Fields,
     pub fraction: Option<Fraction<'a>>,
 }

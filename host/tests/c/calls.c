@@ -68,6 +68,15 @@ static void read_back(const uint8_t *stream, size_t length) {
     CHECK(gm_read_sid(stream + 7, 1, 0, numbers, 2) == GM_ACCEPTED);
     CHECK(numbers[0] == 20 && numbers[1] == 1);
 
+    memset(numbers, 0xEE, sizeof numbers);
+    CHECK(gm_read_item(stream, length, length, 0, 0, 0, 4, numbers, 0) == GM_ACCEPTED);
+    CHECK(numbers[0] == UINT64_C(0xEEEEEEEEEEEEEEEE));
+    CHECK(gm_read_item(stream, length, length, 0, 0, 0, 4, numbers, 2) == GM_ACCEPTED);
+    CHECK(numbers[1] == 7 && numbers[2] == UINT64_C(0xEEEEEEEEEEEEEEEE));
+    CHECK(gm_read_item(cut, sizeof cut, sizeof cut, 0, 0, 0, 0, numbers, 6) == GM_CUT_SHORT);
+    CHECK(numbers[0] == 0 && numbers[1] == 7 && numbers[2] == UINT64_C(0xEEEEEEEEEEEEEEEE));
+    CHECK(gm_read_rest(cut, sizeof cut, sizeof cut, 0, 0, 0, 0, numbers, 0) == GM_CUT_SHORT);
+
     CHECK(gm_read_rest(cut, sizeof cut, sizeof cut, 0, 0, 0, 0, numbers, 1) == GM_CUT_SHORT);
     CHECK(numbers[0] == 0);
     CHECK(gm_read_rest(wrong, sizeof wrong, sizeof wrong, 0, 0, 0, 0, numbers, 1) == GM_NOT_ION);
