@@ -16,6 +16,9 @@ use Rattle.reading.specs.declared.Number.{Number}
 use Rattle.reading.specs.declared.Number.the-variants as N
 use Rattle.reading.specs.Headers.{varUIntFrom, varUIntAt}
 
+pub drop-next : (s : List ℕ) (i : ℕ) → i < length s → drop i s ≡ getD s i 0 ∷ drop (i + 1) s
+drop-next s i inside = rw (add-one i) (drop-cons s i 0 inside)
+
 -- ---- the byte at i, behind groups that make acc
 
 module _ (out : Refusal) (s : List ℕ) (acc i : ℕ) where
@@ -24,20 +27,17 @@ module _ (out : Refusal) (s : List ℕ) (acc i : ℕ) where
   varUInt-out h = rw (drop-of-length-le s h) refl
 
   module _ (inside : i < length s) where
-    drop-next : drop i s ≡ getD s i 0 ∷ drop (i + 1) s
-    drop-next = rw (add-one i) (drop-cons s i 0 inside)
-
     pub varUInt-past : 2 ^ 57 ≤ acc → varUIntFrom out acc i (drop i s) ≡ N.No NotIon
     unfolding varUIntFrom
-    varUInt-past h = rw (drop-next, le-ltb (acc * 128 + getD s i 0 % 128) (2 ^ 64) (omega arith)) refl
+    varUInt-past h = rw (drop-next s i inside, le-ltb (acc * 128 + getD s i 0 % 128) (2 ^ 64) (omega arith)) refl
 
     pub varUInt-last : acc < 2 ^ 57 → 0x80 ≤ getD s i 0 → varUIntFrom out acc i (drop i s) ≡ N.Is (acc * 128 + getD s i 0 % 128) (i + 1)
     unfolding varUIntFrom
-    varUInt-last h k = rw (drop-next, lt-ltb (acc * 128 + getD s i 0 % 128) (2 ^ 64) (omega arith), le-ltb (getD s i 0) 0x80 k) refl
+    varUInt-last h k = rw (drop-next s i inside, lt-ltb (acc * 128 + getD s i 0 % 128) (2 ^ 64) (omega arith), le-ltb (getD s i 0) 0x80 k) refl
 
     pub varUInt-more : acc < 2 ^ 57 → getD s i 0 < 0x80 → varUIntFrom out acc i (drop i s) ≡ varUIntFrom out (acc * 128 + getD s i 0 % 128) (i + 1) (drop (i + 1) s)
     unfolding varUIntFrom
-    varUInt-more h k = rw (drop-next, lt-ltb (acc * 128 + getD s i 0 % 128) (2 ^ 64) (omega arith), lt-ltb (getD s i 0) 0x80 k) refl
+    varUInt-more h k = rw (drop-next s i inside, lt-ltb (acc * 128 + getD s i 0 % 128) (2 ^ 64) (omega arith), lt-ltb (getD s i 0) 0x80 k) refl
 
 -- ---- a VarUInt that reads: it takes a byte, lies within the bytes, and has 64 bits at most
 

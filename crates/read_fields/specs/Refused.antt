@@ -1,4 +1,4 @@
--- The refusal in the place of a number; a number that reads has none, and the definition is total by a case of its own.
+-- Why a VarUInt does not read. One that reads has no refusal; the case is there for the definition to be total.
 -- Assumes nothing.
 use Rattle.reading.specs.declared.Refusal.{Refusal}
 use Rattle.reading.specs.declared.Refusal.the-variants.{NotIon}

@@ -24,7 +24,10 @@ fn long_var_uint(s: &[u8], at: usize, out: Refusal) -> Number
         let more = value * 128 + (b % 128) as u64;
         i += 1;
         if END_FLAG <= b {
-            return Number::Is { value: more, next: i };
+            return Number::Is {
+                value: more,
+                next: i,
+            };
         }
         value = more;
     }
@@ -40,7 +43,10 @@ pub fn var_uint(s: &[u8], at: usize, out: Refusal) -> Number
     }
     let b = s[at];
     if END_FLAG <= b {
-        return Number::Is { value: (b % 128) as u64, next: at + 1 };
+        return Number::Is {
+            value: (b % 128) as u64,
+            next: at + 1,
+        };
     }
     long_var_uint(s, at, out)
 }
