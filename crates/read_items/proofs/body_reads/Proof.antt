@@ -1,43 +1,45 @@
+-- Pads, markers and containers are not judged by their body; a scalar's body is the part between its start and its stop. Assumes nothing.
+use mathlib.Core.Path.{_≡_, refl, sym, _∙_, ap}
+use native.Mathlib.Omega.{arith}
+use mathlib.Core.Bool.{_||_}
+use lib.Dec.{eqb}
+use lib.Seq.{slice}
+use Rattle.reading.specs.Scalars.{isSome, scalarIn}
+use Rattle.reading.specs.Items.{isPad, isMarker, opens}
+use Rattle.read_items.proofs.Parts.{part-slice}
+use Rattle.read_items.proofs.Steps.{reads-without, reads-by-body}
 use borrow.Author.Needs.{needs}
 use Rattle.read_items.proofs.body_reads.Statement.{statement}
 use Rattle.read_items.proofs.body_reads.Tie as tie
-use Rattle.read_items.proofs.body_reads.Reads as reads
-use Rattle.read_items.proofs.body_reads.Lts as lts
-use Rattle.read_items.proofs.is_container.Reads as is-container-reads
-use Rattle.read_items.proofs.is_pad.Reads as is-pad-reads
-use Rattle.read_scalars.proofs.reads.Reads as reads-reads
 
--- src/lib.rt:210:8
 is-pad-requires : tie.Need-is-pad-requires
 is-pad-requires c κs = search needs
 
--- src/lib.rt:210:43
 is-container-requires : tie.Need-is-container-requires
 is-container-requires c κs = search needs
 
--- src/lib.rt:211:9
 returns : tie.Need-returns
-returns c = ?
+returns c =
+    let d = c .before in let a = d .before .before .before .args in
+    sym (reads-without (a .kind) (slice (a .start) (a .stop) (a .s .now)) (d .before .is-pad .result) (d .is-container .result) (d .before .is-pad .ensures) (d .is-container .ensures) (c .if1 .taken))
 
--- src/lib.rt:213:31
 sub-reads : tie.Need-sub-reads
 sub-reads c = search needs
 
--- src/lib.rt:213:31
 part-reads-start : tie.Need-part-reads-start
 part-reads-start c = search needs
 
--- src/lib.rt:213:31
 part-reads-end : tie.Need-part-reads-end
 part-reads-end c = search needs
 
--- src/lib.rt:213:5
 reads-requires : tie.Need-reads-requires
-reads-requires c κs = ?
+reads-requires c κs = search needs
 
--- src/lib.rt:206:1
 returns-2 : tie.Need-returns-2
-returns-2 c = ?
+returns-2 c =
+    let e = c .before .before in let d = e .before in let k = d .before .before .before in let a = k .args in
+    c .reads .ensures ∙ ap (λ l. isSome (scalarIn (a .kind) l)) (part-slice (a .s .now) (a .start) (a .stop) (k .pre .0) (k .pre .1))
+      ∙ sym (reads-by-body (a .kind) (slice (a .start) (a .stop) (a .s .now)) (d .before .is-pad .result) (d .is-container .result) (d .before .is-pad .ensures) (d .is-container .ensures) (e .if1 .left))
 
 pub body-reads-spec : {M : Type 1} → statement M
 body-reads-spec =

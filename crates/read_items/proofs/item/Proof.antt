@@ -1,47 +1,58 @@
+-- Past the end there is a refusal, at the end nothing, before it the item of a name. Assumes nothing.
+use mathlib.Core.Path.{_≡_, refl, sym, _∙_, ap}
+use native.Mathlib.Omega.{arith}
+use lib.ListN.{length}
+use borrow.Author.Tests.{lt-ltb, le-ltb, eq-eqb, ne-eqb}
+use Rattle.reading.specs.declared.Item.the-variants as I
+use Rattle.reading.specs.Items.{nameAt, named, itemAt}
+use Rattle.read_fields.specs.Refused.{numberRefusal}
 use borrow.Author.Needs.{needs}
 use Rattle.read_items.proofs.item.Statement.{statement}
 use Rattle.read_items.proofs.item.Tie as tie
-use Rattle.read_items.proofs.item.Reads as reads
-use Rattle.read_items.proofs.item.Lts as lts
-use Rattle.read_fields.proofs.number_refusal.Reads as number-refusal-reads
-use Rattle.read_items.proofs.name_at.Reads as name-at-reads
-use Rattle.read_items.proofs.named_item.Reads as named-item-reads
 
--- src/lib.rt:266:9
+abbrev start-of : tie.After-name-at → tie.Start
+start-of c = c .before .before .before .before
+
+item-inside : (c : tie.Else2) → let a = c .before .before .before .args in
+    itemAt (a .s .now) (a .parent) (a .least) (a .depth) (a .at) ≡ named (a .s .now) (a .parent) (a .least) (a .depth) (nameAt (a .s .now) (a .parent) (a .at))
+unfolding itemAt
+item-inside c =
+    let a = c .before .before .before .args in
+    rw (le-ltb (length (a .s .now)) (a .at) (omega arith), ne-eqb (a .at) (length (a .s .now)) (c .if2 .left)) refl
+
 returns : tie.Need-returns
-returns c = ?
+unfolding itemAt
+returns c = let a = c .before .before .args in rw (lt-ltb (length (a .s .now)) (a .at) (c .if1 .taken)) refl
 
--- src/lib.rt:269:9
 returns-2 : tie.Need-returns-2
-returns-2 c = ?
+unfolding itemAt
+returns-2 c = let a = c .before .before .before .args in rw (le-ltb (length (a .s .now)) (a .at) (omega arith), eq-eqb (a .at) (length (a .s .now)) (c .if2 .taken)) refl
 
--- src/lib.rt:271:9
 name-at-requires : tie.Need-name-at-requires
 name-at-requires c κs = search needs
 
--- src/lib.rt:272:22
 enum-known-name : tie.Need-enum-known-name
 enum-known-name c = search needs
 
--- src/lib.rt:273:25
 enum-told : tie.Need-enum-told
 enum-told c = search needs
 
--- src/lib.rt:273:25
 number-refusal-requires : tie.Need-number-refusal-requires
 number-refusal-requires c κs = search needs
 
--- src/lib.rt:273:9
 returns-3 : tie.Need-returns-3
-returns-3 c = ?
+returns-3 c =
+    let e = c .before .enum-told .given .1 in let n = c .before .before .before in let a = start-of n .args in
+    ap I.No (c .number-refusal .ensures ∙ ap numberRefusal e)
+      ∙ ap (named (a .s .now) (a .parent) (a .least) (a .depth)) (sym e ∙ n .name-at .ensures) ∙ sym (item-inside (n .before))
 
--- src/lib.rt:275:5
 named-item-requires : tie.Need-named-item-requires
 named-item-requires c κs = search needs
 
--- src/lib.rt:262:1
 returns-4 : tie.Need-returns-4
-returns-4 c = ?
+returns-4 c =
+    let d = c .before .before in let n = d .before .before in let a = start-of n .args in
+    c .named-item .ensures ∙ ap (named (a .s .now) (a .parent) (a .least) (a .depth)) (sym (d .name .given .1) ∙ n .name-at .ensures) ∙ sym (item-inside (n .before))
 
 pub item-spec : {M : Type 1} → statement M
 item-spec =

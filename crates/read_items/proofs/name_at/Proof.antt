@@ -1,26 +1,20 @@
+-- The name, which a struct's items have. Assumes nothing.
+use mathlib.Core.Path.{refl, sym, _∙_}
 use borrow.Author.Needs.{needs}
 use Rattle.read_items.proofs.name_at.Statement.{statement}
 use Rattle.read_items.proofs.name_at.Tie as tie
-use Rattle.read_items.proofs.name_at.Reads as reads
-use Rattle.read_items.proofs.name_at.Lts as lts
-use Rattle.read_fields.proofs.var_uint.Reads as var-uint-reads
-use Rattle.read_items.proofs.has_names.Reads as has-names-reads
 
--- src/lib.rt:124:8
 has-names-requires : tie.Need-has-names-requires
 has-names-requires c κs = search needs
 
--- src/lib.rt:125:9
 var-uint-requires : tie.Need-var-uint-requires
 var-uint-requires c κs = search needs
 
--- src/lib.rt:125:9
 returns : tie.Need-returns
-returns c = ?
+returns c = c .var-uint .ensures ∙ (rw (sym (c .before .before .has-names .ensures) ∙ c .before .if1 .taken) refl)
 
--- src/lib.rt:121:1
 returns-2 : tie.Need-returns-2
-returns-2 c = ?
+returns-2 c = rw (sym (c .before .has-names .ensures) ∙ c .if1 .left) refl
 
 pub name-at-spec : {M : Type 1} → statement M
 name-at-spec = tie.close (tie.spec has-names-requires var-uint-requires returns returns-2)

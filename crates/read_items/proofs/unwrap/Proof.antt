@@ -1,30 +1,25 @@
+-- A wrapper's bytes are the first ones, up to its end; any other value stands as it is. Assumes nothing.
+use mathlib.Core.Path.{_≡_, refl, sym, _∙_}
+use native.Mathlib.Omega.{arith}
+use lib.Seq.{length-take-le}
 use borrow.Author.Needs.{needs}
 use Rattle.read_items.proofs.unwrap.Statement.{statement}
 use Rattle.read_items.proofs.unwrap.Tie as tie
-use Rattle.read_items.proofs.unwrap.Reads as reads
-use Rattle.read_items.proofs.unwrap.Lts as lts
-use Rattle.read_items.proofs.is_wrapper.Reads as is-wrapper-reads
-use Rattle.read_items.proofs.wrapped.Reads as wrapped-reads
 
--- src/lib.rt:193:8
 is-wrapper-requires : tie.Need-is-wrapper-requires
 is-wrapper-requires c κs = search needs
 
--- src/lib.rt:194:24
 slice-aggregate-wrapped : tie.Need-slice-aggregate-wrapped
-slice-aggregate-wrapped c = ?
+slice-aggregate-wrapped c = let k = c .before .before .before .before in sym (length-take-le (k .args .stop) (k .args .s .now) (k .pre))
 
--- src/lib.rt:194:9
 wrapped-requires : tie.Need-wrapped-requires
 wrapped-requires c κs = search needs
 
--- src/lib.rt:194:9
 returns : tie.Need-returns
-returns c = ?
+returns c = c .wrapped .ensures ∙ (rw (sym (c .before .before .before .is-wrapper .ensures) ∙ c .before .before .if1 .taken) refl)
 
--- src/lib.rt:189:1
 returns-2 : tie.Need-returns-2
-returns-2 c = ?
+returns-2 c = rw (sym (c .before .is-wrapper .ensures) ∙ c .if1 .left) refl
 
 pub unwrap-spec : {M : Type 1} → statement M
 unwrap-spec =

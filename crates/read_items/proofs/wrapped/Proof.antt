@@ -1,39 +1,42 @@
+-- A wrapper's body: the length of its sids, or its refusal, and what stands behind it. Assumes nothing.
+use mathlib.Core.Path.{_≡_, refl, sym, _∙_, ap}
+use Rattle.reading.specs.declared.Refusal.the-variants.{NotIon}
+use Rattle.reading.specs.declared.Wrapped.the-variants as W
+use Rattle.reading.specs.Items.{annotated, wrappedAt}
+use Rattle.read_fields.specs.Refused.{numberRefusal}
+use Rattle.read_fields.proofs.VarUInts.{varUInt-bounds}
 use borrow.Author.Needs.{needs}
 use Rattle.read_items.proofs.wrapped.Statement.{statement}
 use Rattle.read_items.proofs.wrapped.Tie as tie
-use Rattle.read_items.proofs.wrapped.Reads as reads
-use Rattle.read_items.proofs.wrapped.Lts as lts
-use Rattle.read_fields.proofs.number_refusal.Reads as number-refusal-reads
-use Rattle.read_fields.proofs.var_uint.Reads as var-uint-reads
-use Rattle.read_items.proofs.annotated_value.Reads as annotated-value-reads
 
--- src/lib.rt:181:9
 var-uint-requires : tie.Need-var-uint-requires
 var-uint-requires c κs = search needs
 
--- src/lib.rt:182:22
 enum-known-sum : tie.Need-enum-known-sum
 enum-known-sum c = search needs
 
--- src/lib.rt:183:28
 enum-told : tie.Need-enum-told
 enum-told c = search needs
 
--- src/lib.rt:183:28
 number-refusal-requires : tie.Need-number-refusal-requires
 number-refusal-requires c κs = search needs
 
--- src/lib.rt:183:9
 returns : tie.Need-returns
-returns c = ?
+unfolding wrappedAt
+returns c =
+    let e = c .before .enum-told .given .1 in let f = c .before .before .before in let a = f .before .before .args in
+    ap W.No (c .number-refusal .ensures ∙ ap numberRefusal e) ∙ ap (annotated (a .s .now)) (sym e ∙ f .var-uint .ensures)
 
--- src/lib.rt:185:5
 annotated-value-requires : tie.Need-annotated-value-requires
-annotated-value-requires c κs = ?
+annotated-value-requires c κs =
+    let f = c .before .before .before in let a = f .before .before .args in
+    varUInt-bounds NotIon (a .s .now) (a .at) _ _ (sym (f .var-uint .ensures) ∙ c .before .sum .given .1) .1
 
--- src/lib.rt:178:1
 returns-2 : tie.Need-returns-2
-returns-2 c = ?
+unfolding wrappedAt
+returns-2 c =
+    let d = c .before .before in let f = d .before .before in let a = f .before .before .args in
+    c .annotated-value .ensures ∙ ap (annotated (a .s .now)) (sym (d .sum .given .1) ∙ f .var-uint .ensures)
 
 pub wrapped-spec : {M : Type 1} → statement M
 wrapped-spec =

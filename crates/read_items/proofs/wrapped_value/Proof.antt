@@ -1,48 +1,54 @@
+-- The value behind a wrapper's sids is refused with its header, or where it does not fill the wrapper alone. Assumes nothing.
+use mathlib.Core.Path.{_≡_, refl, sym, _∙_, ap}
+use mathlib.Core.Bool.{cond, _||_, not}
+use lib.Dec.{eqb}
+use lib.ListN.{length}
+use Rattle.reading.specs.declared.Refusal.the-variants.{NotIon}
+use Rattle.reading.specs.declared.Wrapped.the-variants as W
+use Rattle.reading.specs.Headers.{headerAt}
+use Rattle.reading.specs.Items.{filled}
+use Rattle.read_header.specs.Refused.{headerRefusal}
+use Rattle.read_items.proofs.Steps.{filled-is}
 use borrow.Author.Needs.{needs}
 use Rattle.read_items.proofs.wrapped_value.Statement.{statement}
 use Rattle.read_items.proofs.wrapped_value.Tie as tie
-use Rattle.read_items.proofs.wrapped_value.Reads as reads
-use Rattle.read_items.proofs.wrapped_value.Lts as lts
-use Rattle.read_header.proofs.header_at.Reads as header-at-reads
-use Rattle.read_header.proofs.header_refusal.Reads as header-refusal-reads
-use Rattle.read_items.proofs.is_pad.Reads as is-pad-reads
-use Rattle.read_items.proofs.is_wrapper.Reads as is-wrapper-reads
 
--- src/lib.rt:143:9
+tested : (c : tie.After-is-wrapper) → let p = c .before in let h = p .before .before in let a = h .before .before .before .before .args in let g = h .h .given .0 in
+    cond (p .is-pad .result || (c .is-wrapper .result || not (eqb (g .1 .1 .0) (length (a .s .now))))) (W.No NotIon) (W.Is (a .from) (a .to) (g .0) (g .1 .0) (g .1 .1 .0))
+    ≡ filled (a .s .now) (a .from) (a .to) (headerAt NotIon (a .s .now) (a .to))
+tested c =
+    let p = c .before in let h = p .before .before in let k = h .before .before in let a = k .before .before .args in let g = h .h .given .0 in
+    filled-is (a .s .now) (a .from) (a .to) (headerAt NotIon (a .s .now) (a .to)) (g .0) (g .1 .0) (g .1 .1 .0) (p .is-pad .result) (c .is-wrapper .result)
+      (sym (k .header-at .ensures) ∙ h .h .given .1) (p .is-pad .ensures) (c .is-wrapper .ensures)
+
 header-at-requires : tie.Need-header-at-requires
-header-at-requires c κs = ?
+header-at-requires c κs = search needs
 
--- src/lib.rt:144:22
 enum-known-h : tie.Need-enum-known-h
 enum-known-h c = search needs
 
--- src/lib.rt:145:28
 enum-told : tie.Need-enum-told
 enum-told c = search needs
 
--- src/lib.rt:145:28
 header-refusal-requires : tie.Need-header-refusal-requires
 header-refusal-requires c κs = search needs
 
--- src/lib.rt:145:9
 returns : tie.Need-returns
-returns c = ?
+returns c =
+    let e = c .before .enum-told .given .1 in let h = c .before .before .before in let a = h .before .before .args in
+    ap W.No (c .header-refusal .ensures ∙ ap headerRefusal e) ∙ ap (filled (a .s .now) (a .from) (a .to)) (sym e ∙ h .header-at .ensures)
 
--- src/lib.rt:147:8
 is-pad-requires : tie.Need-is-pad-requires
 is-pad-requires c κs = search needs
 
--- src/lib.rt:147:24
 is-wrapper-requires : tie.Need-is-wrapper-requires
 is-wrapper-requires c κs = search needs
 
--- src/lib.rt:148:9
 returns-2 : tie.Need-returns-2
-returns-2 c = ?
+returns-2 c = rw (c .if1 .taken) at (tested (c .before))
 
--- src/lib.rt:140:1
 returns-3 : tie.Need-returns-3
-returns-3 c = ?
+returns-3 c = rw (c .if1 .left) at (tested (c .before))
 
 pub wrapped-value-spec : {M : Type 1} → statement M
 wrapped-value-spec =
