@@ -21,6 +21,7 @@ use Rattle.reading.specs.declared.Value.the-variants as Val
 use Rattle.reading.specs.Items.{opens, raised, itemAt}
 use Rattle.reading.specs.Scalars.{sidsOf}
 use Rattle.reading.specs.Walk.{Event, ends, Walk, before, nameIn, annotations, leafWalk, _andThen_, shows, containerWalk, itemWalk, stepWalk, walkFrom}
+use Rattle.read_items.proofs.Bounds.{Placed, item-bounds}
 use Rattle.reader.specs.Values.{past, valueFrom, valueAt}
 
 -- ---- how two walks end, one behind the other
@@ -87,3 +88,38 @@ module _ (f : ℕ) (some : 1 ≤ f) (s : List ℕ) (parent least depth at : ℕ)
       r ≡ walkFrom (f - 1) s parent raised depth next .1 → r ≡ walkFrom f s parent least depth at .1
   walk-past next raised r e k = fuelled (λ g. r ≡ walkFrom g s parent least depth at .1) f some
       (λ g p. (rw (p) at k) ∙ ap (behind g s parent depth) (rw (p) at e) ∙ sym (walk-ends g s parent least depth at))
+
+-- ---- what the walk makes of the item at a place
+
+module _ (f : ℕ) (s : List ℕ) (parent least depth at : ℕ) where
+  module _ (name from to b start stop : ℕ) (is : itemAt s parent least depth at ≡ I.Is name from to b start stop) where
+    pub value-leaf : opens b ≡ false → Val.Is stop (raised least b name) ≡ valueAt f s parent least depth at
+    unfolding valueAt
+    value-leaf o = rw (is, o) refl
+
+    pub value-container : (r : Reading) → opens b ≡ true → r ≡ walkFrom f (take stop s) b 0 (depth + 1) start .1 → past r stop (raised least b name) ≡ valueAt f s parent least depth at
+    unfolding valueAt
+    value-container r o e = rw (is, o, e) refl
+
+  -- the walk goes on behind the item, and within the bytes
+  pub value-goes-on : (next low : ℕ) → Val.Is next low ≡ valueAt f s parent least depth at → (at < next) × (next ≤ length s)
+  unfolding valueAt
+  value-goes-on next low e = by-item (itemAt s parent least depth at) refl e
+    where
+    Is-is-not-Ended : {X : Type 0} (r : Reading) → Val.Is next low ≡ Val.Ended r → X
+    Is-is-not-Ended r e = let z : _≡_ {A = ℕ} 0 1 = cc in absurd (omega arith)
+    by-item : (i : Item) → itemAt s parent least depth at ≡ i → Val.Is next low ≡ valueFrom f s least depth at i → (at < next) × (next ≤ length s)
+    by-item I.End q e = Is-is-not-Ended R.Whole e
+    by-item (I.No r) q e = Is-is-not-Ended (R.Refused r at) e
+    by-item (I.Is name from to b start stop) q e = by-kind (opens b) e
+      where
+      placed : stop ≡ next → (at < next) × (next ≤ length s)
+      placed p = let w = item-bounds s parent least depth at name from to b start stop q .held in
+          (omega (arith, w .after, w .sids, w .before, w .body), omega (arith, w .within))
+      by-inside : (x : Reading) → Val.Is next low ≡ past x stop (raised least b name) → (at < next) × (next ≤ length s)
+      by-inside R.Whole e = placed (cc)
+      by-inside (R.Refused r place) e = Is-is-not-Ended (R.Refused r place) e
+      by-kind : (x : Bool) → Val.Is next low ≡ cond x (past (walkFrom f (take stop s) b 0 (depth + 1) start .1) stop (raised least b name)) (Val.Is stop (raised least b name)) →
+          (at < next) × (next ≤ length s)
+      by-kind true e = by-inside (walkFrom f (take stop s) b 0 (depth + 1) start .1) e
+      by-kind false e = placed (cc)
