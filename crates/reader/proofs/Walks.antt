@@ -11,7 +11,7 @@ use lib.Dec.{ltb, leb, eqb}
 use lib.ListN.{length, take}
 use lib.Seq.{slice}
 use borrow.Author.Tests.{lt-ltb, le-ltb, eq-eqb}
-use Rattle.reading.specs.declared.Refusal.{Refusal}
+use Rattle.reading.specs.declared.Refusal.the-variants.{PastTheEnd}
 use Rattle.reading.specs.declared.Item.{Item}
 use Rattle.reading.specs.declared.Item.the-variants as I
 use Rattle.reading.specs.declared.Reading.{Reading}
@@ -79,6 +79,11 @@ module _ (f : ℕ) (some : 1 ≤ f) (s : List ℕ) (parent least depth at : ℕ)
   unfolding walkFrom itemAt
   walk-at-end e = fuelled (λ g. R.Whole ≡ walkFrom g s parent least depth at .1) f some
       (λ g p. rw (le-ltb (length s) at (omega arith), eq-eqb at (length s) e) refl)
+
+  pub walk-past-the-end : length s < at → R.Refused PastTheEnd at ≡ walkFrom f s parent least depth at .1
+  unfolding walkFrom itemAt
+  walk-past-the-end h = fuelled (λ g. R.Refused PastTheEnd at ≡ walkFrom g s parent least depth at .1) f some
+      (λ g p. rw (lt-ltb (length s) at h) refl)
 
   pub walk-ended : (r : Reading) → Val.Ended r ≡ valueAt (f - 1) s parent least depth at → r ≡ walkFrom f s parent least depth at .1
   walk-ended r e = fuelled (λ g. r ≡ walkFrom g s parent least depth at .1) f some

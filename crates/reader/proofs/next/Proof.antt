@@ -4,6 +4,7 @@ use native.Mathlib.Omega.{arith}
 use lib.ListN.{length}
 use lib.Seq.{length-take-le}
 use borrow.Author.Tests.{le-leb, lt-leb}
+use borrow.Author.Needs.{needs}
 use Rattle.reader.specs.Values.{nextIn}
 use Rattle.reader.proofs.next.Statement.{statement}
 use Rattle.reader.proofs.next.Tie as tie
