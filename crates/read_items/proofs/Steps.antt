@@ -17,9 +17,14 @@ use Rattle.reading.specs.declared.Item.the-variants as I
 use Rattle.reading.specs.Scalars.{isSome, scalarIn}
 use Rattle.reading.specs.Items.{isPad, isWrapper, opens, filled, reads, falls, mostOpen, judged}
 
-pub filled-is : (s : List ℕ) (from to : ℕ) (h : Header) (b start stop : ℕ) (p w : Bool) → h ≡ H.Is b start stop → p ≡ isPad b → w ≡ isWrapper b →
-    cond (p || (w || not (eqb stop (length s)))) (W.No NotIon) (W.Is from to b start stop) ≡ filled s from to h
-filled-is s from to h b start stop p w e q r = rw (e, q, r) refl
+-- ---- the value in a wrapper stands alone there, and is no pad and no wrapper
+
+module _ (s : List ℕ) (from to : ℕ) (h : Header) (b start stop : ℕ) (is : h ≡ H.Is b start stop) (p w : Bool) (pad : p ≡ isPad b) (wrapper : w ≡ isWrapper b) where
+  pub filled-outside : (p || (w || not (eqb stop (length s)))) ≡ true → W.No NotIon ≡ filled s from to h
+  filled-outside e = rw (is, ← pad, ← wrapper, e) refl
+
+  pub filled-is : (p || (w || not (eqb stop (length s)))) ≡ false → W.Is from to b start stop ≡ filled s from to h
+  filled-is e = rw (is, ← pad, ← wrapper, e) refl
 
 -- ---- a body is judged where it is a scalar's
 

@@ -1,25 +1,18 @@
 -- The value behind a wrapper's sids is refused with its header, or where it does not fill the wrapper alone. Assumes nothing.
-use mathlib.Core.Path.{_≡_, refl, sym, _∙_, ap}
-use mathlib.Core.Bool.{cond, _||_, not}
-use lib.Dec.{eqb}
-use lib.ListN.{length}
+use mathlib.Core.Path.{_≡_, sym, _∙_, ap}
 use Rattle.reading.specs.declared.Refusal.the-variants.{NotIon}
+use Rattle.reading.specs.declared.Header.the-variants as H
 use Rattle.reading.specs.declared.Wrapped.the-variants as W
 use Rattle.reading.specs.Headers.{headerAt}
 use Rattle.reading.specs.Items.{filled}
 use Rattle.read_header.specs.Refused.{headerRefusal}
-use Rattle.read_items.proofs.Steps.{filled-is}
+use Rattle.read_items.proofs.Steps.{filled-outside, filled-is}
 use borrow.Author.Needs.{needs}
 use Rattle.read_items.proofs.wrapped_value.Statement.{statement}
 use Rattle.read_items.proofs.wrapped_value.Tie as tie
 
-tested : (c : tie.After-is-wrapper) → let p = c .before in let h = p .before .before in let a = h .before .before .before .before .args in let g = h .h .given .0 in
-    cond (p .is-pad .result || (c .is-wrapper .result || not (eqb (g .1 .1 .0) (length (a .s .now))))) (W.No NotIon) (W.Is (a .from) (a .to) (g .0) (g .1 .0) (g .1 .1 .0))
-    ≡ filled (a .s .now) (a .from) (a .to) (headerAt NotIon (a .s .now) (a .to))
-tested c =
-    let p = c .before in let h = p .before .before in let k = h .before .before in let a = k .before .before .args in let g = h .h .given .0 in
-    filled-is (a .s .now) (a .from) (a .to) (headerAt NotIon (a .s .now) (a .to)) (g .0) (g .1 .0) (g .1 .1 .0) (p .is-pad .result) (c .is-wrapper .result)
-      (sym (k .header-at .ensures) ∙ h .h .given .1) (p .is-pad .ensures) (c .is-wrapper .ensures)
+head-is : (c : tie.After-h) → let a = c .before .before .before .before .args in let g = c .h .given .0 in headerAt NotIon (a .s .now) (a .to) ≡ H.Is (g .0) (g .1 .0) (g .1 .1 .0)
+head-is c = sym (c .before .before .header-at .ensures) ∙ c .h .given .1
 
 header-at-requires : tie.Need-header-at-requires
 header-at-requires c κs = search needs
@@ -45,10 +38,14 @@ is-wrapper-requires : tie.Need-is-wrapper-requires
 is-wrapper-requires c κs = search needs
 
 returns-2 : tie.Need-returns-2
-returns-2 c = rw (c .if1 .taken) at (tested (c .before))
+returns-2 c =
+    let w = c .before in let p = w .before in let h = p .before .before in let a = h .before .before .before .before .args in
+    filled-outside (a .s .now) (a .from) (a .to) (headerAt NotIon (a .s .now) (a .to)) _ _ _ (head-is h) (p .is-pad .result) (w .is-wrapper .result) (p .is-pad .ensures) (w .is-wrapper .ensures) (c .if1 .taken)
 
 returns-3 : tie.Need-returns-3
-returns-3 c = rw (c .if1 .left) at (tested (c .before))
+returns-3 c =
+    let w = c .before in let p = w .before in let h = p .before .before in let a = h .before .before .before .before .args in
+    filled-is (a .s .now) (a .from) (a .to) (headerAt NotIon (a .s .now) (a .to)) _ _ _ (head-is h) (p .is-pad .result) (w .is-wrapper .result) (p .is-pad .ensures) (w .is-wrapper .ensures) (c .if1 .left)
 
 pub wrapped-value-spec : {M : Type 1} → statement M
 wrapped-value-spec =
