@@ -28,9 +28,9 @@ unfolding groups behind
 groups-past acc [] h = refl
 groups-past acc (b ∷ bs) h = go (groups-past (acc * 128 + b) bs (omega arith)) (ltb b 0x80)
   where
-  go : inU64 (groups (acc * 128 + b) bs) ≡ none → (x : Bool) → inU64 (behind acc b bs x) ≡ none
-  go k true = k
-  go k false = rw (le-ltb (acc * 128 + b % 128) (2 ^ 64) (omega arith)) refl
+    go : inU64 (groups (acc * 128 + b) bs) ≡ none → (x : Bool) → inU64 (behind acc b bs x) ≡ none
+    go k true = k
+    go k false = rw (le-ltb (acc * 128 + b % 128) (2 ^ 64) (omega arith)) refl
 
 -- the sids behind one whose groups so far are given
 rest : ℕ → Option (ℕ × List ℕ) → Option (List ℕ × List ℕ)
@@ -41,29 +41,31 @@ module _ (n : ℕ) (fill : (l : List ℕ) → length l ≤ n → isSome (varUInt
   unfolding rest
   last-group v l h = go (ltb v (2 ^ 64))
     where
-    held : (o : Option (List ℕ × List ℕ)) → isSome {A = List ℕ × List ℕ} (o >>= λ y. some (v ∷ y .0, y .1)) ≡ isSome o
-    held none = refl
-    held (some y) = refl
-    go : (x : Bool) → isSome (rest n (check x (some (v, l)))) ≡ cond x (sidsFrom true 0 l) false
-    go true = held (varUInts n l) ∙ fill l h
-    go false = refl
+      held : (o : Option (List ℕ × List ℕ)) → isSome {A = List ℕ × List ℕ} (o >>= λ y. some (v ∷ y .0, y .1)) ≡ isSome o
+      held none = refl
+      held (some y) = refl
+
+      go : (x : Bool) → isSome (rest n (check x (some (v, l)))) ≡ cond x (sidsFrom true 0 l) false
+      go true = held (varUInts n l) ∙ fill l h
+      go false = refl
 
   sids-begun : (acc : ℕ) (l : List ℕ) → length l ≤ n + 1 → isSome (rest n (inU64 (groups acc l))) ≡ sidsFrom false acc l
   unfolding groups sidsFrom behind rest
   sids-begun acc [] h = refl
   sids-begun acc (b ∷ bs) h = by-end (ltb b 0x80) refl (sids-begun (acc * 128 + b) bs (omega arith))
     where
-    inside : (x : Bool) → ltb (acc * 128 + b) (2 ^ 64) ≡ x → isSome (rest n (inU64 (groups (acc * 128 + b) bs))) ≡ sidsFrom false (acc * 128 + b) bs →
-        isSome (rest n (inU64 (groups (acc * 128 + b) bs))) ≡ cond x (sidsFrom false (acc * 128 + b) bs) false
-    inside true q k = k
-    inside false q k = ap (λ o. isSome (rest n o)) (groups-past (acc * 128 + b) bs (ltb-false (acc * 128 + b) (2 ^ 64) q))
-    by-end : (x : Bool) → ltb b 0x80 ≡ x → isSome (rest n (inU64 (groups (acc * 128 + b) bs))) ≡ sidsFrom false (acc * 128 + b) bs →
-        isSome (rest n (inU64 (behind acc b bs x))) ≡ cond (ltb (acc * 128 + b % 128) (2 ^ 64)) (sidsFrom (leb 0x80 b) (cond x (acc * 128 + b % 128) 0) bs) false
-    by-end true q k =
-        let low : b < 0x80 = ltb-true b 0x80 q in
-        let same : b % 128 ≡ b = omega arith in
-        rw (lt-leb 0x80 b low, same) (inside (ltb (acc * 128 + b) (2 ^ 64)) refl k)
-    by-end false q k = rw (le-leb 0x80 b (ltb-false b 0x80 q)) (last-group (acc * 128 + b % 128) bs (omega arith))
+      inside : (x : Bool) → ltb (acc * 128 + b) (2 ^ 64) ≡ x → isSome (rest n (inU64 (groups (acc * 128 + b) bs))) ≡ sidsFrom false (acc * 128 + b) bs →
+          isSome (rest n (inU64 (groups (acc * 128 + b) bs))) ≡ cond x (sidsFrom false (acc * 128 + b) bs) false
+      inside true q k = k
+      inside false q k = ap (λ o. isSome (rest n o)) (groups-past (acc * 128 + b) bs (ltb-false (acc * 128 + b) (2 ^ 64) q))
+
+      by-end : (x : Bool) → ltb b 0x80 ≡ x → isSome (rest n (inU64 (groups (acc * 128 + b) bs))) ≡ sidsFrom false (acc * 128 + b) bs →
+          isSome (rest n (inU64 (behind acc b bs x))) ≡ cond (ltb (acc * 128 + b % 128) (2 ^ 64)) (sidsFrom (leb 0x80 b) (cond x (acc * 128 + b % 128) 0) bs) false
+      by-end true q k =
+          let low : b < 0x80 = ltb-true b 0x80 q in
+          let same : b % 128 ≡ b = omega arith in
+          rw (lt-leb 0x80 b low, same) (inside (ltb (acc * 128 + b) (2 ^ 64)) refl k)
+      by-end false q k = rw (le-leb 0x80 b (ltb-false b 0x80 q)) (last-group (acc * 128 + b % 128) bs (omega arith))
 
 sids-fill : (n : ℕ) (l : List ℕ) → length l ≤ n → isSome (varUInts n l) ≡ sidsFrom true 0 l
 unfolding varUInts varUInt sidsFrom rest
@@ -76,9 +78,9 @@ pub sids-are : (l : List ℕ) → isSome (sidsOf l) ≡ sidsFrom true 0 l
 unfolding sidsOf
 sids-are l = held (varUInts (length l) l) ∙ sids-fill (length l) l (omega arith)
   where
-  held : (o : Option (List ℕ × List ℕ)) → isSome (o >>= λ x. some (x .0)) ≡ isSome o
-  held none = refl
-  held (some x) = refl
+    held : (o : Option (List ℕ × List ℕ)) → isSome (o >>= λ x. some (x .0)) ≡ isSome o
+    held none = refl
+    held (some x) = refl
 
 -- ---- the running state at a place
 

@@ -32,20 +32,20 @@ module _ (b : ℕ) (body : List ℕ) (p o : Bool) (pad : p ≡ isPad b) (contain
   pub reads-without : (p || (eqb b 0xE0 || o)) ≡ true → reads b body ≡ true
   reads-without e = rw (← pad, ← container) (held p (eqb b 0xE0) o (isSome (scalarIn b body)) e)
     where
-    held : (x y z w : Bool) → (x || (y || z)) ≡ true → (x || (y || (z || w))) ≡ true
-    held true y z w e = refl
-    held false true z w e = refl
-    held false false true w e = refl
-    held false false false w e = absurd (let k : _≡_ {A = ℕ} 0 1 = cc in omega arith)
+      held : (x y z w : Bool) → (x || (y || z)) ≡ true → (x || (y || (z || w))) ≡ true
+      held true y z w e = refl
+      held false true z w e = refl
+      held false false true w e = refl
+      held false false false w e = absurd (let k : _≡_ {A = ℕ} 0 1 = cc in omega arith)
 
   pub reads-by-body : (p || (eqb b 0xE0 || o)) ≡ false → reads b body ≡ isSome (scalarIn b body)
   reads-by-body e = rw (← pad, ← container) (held p (eqb b 0xE0) o (isSome (scalarIn b body)) e)
     where
-    held : (x y z w : Bool) → (x || (y || z)) ≡ false → (x || (y || (z || w))) ≡ w
-    held true y z w e = absurd (let k : _≡_ {A = ℕ} 0 1 = cc in omega arith)
-    held false true z w e = absurd (let k : _≡_ {A = ℕ} 0 1 = cc in omega arith)
-    held false false true w e = absurd (let k : _≡_ {A = ℕ} 0 1 = cc in omega arith)
-    held false false false w e = refl
+      held : (x y z w : Bool) → (x || (y || z)) ≡ false → (x || (y || (z || w))) ≡ w
+      held true y z w e = absurd (let k : _≡_ {A = ℕ} 0 1 = cc in omega arith)
+      held false true z w e = absurd (let k : _≡_ {A = ℕ} 0 1 = cc in omega arith)
+      held false false true w e = absurd (let k : _≡_ {A = ℕ} 0 1 = cc in omega arith)
+      held false false false w e = refl
 
 -- ---- an item is judged: its name, its body, the room for a container
 

@@ -213,7 +213,18 @@ fn body_reads(s: &[u8], kind: u8, start: usize, stop: usize) -> bool
     read_scalars::reads(kind, &s[start..stop])
 }
 
-fn judge(s: &[u8], parent: u8, least: u64, depth: u8, name: u64, from: usize, to: usize, kind: u8, start: usize, stop: usize) -> Item
+fn judge(
+    s: &[u8],
+    parent: u8,
+    least: u64,
+    depth: u8,
+    name: u64,
+    from: usize,
+    to: usize,
+    kind: u8,
+    start: usize,
+    stop: usize,
+) -> Item
     requires { ⌜ (start ≤ stop) × (stop ≤ length (now s)) ⌝ }
     ensures { λ r. ⌜ r ≡ judged (now (s .entry)) parent least depth name (W.Is from to kind start stop) ⌝ }
 {
@@ -255,7 +266,18 @@ fn named_item(s: &[u8], parent: u8, least: u64, depth: u8, name: u64, at: usize)
     else {
         return Item::No(wrapped_refusal(held));
     };
-    judge(s, parent, least, depth, name, sids, sids_end, inner, inner_start, inner_stop)
+    judge(
+        s,
+        parent,
+        least,
+        depth,
+        name,
+        sids,
+        sids_end,
+        inner,
+        inner_start,
+        inner_stop,
+    )
 }
 
 // The item at `at`, in a parent of this type byte whose end the bytes reach to.

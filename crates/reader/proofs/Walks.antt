@@ -30,9 +30,9 @@ use Rattle.reader.specs.Values.{past, valueFrom, valueAt}
 container-ends : (b : ℕ) (name : Option ℕ) (an : List ℕ) (inner : Walk) → containerWalk b name an inner .1 ≡ inner .1
 container-ends b name an inner = go (inner .1)
   where
-  go : (x : Reading) → before (inner .0) x (shows (ends ∷ [])) .1 ≡ x
-  go R.Whole = refl
-  go (R.Refused r place) = refl
+    go : (x : Reading) → before (inner .0) x (shows (ends ∷ [])) .1 ≡ x
+    go R.Whole = refl
+    go (R.Refused r place) = refl
 
 -- ---- the item at a place, and the walk behind it
 
@@ -50,19 +50,23 @@ step-ends f s parent least depth at I.End = refl
 step-ends f s parent least depth at (I.No q) = refl
 step-ends f s parent least depth at (I.Is name from to b start stop) = by-kind (opens b)
   where
-  inside : Walk
-  inside = walkFrom f (take stop s) b 0 (depth + 1) start
-  an : List ℕ
-  an = annotations (sidsOf (slice from to s))
-  on : Walk
-  on = walkFrom f s parent (raised least b name) depth stop
-  past-container : (es : List Event) (x : Reading) → before es x on .1 ≡ behind f s parent depth (past x stop (raised least b name))
-  past-container es R.Whole = refl
-  past-container es (R.Refused r place) = refl
-  by-kind : (x : Bool) → (cond x (containerWalk b (nameIn parent name) an inside) (leafWalk b (nameIn parent name) an (slice start stop s)) andThen on) .1
-      ≡ behind f s parent depth (cond x (past (inside .1) stop (raised least b name)) (Val.Is stop (raised least b name)))
-  by-kind true = rw (container-ends b (nameIn parent name) an inside) (past-container (containerWalk b (nameIn parent name) an inside .0) (inside .1))
-  by-kind false = refl
+    inside : Walk
+    inside = walkFrom f (take stop s) b 0 (depth + 1) start
+
+    an : List ℕ
+    an = annotations (sidsOf (slice from to s))
+
+    on : Walk
+    on = walkFrom f s parent (raised least b name) depth stop
+
+    past-container : (es : List Event) (x : Reading) → before es x on .1 ≡ behind f s parent depth (past x stop (raised least b name))
+    past-container es R.Whole = refl
+    past-container es (R.Refused r place) = refl
+
+    by-kind : (x : Bool) → (cond x (containerWalk b (nameIn parent name) an inside) (leafWalk b (nameIn parent name) an (slice start stop s)) andThen on) .1
+        ≡ behind f s parent depth (cond x (past (inside .1) stop (raised least b name)) (Val.Is stop (raised least b name)))
+    by-kind true = rw (container-ends b (nameIn parent name) an inside) (past-container (containerWalk b (nameIn parent name) an inside .0) (inside .1))
+    by-kind false = refl
 
 walk-ends : (f : ℕ) (s : List ℕ) (parent least depth at : ℕ) → walkFrom (suc f) s parent least depth at .1 ≡ behind f s parent depth (valueAt f s parent least depth at)
 unfolding walkFrom valueAt
@@ -111,20 +115,23 @@ module _ (f : ℕ) (s : List ℕ) (parent least depth at : ℕ) where
   unfolding valueAt
   value-goes-on next low e = by-item (itemAt s parent least depth at) refl e
     where
-    Is-is-not-Ended : {X : Type 0} (r : Reading) → Val.Is next low ≡ Val.Ended r → X
-    Is-is-not-Ended r e = let z : _≡_ {A = ℕ} 0 1 = cc in absurd (omega arith)
-    by-item : (i : Item) → itemAt s parent least depth at ≡ i → Val.Is next low ≡ valueFrom f s least depth at i → (at < next) × (next ≤ length s)
-    by-item I.End q e = Is-is-not-Ended R.Whole e
-    by-item (I.No r) q e = Is-is-not-Ended (R.Refused r at) e
-    by-item (I.Is name from to b start stop) q e = by-kind (opens b) e
-      where
-      placed : stop ≡ next → (at < next) × (next ≤ length s)
-      placed p = let w = item-bounds s parent least depth at name from to b start stop q .held in
-          (omega (arith, w .after, w .sids, w .before, w .body), omega (arith, w .within))
-      by-inside : (x : Reading) → Val.Is next low ≡ past x stop (raised least b name) → (at < next) × (next ≤ length s)
-      by-inside R.Whole e = placed (cc)
-      by-inside (R.Refused r place) e = Is-is-not-Ended (R.Refused r place) e
-      by-kind : (x : Bool) → Val.Is next low ≡ cond x (past (walkFrom f (take stop s) b 0 (depth + 1) start .1) stop (raised least b name)) (Val.Is stop (raised least b name)) →
-          (at < next) × (next ≤ length s)
-      by-kind true e = by-inside (walkFrom f (take stop s) b 0 (depth + 1) start .1) e
-      by-kind false e = placed (cc)
+      Is-is-not-Ended : {X : Type 0} (r : Reading) → Val.Is next low ≡ Val.Ended r → X
+      Is-is-not-Ended r e = let z : _≡_ {A = ℕ} 0 1 = cc in absurd (omega arith)
+
+      by-item : (i : Item) → itemAt s parent least depth at ≡ i → Val.Is next low ≡ valueFrom f s least depth at i → (at < next) × (next ≤ length s)
+      by-item I.End q e = Is-is-not-Ended R.Whole e
+      by-item (I.No r) q e = Is-is-not-Ended (R.Refused r at) e
+      by-item (I.Is name from to b start stop) q e = by-kind (opens b) e
+        where
+          placed : stop ≡ next → (at < next) × (next ≤ length s)
+          placed p = let w = item-bounds s parent least depth at name from to b start stop q .held in
+              (omega (arith, w .after, w .sids, w .before, w .body), omega (arith, w .within))
+
+          by-inside : (x : Reading) → Val.Is next low ≡ past x stop (raised least b name) → (at < next) × (next ≤ length s)
+          by-inside R.Whole e = placed (cc)
+          by-inside (R.Refused r place) e = Is-is-not-Ended (R.Refused r place) e
+
+          by-kind : (x : Bool) → Val.Is next low ≡ cond x (past (walkFrom f (take stop s) b 0 (depth + 1) start .1) stop (raised least b name)) (Val.Is stop (raised least b name)) →
+              (at < next) × (next ≤ length s)
+          by-kind true e = by-inside (walkFrom f (take stop s) b 0 (depth + 1) start .1) e
+          by-kind false e = placed (cc)

@@ -65,7 +65,11 @@ fn value(s: &[u8], parent: u8, least: u64, depth: u8, at: usize) -> Value
     };
     let least_next = read_items::least_after(least, kind, name);
     if read_items::is_container(kind) {
-        return past_container(body(&s[..stop], kind, 0, depth + 1, start), stop, least_next);
+        return past_container(
+            body(&s[..stop], kind, 0, depth + 1, start),
+            stop,
+            least_next,
+        );
     }
     Value::Is {
         next: stop,
@@ -82,7 +86,11 @@ fn body(s: &[u8], parent: u8, least: u64, depth: u8, at: usize) -> Reading
     let mut low = least;
     while i < s.len() {
         let v = value(s, parent, low, depth, i);
-        let Value::Is { next, least: raised } = v else {
+        let Value::Is {
+            next,
+            least: raised,
+        } = v
+        else {
             return ended_by(v);
         };
         low = raised;

@@ -26,7 +26,10 @@ pub fn reading_from(stream: &[u8], position: usize) -> Reading
 pub fn new<'a>(stream: &'a [u8]) -> Reader<'a>
     ensures { λ r. ⌜ (r .stream ≡ stream .entry) × (r .position ≡ 0) ⌝ }
 {
-    Reader { stream, position: 0 }
+    Reader {
+        stream,
+        position: 0,
+    }
 }
 
 pub fn next_item<'a>(r: Reader<'a>) -> Item
@@ -44,5 +47,8 @@ pub fn read_rest<'a>(r: Reader<'a>) -> Reading
 pub fn moved<'a>(r: Reader<'a>, position: usize) -> Reader<'a>
     ensures { λ q. ⌜ (q .stream ≡ r .entry .stream) × (q .position ≡ position) ⌝ }
 {
-    Reader { stream: r.stream, position }
+    Reader {
+        stream: r.stream,
+        position,
+    }
 }

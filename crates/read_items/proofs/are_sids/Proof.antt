@@ -43,10 +43,11 @@ loop-less c = omega arith
 
 loop-again : tie.Need-loop-again Inv-loop μ-loop
 loop-again c =
-    let w = c .before .before in let d = w .before .before .before in let l = d .loop in let s = d .before .before .args .part .now in
-    (omega arith,
+    let w = c .before .before in let d = w .before .before .before in let l = d .loop in let s = d .before .before .args .part .now in (
+      omega arith,
       l .inv .1 ∙ sids-more (l .whole) (l .groups) s (l .i) (w .wide .result) (omega arith) (w .wide .ensures .0) (omega arith)
-        ∙ ap (λ (g : ℕ). sidsFrom (leb 0x80 (w .wide .result)) g (drop (l .i + 1) s)) (sym (c .with-group .ensures)))
+          ∙ ap (λ (g : ℕ). sidsFrom (leb 0x80 (w .wide .result)) g (drop (l .i + 1) s)) (sym (c .with-group .ensures)),
+    )
 
 returns-2 : tie.Need-returns-2 Inv-loop μ-loop
 returns-2 c =

@@ -39,7 +39,7 @@ returns-2 : tie.Need-returns-2
 returns-2 c =
     let e = c .before .before in let d = e .before in let k = d .before .before .before in let a = k .args in
     c .reads .ensures ∙ ap (λ l. isSome (scalarIn (a .kind) l)) (part-slice (a .s .now) (a .start) (a .stop) (k .pre .0) (k .pre .1))
-      ∙ sym (reads-by-body (a .kind) (slice (a .start) (a .stop) (a .s .now)) (d .before .is-pad .result) (d .is-container .result) (d .before .is-pad .ensures) (d .is-container .ensures) (e .if1 .left))
+    ∙ sym (reads-by-body (a .kind) (slice (a .start) (a .stop) (a .s .now)) (d .before .is-pad .result) (d .is-container .result) (d .before .is-pad .ensures) (d .is-container .ensures) (e .if1 .left))
 
 pub body-reads-spec : {M : Type 1} → statement M
 body-reads-spec =

@@ -44,7 +44,7 @@ returns-3 : tie.Need-returns-3
 returns-3 c =
     let e = c .before .enum-told .given .1 in let n = c .before .before .before in let a = start-of n .args in
     ap I.No (c .number-refusal .ensures ∙ ap numberRefusal e)
-      ∙ ap (named (a .s .now) (a .parent) (a .least) (a .depth)) (sym e ∙ n .name-at .ensures) ∙ sym (item-inside (n .before))
+    ∙ ap (named (a .s .now) (a .parent) (a .least) (a .depth)) (sym e ∙ n .name-at .ensures) ∙ sym (item-inside (n .before))
 
 named-item-requires : tie.Need-named-item-requires
 named-item-requires c κs = search needs

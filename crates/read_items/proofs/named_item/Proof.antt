@@ -26,7 +26,7 @@ told : (c : tie.After-known-told2) → let g = c .before .held .given .0 in let 
 told c =
     let u = c .before .before .before in let a = start-of u .args in
     unwrapped-bounds (a .s .now) (a .at) (headIn (a .s .now) (a .parent) (a .at)) (λ x y z p. head-bounds (a .s .now) (a .parent) (a .at) x y z p) _ _ _ _ _
-      (sym (held-is u) ∙ c .before .held .given .1)
+    (sym (held-is u) ∙ c .before .held .given .1)
 
 head-in-requires : tie.Need-head-in-requires
 head-in-requires c κs = search needs
@@ -44,7 +44,7 @@ returns : tie.Need-returns
 returns c =
     let e = c .before .enum-told .given .1 in let h = c .before .before .before in let a = h .before .before .args in
     ap I.No (c .header-refusal .ensures ∙ ap headerRefusal e)
-      ∙ ap (λ x. judged (a .s .now) (a .parent) (a .least) (a .depth) (a .name) (unwrapped (a .s .now) x)) (sym e ∙ h .head-in .ensures)
+    ∙ ap (λ x. judged (a .s .now) (a .parent) (a .least) (a .depth) (a .name) (unwrapped (a .s .now) x)) (sym e ∙ h .head-in .ensures)
 
 unwrap-requires : tie.Need-unwrap-requires
 unwrap-requires c κs =
@@ -64,7 +64,7 @@ returns-2 : tie.Need-returns-2
 returns-2 c =
     let e = c .before .enum-told2 .given .1 in let u = c .before .before .before in let a = start-of u .args in
     ap I.No (c .wrapped-refusal .ensures ∙ ap wrappedRefusal e)
-      ∙ ap (judged (a .s .now) (a .parent) (a .least) (a .depth) (a .name)) (sym e ∙ held-is u)
+    ∙ ap (judged (a .s .now) (a .parent) (a .least) (a .depth) (a .name)) (sym e ∙ held-is u)
 
 judge-requires : tie.Need-judge-requires
 judge-requires c κs = let w = told c in (w .body, w .within)

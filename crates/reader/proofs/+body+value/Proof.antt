@@ -156,17 +156,19 @@ body-returns : (t : ℕ) → body-lts.Need-returns (body-calls t) (body-at t) bo
 body-returns t c =
     let e = c .before .enum-told .given .1 in let v = c .before .before .before in let m = loop-of t v in let a = m .before .before .args in
     m .loop .inv .2 (c .ended-by .result) (λ g h. walk-ended g (omega arith) (a .s .now) (a .parent) (m .loop .low) (a .depth) (m .loop .i) (c .ended-by .result)
-      (ap Val.Ended (c .ended-by .ensures ∙ ap ended e) ∙ sym e ∙ valued t v g h))
+    (ap Val.Ended (c .ended-by .ensures ∙ ap ended e) ∙ sym e ∙ valued t v g h))
 
 body-loop-less : (t : ℕ) → body-lts.Need-loop-less (body-calls t) (body-at t) body.Post body-Inv-loop body-μ-loop
 body-loop-less t c = let w = goes-on t c in omega (arith, w .0, w .1)
 
 body-loop-again : (t : ℕ) → body-lts.Need-loop-again (body-calls t) (body-at t) body.Post body-Inv-loop body-μ-loop
 body-loop-again t c =
-    let v = c .before .before .before in let m = loop-of t v in let a = m .before .before .args in let w = goes-on t c in
-    (omega (arith, w .0), w .1,
+    let v = c .before .before .before in let m = loop-of t v in let a = m .before .before .args in let w = goes-on t c in (
+      omega (arith, w .0),
+      w .1,
       λ r k. m .loop .inv .2 r (λ g h. walk-past g (omega arith) (a .s .now) (a .parent) (m .loop .low) (a .depth) (m .loop .i) _ _ r
-        (sym (c .before .v .given .1) ∙ valued t v g h) (k (g - 1) (omega (arith, w .0, w .1)))))
+          (sym (c .before .v .given .1) ∙ valued t v g h) (k (g - 1) (omega (arith, w .0, w .1)))),
+    )
 
 body-returns-2 : (t : ℕ) → body-lts.Need-returns-2 (body-calls t) (body-at t) body.Post body-Inv-loop body-μ-loop
 body-returns-2 t c =
@@ -189,7 +191,7 @@ unfolding valueAt
 value-returns t c = λ f h.
     let i = c .before .before in let a = i .before .before .args in
     ap Val.Ended (c .ended-at .ensures) ∙ not-an-item f (a .s .now) (a .least) (a .depth) (a .at) (i .item .result) (c .before .match .keys2)
-      ∙ ap (valueFrom f (a .s .now) (a .least) (a .depth) (a .at)) (i .item .ensures)
+    ∙ ap (valueFrom f (a .s .now) (a .least) (a .depth) (a .at)) (i .item .ensures)
 
 value-least-after-requires : (t : ℕ) → value-lts.Need-least-after-requires (value-calls t) (value-at t) value.Post
 value-least-after-requires t c κs = search needs
@@ -218,14 +220,14 @@ value-returns-2 : (t : ℕ) → value-lts.Need-returns-2 (value-calls t) (value-
 value-returns-2 t c = λ f h.
     let b = c .before in let x = b .before .before .before in let l = x .before in let k = l .before in let a = start-of t k .args in let w = placed t k .held in let g = k .before .found .given .0 in
     c .past-container .ensures ∙ ap (past (b .body .result) (g .1 .1 .1 .1 .1 .0)) (l .least-after .ensures)
-      ∙ value-container f (a .s .now) (a .parent) (a .least) (a .depth) (a .at) _ _ _ _ _ _ (found-is t k) (b .body .result) (sym (x .is-container .ensures) ∙ b .before .before .if1 .taken)
-        (b .body .ensures f (omega (arith, prefix t k, w .after, w .sids, w .before, w .body, w .within)))
+    ∙ value-container f (a .s .now) (a .parent) (a .least) (a .depth) (a .at) _ _ _ _ _ _ (found-is t k) (b .body .result) (sym (x .is-container .ensures) ∙ b .before .before .if1 .taken)
+    (b .body .ensures f (omega (arith, prefix t k, w .after, w .sids, w .before, w .body, w .within)))
 
 value-returns-3 : (t : ℕ) → value-lts.Need-returns-3 (value-calls t) (value-at t) value.Post
 value-returns-3 t c = λ f h.
     let x = c .before in let l = x .before in let k = l .before in let a = start-of t k .args in let g = k .before .found .given .0 in
     ap (Val.Is (g .1 .1 .1 .1 .1 .0)) (l .least-after .ensures)
-      ∙ value-leaf f (a .s .now) (a .parent) (a .least) (a .depth) (a .at) _ _ _ _ _ _ (found-is t k) (sym (x .is-container .ensures) ∙ c .if1 .left)
+    ∙ value-leaf f (a .s .now) (a .parent) (a .least) (a .depth) (a .at) _ _ _ _ _ _ (found-is t k) (sym (x .is-container .ensures) ∙ c .if1 .left)
 
 pub +body+value-spec : {M : Type 1} → statement M
 +body+value-spec = close μ-body μ-value (λ t. body-lts.spec (body-calls t)
