@@ -10,14 +10,13 @@ use lib.ListN.{length, take}
 use lib.Seq.{slice, length-take-le}
 use borrow.Author.Tests.{ltb-false, leb-false}
 use Rattle.reading.specs.declared.Refusal.{Refusal}
-use Rattle.reading.specs.declared.Refusal.the-variants.{PastTheEnd, TooDeep, NotIon, CutShort}
+use Rattle.reading.specs.declared.Refusal.the-variants.{PastTheEnd, TooDeep, NotIon}
 use Rattle.reading.specs.declared.Number.{Number}
 use Rattle.reading.specs.declared.Number.the-variants as N
 use Rattle.reading.specs.declared.Header.{Header}
 use Rattle.reading.specs.declared.Header.the-variants as H
 use Rattle.reading.specs.declared.Wrapped.{Wrapped}
 use Rattle.reading.specs.declared.Wrapped.the-variants as W
-use Rattle.reading.specs.declared.Item.{Item}
 use Rattle.reading.specs.declared.Item.the-variants as I
 use Rattle.reading.specs.Headers.{varUIntAt, headerAt, topHeaderAt}
 use Rattle.reading.specs.Scalars.{isSome, sidsOf}

@@ -1,17 +1,16 @@
 -- One step of the definition of an item, by what the tests answer.
 -- Assumes nothing.
-use Prim.Native.Nat.{ℕ, _+_}
+use Prim.Native.Nat.{ℕ}
 use native.Mathlib.Omega.{arith}
-use mathlib.Core.Path.{_≡_, refl, sym, _∙_, ap}
-use mathlib.Core.Bool.{Bool, true, false, cond, _&&_, _||_, not}
+use mathlib.Core.Path.{_≡_, refl}
+use mathlib.Core.Bool.{Bool, true, false, _&&_, _||_, not}
 use mathlib.Core.List.{List}
-use lib.Dec.{ltb, leb, eqb}
+use lib.Dec.{leb, eqb}
 use lib.ListN.{length}
 use lib.Seq.{slice}
 use Rattle.reading.specs.declared.Refusal.the-variants.{NotIon, TooDeep}
 use Rattle.reading.specs.declared.Header.{Header}
 use Rattle.reading.specs.declared.Header.the-variants as H
-use Rattle.reading.specs.declared.Wrapped.{Wrapped}
 use Rattle.reading.specs.declared.Wrapped.the-variants as W
 use Rattle.reading.specs.declared.Item.the-variants as I
 use Rattle.reading.specs.Scalars.{isSome, scalarIn}

@@ -1,7 +1,7 @@
 -- The sids of a wrapper, byte by byte: what a reader keeps of them between two bytes.
 -- Assumes nothing.
 use Prim.Native.Nat.{ℕ, _+_, _*_, _%_, _^_}
-use mathlib.Core.Bool.{Bool, true, false, cond}
+use mathlib.Core.Bool.{Bool, false, cond}
 use mathlib.Core.List.{List, [], _∷_}
 use lib.Dec.{ltb, leb}
 

@@ -14,7 +14,7 @@ ghost use Rattle.reading.specs.declared.Header.the-variants as Hd;
 ghost use Rattle.reading.specs.declared.Wrapped.the-variants as W;
 ghost use Rattle.reading.specs.Headers.{headerAt};
 ghost use Rattle.reading.specs.Scalars.{isSome, sidsOf};
-ghost use Rattle.reading.specs.Items.{isPad, isMarker, isWrapper, opens, hasNames, nameAt, headIn, filled, annotated, wrappedAt, unwrapped, reads, falls, raised, judged, named, itemAt};
+ghost use Rattle.reading.specs.Items.{isPad, isWrapper, opens, hasNames, nameAt, headIn, filled, annotated, wrappedAt, unwrapped, reads, falls, raised, judged, named, itemAt};
 ghost use Rattle.read_items.specs.Sids.{groupsWith};
 ghost use Rattle.read_items.specs.Refused.{wrappedRefusal};
 

@@ -5,9 +5,8 @@ use native.Mathlib.Omega.{arith}
 use native.Mathlib.Numerals.{sub-one}
 use mathlib.Core.Path.{_≡_, refl, sym, _∙_, ap}
 use mathlib.Core.Bool.{Bool, true, false, cond}
-use mathlib.Core.List.{List, [], _∷_, _++_}
+use mathlib.Core.List.{List, [], _∷_}
 use mathlib.Core.Option.{Option}
-use lib.Dec.{ltb, leb, eqb}
 use lib.ListN.{length, take}
 use lib.Seq.{slice}
 use borrow.Author.Tests.{lt-ltb, le-ltb, eq-eqb}
@@ -20,8 +19,8 @@ use Rattle.reading.specs.declared.Value.{Value}
 use Rattle.reading.specs.declared.Value.the-variants as Val
 use Rattle.reading.specs.Items.{opens, raised, itemAt}
 use Rattle.reading.specs.Scalars.{sidsOf}
-use Rattle.reading.specs.Walk.{Event, ends, Walk, before, nameIn, annotations, leafWalk, _andThen_, shows, containerWalk, itemWalk, stepWalk, walkFrom}
-use Rattle.read_items.proofs.Bounds.{Placed, item-bounds}
+use Rattle.reading.specs.Walk.{Event, ends, Walk, before, nameIn, annotations, leafWalk, _andThen_, shows, containerWalk, stepWalk, walkFrom}
+use Rattle.read_items.proofs.Bounds.{item-bounds}
 use Rattle.reader.specs.Values.{past, valueFrom, valueAt}
 
 -- ---- how two walks end, one behind the other

@@ -1,11 +1,7 @@
 -- Pads, markers and containers are not judged by their body; a scalar's body is the part between its start and its stop. Assumes nothing.
-use mathlib.Core.Path.{_≡_, refl, sym, _∙_, ap}
-use native.Mathlib.Omega.{arith}
-use mathlib.Core.Bool.{_||_}
-use lib.Dec.{eqb}
+use mathlib.Core.Path.{sym, _∙_, ap}
 use lib.Seq.{slice}
 use Rattle.reading.specs.Scalars.{isSome, scalarIn}
-use Rattle.reading.specs.Items.{isPad, isMarker, opens}
 use Rattle.read_items.proofs.Parts.{part-slice}
 use Rattle.read_items.proofs.Steps.{reads-without, reads-by-body}
 use borrow.Author.Needs.{needs}

@@ -1,10 +1,10 @@
 -- An item is outside the grammar where its name falls or its body does not read, and a container too deep where 32 are open. Assumes nothing.
 use mathlib.Core.Path.{_≡_, sym, _∙_, ap}
-use mathlib.Core.Bool.{Bool, true, false, _&&_}
+use mathlib.Core.Bool.{true, false, _&&_}
 use borrow.Author.Tests.{not-true, not-false}
 use lib.Dec.{leb}
 use lib.Seq.{slice}
-use Rattle.reading.specs.Items.{reads, falls, opens, mostOpen}
+use Rattle.reading.specs.Items.{reads, falls, mostOpen}
 use Rattle.read_items.proofs.Steps.{judged-falls, judged-outside, judged-deep, judged-is}
 use borrow.Author.Needs.{needs}
 use Rattle.read_items.proofs.judge.Statement.{statement}

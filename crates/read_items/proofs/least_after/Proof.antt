@@ -1,5 +1,5 @@
 -- The least name that may follow: a pad leaves it as it is. Assumes nothing.
-use mathlib.Core.Path.{_≡_, refl, sym, _∙_}
+use mathlib.Core.Path.{refl, sym, _∙_}
 use borrow.Author.Needs.{needs}
 use Rattle.read_items.proofs.least_after.Statement.{statement}
 use Rattle.read_items.proofs.least_after.Tie as tie

@@ -1,9 +1,6 @@
 -- The header, what it holds and how that is judged follow one another; each refuses for all. Assumes nothing.
 use mathlib.Core.Path.{_≡_, sym, _∙_, ap}
-use native.Mathlib.Omega.{arith}
 use lib.ListN.{length}
-use Rattle.reading.specs.declared.Header.the-variants as H
-use Rattle.reading.specs.declared.Wrapped.the-variants as W
 use Rattle.reading.specs.declared.Item.the-variants as I
 use Rattle.reading.specs.Items.{headIn, unwrapped, judged}
 use Rattle.read_header.specs.Refused.{headerRefusal}

@@ -1,6 +1,5 @@
 -- A wrapper's bytes are the first ones, up to its end; any other value stands as it is. Assumes nothing.
-use mathlib.Core.Path.{_≡_, refl, sym, _∙_}
-use native.Mathlib.Omega.{arith}
+use mathlib.Core.Path.{refl, sym, _∙_}
 use lib.Seq.{length-take-le}
 use borrow.Author.Needs.{needs}
 use Rattle.read_items.proofs.unwrap.Statement.{statement}

@@ -1,5 +1,5 @@
 -- The groups with a byte more, by its end bit. Assumes nothing.
-use mathlib.Core.Path.{_≡_, refl}
+use mathlib.Core.Path.{refl}
 use borrow.Author.Tests.{lt-ltb, le-ltb}
 use borrow.Author.Needs.{needs}
 use Rattle.read_items.proofs.with_group.Statement.{statement}

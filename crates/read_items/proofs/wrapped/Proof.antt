@@ -1,5 +1,5 @@
 -- A wrapper's body: the length of its sids, or its refusal, and what stands behind it. Assumes nothing.
-use mathlib.Core.Path.{_≡_, refl, sym, _∙_, ap}
+use mathlib.Core.Path.{sym, _∙_, ap}
 use Rattle.reading.specs.declared.Refusal.the-variants.{NotIon}
 use Rattle.reading.specs.declared.Wrapped.the-variants as W
 use Rattle.reading.specs.Items.{annotated, wrappedAt}

@@ -1,5 +1,4 @@
 -- A refusal inside a container is the answer for it; else the walk goes on behind it. Assumes nothing.
-use Prim.Native.Nat.{ℕ}
 use mathlib.Core.Path.{sym, ap}
 use Rattle.reading.specs.declared.Reading.{Reading}
 use Rattle.reader.specs.Values.{past}

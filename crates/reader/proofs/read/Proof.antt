@@ -1,5 +1,5 @@
 -- An end past the bytes, and a place past the end, are refused; else the walk is that over the bytes before the end, with fuel for all. Assumes nothing.
-use Prim.Native.Nat.{ℕ, suc, _+_, _≤_, _<_}
+use Prim.Native.Nat.{suc}
 use native.Mathlib.Omega.{arith}
 use mathlib.Core.Path.{_≡_, refl, sym, _∙_}
 use lib.ListN.{length, take}
