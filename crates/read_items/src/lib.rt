@@ -18,54 +18,74 @@ ghost use Rattle.reading.specs.Items.{isPad, isWrapper, opens, hasNames, nameAt
 ghost use Rattle.read_items.specs.Sids.{groupsWith};
 ghost use Rattle.read_items.specs.Refused.{wrappedRefusal};
 
-// Type bytes.
-const PADS_END: u8 = 0x0F;
+// Type bytes. Those below null's are pads.
+const NULL: u8 = 0x0F;
 
-const MARKER: u8 = 0xE0;
+const LIST: u8 = 0xB0;
+
+const NULL_LIST: u8 = 0xBF;
+
+const NULL_SEXP: u8 = 0xCF;
+
+const STRUCT: u8 = 0xD0;
 
 const SORTED_STRUCT: u8 = 0xD1;
 
-// What is read is the stream itself: no container has this type byte.
+const NULL_STRUCT: u8 = 0xDF;
+
+const MARKER: u8 = 0xE0;
+
+const NULL_WRAPPER: u8 = 0xEF;
+
+// The parent's type byte where that is the stream itself: no container has it.
 const STREAM: u8 = 0;
 
 // Containers that may be open at once.
 const MOST_OPEN: u8 = 32;
 
+const END_FLAG: u64 = 0x80;
+
+// The greatest number that seven more bits leave within 64.
+const MAX_BEFORE_GROUP: u64 = 0x1FF_FFFF_FFFF_FFFF;
+
 pub fn is_pad(kind: u8) -> bool
     ensures { λ r. ⌜ r ≡ isPad kind ⌝ }
 {
-    kind < PADS_END
+    kind < NULL
 }
 
 pub fn is_wrapper(kind: u8) -> bool
     ensures { λ r. ⌜ r ≡ isWrapper kind ⌝ }
 {
-    (0xE1 <= kind) & (kind < 0xEF)
+    (MARKER < kind) & (kind < NULL_WRAPPER)
 }
 
 // A list, an s-expression or a struct that is not null.
 pub fn is_container(kind: u8) -> bool
     ensures { λ r. ⌜ r ≡ opens kind ⌝ }
 {
-    (0xB0 <= kind) & ((kind < 0xDF) & (!(kind == 0xBF) & !(kind == 0xCF)))
+    (LIST <= kind) & ((kind < NULL_STRUCT) & (!(kind == NULL_LIST) & !(kind == NULL_SEXP)))
 }
 
+// Whether the items of this parent have names.
 pub fn has_names(parent: u8) -> bool
     ensures { λ r. ⌜ r ≡ hasNames parent ⌝ }
 {
-    (0xD0 <= parent) & (parent < 0xDF)
+    (STRUCT <= parent) & (parent < NULL_STRUCT)
 }
 
+// The least name that may follow: a pad's does not count.
 pub fn least_after(least: u64, kind: u8, name: u64) -> u64
     ensures { λ r. ⌜ r ≡ raised least kind name ⌝ }
 {
     if is_pad(kind) { least } else { name }
 }
 
+// In a sorted struct a name may repeat but not fall, a pad's aside.
 fn name_falls(parent: u8, least: u64, kind: u8, name: u64) -> bool
     ensures { λ r. ⌜ r ≡ falls parent least kind name ⌝ }
 {
-    (parent == SORTED_STRUCT) & (!(kind < PADS_END) & (name < least))
+    (parent == SORTED_STRUCT) & (!(kind < NULL) & (name < least))
 }
 
 fn wide(b: u8) -> u64
@@ -79,12 +99,13 @@ fn with_group(groups: u64, b: u64) -> u64
     requires { ⌜ (groups ≤ 0x1FFFFFFFFFFFFFF) × (b < 256) ⌝ }
     ensures { λ r. ⌜ r ≡ groupsWith groups b ⌝ }
 {
-    if b < 0x80 {
+    if b < END_FLAG {
         return groups * 128 + b % 128;
     }
     0
 }
 
+// Whether whole sids fill the bytes. Leading groups may be zero, so their count is not limited.
 pub fn are_sids(part: &[u8]) -> bool
     ensures { λ r. ⌜ r ≡ isSome (sidsOf (now (part .entry))) ⌝ }
 {
@@ -93,16 +114,17 @@ pub fn are_sids(part: &[u8]) -> bool
     let mut whole = true;
     while i < part.len() {
         let b = wide(part[i]);
-        if 0x1FF_FFFF_FFFF_FFFF < groups {
+        if MAX_BEFORE_GROUP < groups {
             return false;
         }
         groups = with_group(groups, b);
-        whole = 0x80 <= b;
+        whole = END_FLAG <= b;
         i += 1;
     }
     whole
 }
 
+// Why a wrapper does not read.
 fn wrapped_refusal(w: Wrapped) -> Refusal
     ensures { λ r. ⌜ r ≡ wrappedRefusal w ⌝ }
 {
@@ -118,6 +140,7 @@ fn wrapped_refusal(w: Wrapped) -> Refusal
     }
 }
 
+// The name of the item at `at`; 0 where items have none.
 fn name_at(s: &[u8], parent: u8, at: usize) -> Number
     ensures { λ r. ⌜ r ≡ nameAt (now (s .entry)) parent at ⌝ }
 {
@@ -127,6 +150,7 @@ fn name_at(s: &[u8], parent: u8, at: usize) -> Number
     Number::Is { value: 0, next: at }
 }
 
+// The header behind the name. Only the stream itself can be cut short.
 fn head_in(s: &[u8], parent: u8, at: usize) -> Header
     ensures { λ r. ⌜ r ≡ headIn (now (s .entry)) parent at ⌝ }
 {
@@ -213,6 +237,7 @@ fn body_reads(s: &[u8], kind: u8, start: usize, stop: usize) -> bool
     read_scalars::reads(kind, &s[start..stop])
 }
 
+// Whether the name, the body and the count of open containers let the item stand.
 fn judge(
     s: &[u8],
     parent: u8,
