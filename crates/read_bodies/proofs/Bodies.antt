@@ -8,6 +8,7 @@ use mathlib.Core.Option.{Option, none, some}
 use native.Mathlib.Omega.{arith}
 use lib.Dec.{ltb}
 use lib.ListN.{length}
+use borrow.Author.Tests.{ltb-true}
 use Rattle.ion.specs.Value.{Signed, signed}
 use Rattle.ion.specs.Fields.{uint, varInt}
 use Rattle.reading.specs.declared.Refusal.the-variants.{NotIon}
@@ -52,6 +53,15 @@ decimal-is b s v n h e = go (varInt b) e ∙ sym (decimal-front b h)
       let q : magnitude (x .0) ≡ v = cc in
       let r : length b - length (x .1) ≡ n = cc in
       rw (p, q, r) refl
+
+-- ---- a number of 64 bits
+
+pub small-number : (n v : ℕ) → small n ≡ S.Is v → (n ≡ v) × (n < 2 ^ 64)
+small-number n v e = go (ltb n (2 ^ 64)) refl e
+  where
+  go : (t : Bool) → ltb n (2 ^ 64) ≡ t → cond t (S.Is n) S.Not ≡ S.Is v → (n ≡ v) × (n < 2 ^ 64)
+  go true q e = (cc, ltb-true n (2 ^ 64) q)
+  go false q e = absurdly cc
 
 -- ---- symbols
 
