@@ -12,7 +12,6 @@ use lib.Seq.{drop-cons}
 use borrow.Author.Tests.{lt-ltb, le-ltb, ltb-true}
 use Rattle.reading.specs.declared.Refusal.{Refusal}
 use Rattle.reading.specs.declared.Refusal.the-variants.{NotIon}
-use Rattle.reading.specs.declared.Number.{Number}
 use Rattle.reading.specs.declared.Number.the-variants as N
 use Rattle.reading.specs.Headers.{varUIntFrom, varUIntAt}
 

@@ -1,6 +1,6 @@
 -- What is known of a header that reads: it takes a byte, its body starts behind it and stops within the bytes, and its type byte is the byte at its place.
 -- Assumes nothing.
-use Prim.Native.Nat.{ℕ, _+_, _/_, _%_, _^_, _≤_, _<_}
+use Prim.Native.Nat.{ℕ, _+_, _/_, _%_, _≤_, _<_}
 use native.Mathlib.Omega.{arith}
 use mathlib.Core.Path.{_≡_, refl, sym, _∙_}
 use mathlib.Core.Bool.{Bool, true, false, cond}
@@ -12,7 +12,6 @@ use Rattle.reading.specs.declared.Refusal.{Refusal}
 use Rattle.reading.specs.declared.Refusal.the-variants.{NotIon, CutShort}
 use Rattle.reading.specs.declared.Number.{Number}
 use Rattle.reading.specs.declared.Number.the-variants as N
-use Rattle.reading.specs.declared.Header.{Header}
 use Rattle.reading.specs.declared.Header.the-variants as H
 use Rattle.reading.specs.Headers.{varUIntAt, impossible, alone, measured, never, framed, framedBy, headed, headerAt, marked, markerAt, topHeaderAt}
 use Rattle.read_fields.proofs.VarUInts.{varUInt-bounds}

@@ -2,13 +2,10 @@
 -- Assumes nothing.
 use Prim.Native.Nat.{ℕ, _+_, _≤_, _<_}
 use mathlib.Core.Path.{_≡_, refl}
-use mathlib.Core.Bool.{Bool, true, false, cond}
-use mathlib.Core.List.{List, [], _∷_}
-use lib.Dec.{eqb}
+use mathlib.Core.List.{List, _∷_}
 use lib.ListN.{length, getD, drop, drop-of-length-le, List·getD-eq-default}
 use borrow.Author.Tests.{eq-eqb, ne-eqb}
 use Rattle.reading.specs.declared.Refusal.the-variants.{NotIon, CutShort}
-use Rattle.reading.specs.declared.Header.{Header}
 use Rattle.reading.specs.declared.Header.the-variants as H
 use Rattle.reading.specs.Headers.{headerAt, marked, markerAt, topHeaderAt}
 use Rattle.read_fields.proofs.VarUInts.{drop-next}

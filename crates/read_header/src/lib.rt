@@ -30,10 +30,10 @@ const LONG: u8 = 14;
 
 const NULL: u8 = 15;
 
-// The version marker. A wrapper of no bytes would begin with its first byte.
-const MARKER: [u8; 4] = [0xE0, 0x01, 0x00, 0xEA];
-
+// The version marker. Its first byte begins nothing else.
 const MARKER_START: u8 = 0xE0;
+
+const MARKER: [u8; 4] = [MARKER_START, 0x01, 0x00, 0xEA];
 
 // No value, pad or wrapper has type code `t` and low bits `l`.
 fn is_impossible(t: u8, l: u8) -> bool
@@ -69,7 +69,7 @@ fn is_never(t: u8, l: u8, n: u64) -> bool
                 | ((t == STRUCT) & ((n == 1) | ((l == SORTED) & (n == 0))))))
 }
 
-// The body of `n` bytes from `start`. The bytes from `start` on are counted, since `start + n` may be more than a place.
+// The body of `n` bytes from `start`. `n` is held against the bytes that are left, since `start + n` may wrap.
 fn frame(s: &[u8], b: u8, n: u64, start: usize, out: Refusal) -> Header
     requires { ⌜ start ≤ length (now s) ⌝ }
     ensures { λ r. ⌜ r ≡ framed out (now (s .entry)) b n start ⌝ }

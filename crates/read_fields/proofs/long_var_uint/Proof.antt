@@ -1,6 +1,6 @@
 -- `read_fields::long_var_uint` meets its contract: at each byte, what is read from here with the groups so far is what is read from `at`.
 -- Assumes nothing.
-use Prim.Native.Nat.{ℕ, _-_}
+use Prim.Native.Nat.{_-_}
 use native.Mathlib.Omega.{arith}
 use mathlib.Core.Path.{_≡_, refl, sym, _∙_}
 use lib.ListN.{length, drop}

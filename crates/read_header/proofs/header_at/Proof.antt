@@ -1,13 +1,13 @@
 -- `read_header::header_at` meets its contract: each return is one line of the definition, by the tests before it.
 -- Assumes nothing.
-use Prim.Native.Nat.{ℕ, _+_, _/_, _%_, _≤_, _<_}
+use Prim.Native.Nat.{_+_, _%_, _<_}
 use native.Mathlib.Omega.{arith}
-use mathlib.Core.Path.{_≡_, refl, sym, _∙_, ap}
+use mathlib.Core.Path.{_≡_, sym, _∙_, ap}
 use lib.ListN.{length, getD}
 use borrow.Author.Needs.{needs}
 use Rattle.reading.specs.declared.Number.the-variants as N
 use Rattle.reading.specs.declared.Header.the-variants as H
-use Rattle.reading.specs.Headers.{varUIntAt, framedBy, headed, headerAt}
+use Rattle.reading.specs.Headers.{varUIntAt, framed, framedBy, headed, headerAt}
 use Rattle.read_fields.specs.Refused.{numberRefusal}
 use Rattle.read_fields.proofs.VarUInts.{varUInt-bounds}
 use Rattle.read_header.proofs.Headers.{header-out, header-here, headed-impossible, headed-alone, headed-measured, headed-short}
@@ -101,9 +101,10 @@ frame-requires c κs =
 returns-5 : tie.Need-returns-5
 returns-5 c =
     let d = c .before in let v = d .before .before .before in let a = start (first (v .before .before)) .args in
-    c .frame .ensures
-    ∙ ap (framedBy (a .out) (a .s .now) (getD (a .s .now) (a .at) 0)) (sym (length-is d))
-    ∙ sym (by-length v)
+    let b = getD (a .s .now) (a .at) 0 in
+    _∙_ {b = framed (a .out) (a .s .now) b (d .before .field .given .0 .0) (d .before .field .given .0 .1 .0)}
+    (c .frame .ensures)
+    (ap (framedBy (a .out) (a .s .now) b) (sym (length-is d)) ∙ sym (by-length v))
 
 cast-frame : tie.Need-cast-frame
 cast-frame c = search needs
@@ -117,9 +118,11 @@ frame-requires-2 c κs = search needs
 returns-6 : tie.Need-returns-6
 returns-6 c =
     let f = c .before .before in let l = f .before .before in let i = l .before .before in let a = start i .args in
-    c .frame2 .ensures
-    ∙ sym (here i ∙ headed-short (a .out) (a .s .now) (a .at) (getD (a .s .now) (a .at) 0)
-    (sym (i .is-impossible .ensures) ∙ l .before .if2 .left) (sym (l .is-alone .ensures) ∙ f .before .if3 .left) (sym (f .is-measured .ensures) ∙ c .before .if4 .left))
+    let b = getD (a .s .now) (a .at) 0 in
+    _∙_ {b = framed (a .out) (a .s .now) b (b % 16) (a .at + 1)}
+    (c .frame2 .ensures)
+    (sym (here i ∙ headed-short (a .out) (a .s .now) (a .at) b
+    (sym (i .is-impossible .ensures) ∙ l .before .if2 .left) (sym (l .is-alone .ensures) ∙ f .before .if3 .left) (sym (f .is-measured .ensures) ∙ c .before .if4 .left)))
 
 pub header-at-spec : {M : Type 1} → statement M
 header-at-spec =

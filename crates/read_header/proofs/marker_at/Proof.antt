@@ -1,10 +1,10 @@
 -- `read_header::marker_at` meets its contract: at each byte, what the rest of the marker makes of the bytes from here is what the marker makes of those from `at`.
 -- Assumes nothing.
-use Prim.Native.Nat.{ℕ, _-_, _≤_}
+use Prim.Native.Nat.{ℕ, _-_}
 use native.Mathlib.Omega.{arith}
 use mathlib.Core.Path.{_≡_, refl, sym, _∙_}
 use mathlib.Core.List.{List, [], _∷_}
-use lib.ListN.{length, drop}
+use lib.ListN.{drop}
 use borrow.Author.Needs.{needs}
 use Rattle.reading.specs.Headers.{marked, markerAt}
 use Rattle.read_header.proofs.Markers.{marked-all, marked-cut, marked-other, marked-same}

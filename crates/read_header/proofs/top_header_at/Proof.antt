@@ -1,6 +1,6 @@
 -- `read_header::top_header_at` meets its contract: no byte, the marker by its first byte, or a header.
 -- Assumes nothing.
-use mathlib.Core.Path.{_≡_, sym, _∙_}
+use mathlib.Core.Path.{sym, _∙_}
 use borrow.Author.Needs.{needs}
 use Rattle.read_header.proofs.Markers.{topHeader-cut, topHeader-marker, topHeader-header}
 use Rattle.read_header.proofs.top_header_at.Statement.{statement}
