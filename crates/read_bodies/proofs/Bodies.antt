@@ -9,7 +9,7 @@ use native.Mathlib.Omega.{arith}
 use lib.Dec.{ltb}
 use lib.ListN.{length}
 use borrow.Author.Tests.{ltb-true}
-use Rattle.ion.specs.Value.{Signed, signed}
+use Rattle.ion.specs.Value.{Signed}
 use Rattle.ion.specs.Fields.{uint, varInt}
 use Rattle.reading.specs.declared.Refusal.the-variants.{NotIon}
 use Rattle.reading.specs.declared.Decimal.the-variants as D

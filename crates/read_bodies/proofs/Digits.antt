@@ -1,16 +1,14 @@
 -- A big-endian number at a place of a body, one digit at a time.
 -- Assumes nothing.
-use Prim.Native.Nat.{ℕ, zero, suc, _+_, _*_, _^_, _≤_, _<_}
+use Prim.Native.Nat.{ℕ, zero, _+_, _*_, _^_, _≤_, _<_}
 use native.Mathlib.Omega.{arith}
-use mathlib.Core.Path.{_≡_, refl, sym, _∙_, ap}
-use mathlib.Core.Bool.{Bool, true, false, cond}
+use mathlib.Core.Path.{_≡_, refl}
 use mathlib.Core.List.{List, [], _∷_}
-use lib.Dec.{ltb}
 use lib.ListN.{length, getD, drop, drop-of-length-le}
 use borrow.Author.Tests.{lt-ltb, le-ltb}
-use Rattle.ion.specs.Fields.{bigEndian, uint}
+use Rattle.ion.specs.Fields.{bigEndian}
 use Rattle.read_bodies.specs.declared.Small.the-variants as S
-use Rattle.read_bodies.specs.Places.{small, smallFrom}
+use Rattle.read_bodies.specs.Places.{smallFrom}
 use Rattle.read_bodies.proofs.VarFields.{front}
 
 -- the number is at least what its digits so far make

@@ -1,10 +1,10 @@
 -- The fields of the grammar at a place of a body: a number, and the place behind it.
 -- Assumes nothing.
-use Prim.Native.Nat.{ℕ, _-_, _*_, _+_, _%_, _^_}
-use mathlib.Core.Bool.{Bool, true, false, cond}
-use mathlib.Core.List.{List, [], _∷_}
+use Prim.Native.Nat.{ℕ, _-_, _^_}
+use mathlib.Core.Bool.{Bool, cond}
+use mathlib.Core.List.{List}
 use mathlib.Core.Option.{Option, none, some}
-use lib.Dec.{ltb, leb, eqb}
+use lib.Dec.{ltb}
 use lib.ListN.{length, drop}
 use Rattle.ion.specs.Value.{Signed, signed}
 use Rattle.ion.specs.Fields.{bigEndian, groups, inU64, varUInt, isI64, varInt}

@@ -2,7 +2,7 @@
 -- Assumes nothing.
 use Prim.Native.Nat.{ℕ, zero, suc, _^_}
 use native.Mathlib.Omega.{arith}
-use mathlib.Core.Path.{_≡_, refl, sym, _∙_, ap}
+use mathlib.Core.Path.{_≡_, refl}
 use mathlib.Core.Bool.{Bool, true, false, cond, _||_, not}
 use mathlib.Core.List.{List, [], _∷_}
 use mathlib.Core.Option.{Option, none, some}
@@ -14,12 +14,11 @@ use Rattle.ion.specs.Value as Ion
 use Rattle.ion.specs.Value.{Signed, signed, Scalar}
 use Rattle.ion.specs.Chain.{_>>=_, check}
 use Rattle.ion.specs.Fields.{uint, intField, varUInts, varInt, number}
-use Rattle.ion.specs.Text.{utf8}
 use Rattle.ion.specs.Scalars.{intOf, floatOf, decimalOf, offsetOf, areFields, fractionOf, fractionAt, timestampOf}
 use Rattle.reading.specs.declared.Refusal.the-variants.{NotIon}
 use Rattle.reading.specs.declared.Symbol.the-variants as Y
 use Rattle.reading.specs.declared.Timestamp.the-variants as T
-use Rattle.reading.specs.Bodies.{decimalFrom, decimalIn, stamped, fractioned, exponentFrom, fractionFrom, fieldsFrom, offsetFrom, timestampIn, symbolIn}
+use Rattle.reading.specs.Bodies.{decimalFrom, decimalIn, fractioned, exponentFrom, fractionFrom, fieldsFrom, offsetFrom, timestampIn, symbolIn}
 use Rattle.reading.specs.Scalars.{boolOf, floatIn, isSome}
 use Rattle.read_scalars.specs.Answers.{isDecimal, isTimestamp, isSymbol}
 

@@ -1,14 +1,14 @@
 -- Which bodies read, by their type code.
 -- Assumes nothing.
-use Prim.Native.Nat.{ℕ, zero, suc, _/_, _%_, _<_, _≤_}
+use Prim.Native.Nat.{ℕ, zero, suc, _/_, _%_, _<_}
 use native.Mathlib.Omega.{arith}
 use native.Mathlib.Nat.{eq-or-lt-of-le}
 use mathlib.Core.Path.{_≡_, refl, sym, _∙_, ap}
-use mathlib.Core.Bool.{Bool, true, false, cond, _&&_, _||_, not, false≢true}
-use mathlib.Core.List.{List, [], _∷_}
+use mathlib.Core.Bool.{Bool, true, false, _&&_, _||_, not, false≢true}
+use mathlib.Core.List.{List}
 use mathlib.Core.Logic.{⊎-elim}
-use mathlib.Core.Option.{Option, none, some}
-use lib.Dec.{ltb, leb, eqb}
+use mathlib.Core.Option.{none, some}
+use lib.Dec.{ltb, leb}
 use borrow.Author.Tests.{ne-eqb, leb-true, leb-false, le-leb, lt-leb}
 use Rattle.ion.specs.Value.{TypeCode, nullType, null}
 use Rattle.ion.specs.Chain.{_>>=_}

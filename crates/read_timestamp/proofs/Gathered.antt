@@ -2,9 +2,8 @@
 -- Assumes nothing.
 use Prim.Native.Nat.{ℕ, zero, suc, _+_, _-_, _≤_, _<_}
 use native.Mathlib.Omega.{arith}
-use native.Mathlib.Numerals.{add-one}
 use mathlib.Core.Path.{_≡_, refl, sym, _∙_, ap, subst}
-use mathlib.Core.Bool.{Bool, true, false, _&&_}
+use mathlib.Core.Bool.{false, _&&_}
 use mathlib.Core.List.{List, [], _∷_, _++_, append-assoc, append-nil}
 use mathlib.Core.Option.{Option, none, some, Option·none-ne-some, Option·some-injective}
 use lib.Dec.{ltb}
@@ -13,7 +12,6 @@ use lib.Seq.{set-at, drop-drop}
 use borrow.Author.Tests.{lt-ltb, ltb-false}
 use Rattle.ion.specs.Chain.{_>>=_}
 use Rattle.ion.specs.Fields.{varUInt, varUInts}
-use Rattle.reading.specs.declared.Number.the-variants as N
 use Rattle.read_bodies.specs.Places.{numberIn, varUIntAt}
 use Rattle.read_bodies.proofs.VarFields.{FieldAt, behind, var-uint-is}
 use Rattle.read_timestamp.specs.declared.Fields.the-variants as F

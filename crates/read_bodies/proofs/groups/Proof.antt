@@ -1,17 +1,14 @@
--- The answer from here is the answer from the start: each turn takes one group of it.
+-- `read_bodies::groups` meets its contract: the answer from here is the answer from the start: each turn takes one group of it.
 -- Assumes nothing.
-use Prim.Native.Nat.{ℕ, suc, _+_, _-_, _*_, _%_, _/_, _^_, _≤_, _<_}
+use Prim.Native.Nat.{_-_}
 use native.Mathlib.Omega.{arith}
-use mathlib.Core.Path.{_≡_, refl, sym, _∙_, ap}
-use lib.ListN.{length, getD, drop}
+use mathlib.Core.Path.{_≡_, refl, sym, _∙_}
+use lib.ListN.{length}
 use borrow.Author.Needs.{needs}
 use Rattle.read_bodies.specs.Places.{groupsAt}
 use Rattle.read_bodies.proofs.VarFields.{group-past, group-last, group-more, groups-out}
 use Rattle.read_bodies.proofs.groups.Statement.{statement}
 use Rattle.read_bodies.proofs.groups.Tie as tie
-use Rattle.read_bodies.proofs.groups.Reads as reads
-use Rattle.read_bodies.proofs.groups.Lts as lts
-use Rattle.read_bodies.proofs.wide.Reads as wide-reads
 
 abbrev Inv-loop : tie.InvT-loop
 Inv-loop b at acc i₀ value₀ i value = groupsAt b at acc ≡ groupsAt b i value
@@ -19,53 +16,42 @@ Inv-loop b at acc i₀ value₀ i value = groupsAt b at acc ≡ groupsAt b i val
 abbrev μ-loop : tie.MeasureT-loop
 μ-loop b at acc i₀ value₀ i value = length b - i
 
--- src/lib.rt:38:5
 loop-holds : tie.Need-loop-holds Inv-loop μ-loop
 loop-holds c = refl
 
--- src/lib.rt:39:26
 shared-slice-read-wide : tie.Need-shared-slice-read-wide Inv-loop μ-loop
 shared-slice-read-wide c = omega arith
 
--- src/lib.rt:39:13
 wide-requires : tie.Need-wide-requires Inv-loop μ-loop
 wide-requires c κs = search needs
 
--- src/lib.rt:41:13
 returns : tie.Need-returns Inv-loop μ-loop
 returns c =
     let d = c .before .before .before .before in let a = d .before .before .args in
     sym (d .loop .inv ∙ group-past (a .b .now) (d .loop .i) (d .loop .value) (c .before .wide .result) (omega arith) (c .before .wide .ensures .0) (omega arith))
 
--- src/lib.rt:43:17
 mul-value : tie.Need-mul-value Inv-loop μ-loop
 mul-value c = omega arith
 
--- src/lib.rt:43:17
 add-value : tie.Need-add-value Inv-loop μ-loop
 add-value c = omega arith
 
--- src/lib.rt:44:9
 add-i : tie.Need-add-i Inv-loop μ-loop
 add-i c = omega arith
 
--- src/lib.rt:46:13
 returns-2 : tie.Need-returns-2 Inv-loop μ-loop
 returns-2 c =
     let e = c .before .before in let d = e .before .before .before in let a = d .before .before .args in
     sym (d .loop .inv ∙ group-last (a .b .now) (d .loop .i) (d .loop .value) (e .wide .result) (omega arith) (e .wide .ensures .0) (omega arith) (omega arith))
 
--- src/lib.rt:38:5
 loop-less : tie.Need-loop-less Inv-loop μ-loop
 loop-less c = omega arith
 
--- src/lib.rt:38:5
 loop-again : tie.Need-loop-again Inv-loop μ-loop
 loop-again c =
     let e = c .before .before in let d = e .before .before .before in let a = d .before .before .args in
     d .loop .inv ∙ group-more (a .b .now) (d .loop .i) (d .loop .value) (e .wide .result) (omega arith) (e .wide .ensures .0) (omega arith)
 
--- src/lib.rt:33:1
 returns-3 : tie.Need-returns-3 Inv-loop μ-loop
 returns-3 c =
     let d = c .before in let a = d .before .before .args in

@@ -1,16 +1,14 @@
--- All bytes before here are zero, so the number is that of the bytes from here.
+-- `read_bodies::is_zero` meets its contract: all bytes before here are zero, so the number is that of the bytes from here.
 -- Assumes nothing.
-use Prim.Native.Nat.{ℕ, suc, _+_, _-_, _*_, _%_, _/_, _^_, _≤_, _<_}
+use Prim.Native.Nat.{_-_, _<_}
 use native.Mathlib.Omega.{arith}
-use mathlib.Core.Path.{_≡_, refl, sym, _∙_, ap}
+use mathlib.Core.Path.{_≡_, refl, sym, _∙_}
 use lib.ListN.{length, getD, drop}
 use borrow.Author.Tests.{ne-eqb}
 use Rattle.ion.specs.Fields.{uint, bigEndian}
 use Rattle.read_bodies.proofs.Digits.{zero-more, not-zero, zeros-out}
 use Rattle.read_bodies.proofs.is_zero.Statement.{statement}
 use Rattle.read_bodies.proofs.is_zero.Tie as tie
-use Rattle.read_bodies.proofs.is_zero.Reads as reads
-use Rattle.read_bodies.proofs.is_zero.Lts as lts
 
 abbrev Inv-loop : tie.InvT-loop
 Inv-loop body i₀ i = uint body ≡ bigEndian 0 (drop i body)
@@ -18,36 +16,29 @@ Inv-loop body i₀ i = uint body ≡ bigEndian 0 (drop i body)
 abbrev μ-loop : tie.MeasureT-loop
 μ-loop body i₀ i = length body - i
 
--- src/lib.rt:115:5
 loop-holds : tie.Need-loop-holds Inv-loop μ-loop
 loop-holds c = refl
 
--- src/lib.rt:116:12
 shared-slice-read-if1 : tie.Need-shared-slice-read-if1 Inv-loop μ-loop
 shared-slice-read-if1 c = omega arith
 
--- src/lib.rt:117:13
 returns : tie.Need-returns Inv-loop μ-loop
 returns c =
     let d = c .before .before .before in let s = d .before .args .body .now in
     let q : 0 < uint s = rw (d .loop .inv) (not-zero s (d .loop .i) (getD s (d .loop .i) 0) (omega arith) refl (omega arith)) in
     sym (ne-eqb (uint s) 0 (λ e. omega arith))
 
--- src/lib.rt:119:9
 add-i : tie.Need-add-i Inv-loop μ-loop
 add-i c = omega arith
 
--- src/lib.rt:115:5
 loop-less : tie.Need-loop-less Inv-loop μ-loop
 loop-less c = omega arith
 
--- src/lib.rt:115:5
 loop-again : tie.Need-loop-again Inv-loop μ-loop
 loop-again c =
     let d = c .before .before .before in let s = d .before .args .body .now in
     d .loop .inv ∙ zero-more s (d .loop .i) (getD s (d .loop .i) 0) (omega arith) refl (omega arith)
 
--- src/lib.rt:111:1
 returns-2 : tie.Need-returns-2 Inv-loop μ-loop
 returns-2 c =
     let d = c .before in let s = d .before .args .body .now in

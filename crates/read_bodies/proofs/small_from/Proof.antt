@@ -1,17 +1,14 @@
--- The answer from here is the answer from the start: each turn takes one digit of it.
+-- `read_bodies::small_from` meets its contract: the answer from here is the answer from the start: each turn takes one digit of it.
 -- Assumes nothing.
-use Prim.Native.Nat.{ℕ, suc, _+_, _-_, _*_, _%_, _/_, _^_, _≤_, _<_}
+use Prim.Native.Nat.{_-_, _^_, _<_}
 use native.Mathlib.Omega.{arith}
-use mathlib.Core.Path.{_≡_, refl, sym, _∙_, ap}
-use lib.ListN.{length, getD, drop}
+use mathlib.Core.Path.{_≡_, refl, sym, _∙_}
+use lib.ListN.{length, getD}
 use borrow.Author.Needs.{needs}
 use Rattle.read_bodies.specs.Places.{smallFrom}
 use Rattle.read_bodies.proofs.Digits.{digit-past, digit-more, digits-out}
 use Rattle.read_bodies.proofs.small_from.Statement.{statement}
 use Rattle.read_bodies.proofs.small_from.Tie as tie
-use Rattle.read_bodies.proofs.small_from.Reads as reads
-use Rattle.read_bodies.proofs.small_from.Lts as lts
-use Rattle.read_bodies.proofs.wide.Reads as wide-reads
 
 abbrev Inv-loop : tie.InvT-loop
 Inv-loop b at acc i₀ value₀ i value = (value < 2 ^ 64) × (smallFrom b at acc ≡ smallFrom b i value)
@@ -19,47 +16,37 @@ Inv-loop b at acc i₀ value₀ i value = (value < 2 ^ 64) × (smallFrom b at ac
 abbrev μ-loop : tie.MeasureT-loop
 μ-loop b at acc i₀ value₀ i value = length b - i
 
--- src/lib.rt:98:5
 loop-holds : tie.Need-loop-holds Inv-loop μ-loop
 loop-holds c = (omega arith, refl)
 
--- src/lib.rt:100:13
 returns : tie.Need-returns Inv-loop μ-loop
 returns c =
     let d = c .before .before in let a = d .before .before .args in
     sym (d .loop .inv .1 ∙ digit-past (a .b .now) (d .loop .i) (d .loop .value) (getD (a .b .now) (d .loop .i) 0) (omega arith) refl (omega arith))
 
--- src/lib.rt:102:17
 mul-value : tie.Need-mul-value Inv-loop μ-loop
 mul-value c = omega arith
 
--- src/lib.rt:102:36
 shared-slice-read-wide : tie.Need-shared-slice-read-wide Inv-loop μ-loop
 shared-slice-read-wide c = omega arith
 
--- src/lib.rt:102:31
 wide-requires : tie.Need-wide-requires Inv-loop μ-loop
 wide-requires c κs = search needs
 
--- src/lib.rt:102:17
 add-value : tie.Need-add-value Inv-loop μ-loop
 add-value c = omega arith
 
--- src/lib.rt:103:9
 add-i : tie.Need-add-i Inv-loop μ-loop
 add-i c = omega arith
 
--- src/lib.rt:98:5
 loop-less : tie.Need-loop-less Inv-loop μ-loop
 loop-less c = omega arith
 
--- src/lib.rt:98:5
 loop-again : tie.Need-loop-again Inv-loop μ-loop
 loop-again c =
     let d = c .before .before .before .before in let a = d .before .before .args in
     (omega arith, d .loop .inv .1 ∙ digit-more (a .b .now) (d .loop .i) (d .loop .value) (c .wide .result) (omega arith) (c .wide .ensures .0))
 
--- src/lib.rt:93:1
 returns-2 : tie.Need-returns-2 Inv-loop μ-loop
 returns-2 c =
     let d = c .before in let a = d .before .before .args in

@@ -1,56 +1,41 @@
--- By its first byte: the VarInt ends there, or its groups go on.
+-- `read_bodies::var_int` meets its contract: by its first byte: the VarInt ends there, or its groups go on.
 -- Assumes nothing.
-use Prim.Native.Nat.{ℕ, suc, _+_, _-_, _*_, _%_, _/_, _^_, _≤_, _<_}
+use Prim.Native.Nat.{_-_}
 use native.Mathlib.Omega.{arith}
-use mathlib.Core.Path.{_≡_, refl, sym, _∙_, ap}
+use mathlib.Core.Path.{sym, _∙_, ap}
 use borrow.Author.Needs.{needs}
-use lib.ListN.{length, getD, drop}
 use Rattle.ion.specs.Fields.{isNegative}
 use Rattle.read_bodies.specs.Places.{withSign}
 use Rattle.read_bodies.proofs.VarFields.{var-int-out, var-int-short, var-int-long}
 use Rattle.read_bodies.proofs.var_int.Statement.{statement}
 use Rattle.read_bodies.proofs.var_int.Tie as tie
-use Rattle.read_bodies.proofs.var_int.Reads as reads
-use Rattle.read_bodies.proofs.var_int.Lts as lts
-use Rattle.read_bodies.proofs.groups.Reads as groups-reads
-use Rattle.read_bodies.proofs.wide.Reads as wide-reads
-use Rattle.read_bodies.proofs.with_sign.Reads as with-sign-reads
 
--- src/lib.rt:80:9
 returns : tie.Need-returns
 returns c = let a = c .before .before .args in sym (var-int-out (a .b .now) (a .at) 0 (omega arith))
 
--- src/lib.rt:82:22
 shared-slice-read-wide : tie.Need-shared-slice-read-wide
 shared-slice-read-wide c = search needs
 
--- src/lib.rt:82:9
 wide-requires : tie.Need-wide-requires
 wide-requires c κs = search needs
 
--- src/lib.rt:85:68
 add-t12 : tie.Need-add-t12
 add-t12 c = search needs
 
--- src/lib.rt:85:9
 returns-2 : tie.Need-returns-2
 returns-2 c =
     let a = c .before .before .before .before .before .args in
     sym (var-int-short (a .b .now) (a .at) (c .before .wide .result) (omega arith) (c .before .wide .ensures .0) (omega arith))
 
--- src/lib.rt:87:35
 add-groups : tie.Need-add-groups
 add-groups c = search needs
 
--- src/lib.rt:87:25
 groups-requires : tie.Need-groups-requires
 groups-requires c κs = search needs
 
--- src/lib.rt:87:5
 with-sign-requires : tie.Need-with-sign-requires
 with-sign-requires c κs = search needs
 
--- src/lib.rt:76:1
 returns-3 : tie.Need-returns-3
 returns-3 c =
     let d = c .before .before .before in let a = d .before .before .before .before .args in

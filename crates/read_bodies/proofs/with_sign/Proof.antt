@@ -1,36 +1,27 @@
--- One law for each answer.
+-- `read_bodies::with_sign` meets its contract: one law for each answer.
 -- Assumes nothing.
-use Prim.Native.Nat.{ℕ, suc, _+_, _-_, _*_, _%_, _/_, _^_, _≤_, _<_}
+use Prim.Native.Nat.{_-_}
 use native.Mathlib.Omega.{arith}
-use mathlib.Core.Path.{_≡_, refl, sym, _∙_, ap}
 use borrow.Author.Needs.{needs}
 use Rattle.read_bodies.proofs.VarFields.{sign-past, sign-edge, sign-held}
 use Rattle.read_bodies.proofs.with_sign.Statement.{statement}
 use Rattle.read_bodies.proofs.with_sign.Tie as tie
-use Rattle.read_bodies.proofs.with_sign.Reads as reads
-use Rattle.read_bodies.proofs.with_sign.Lts as lts
 
--- src/lib.rt:63:22
 enum-known-number : tie.Need-enum-known-number
 enum-known-number c = search needs
 
--- src/lib.rt:64:9
 enum-told : tie.Need-enum-told
 enum-told c = search needs
 
--- src/lib.rt:64:9
 returns : tie.Need-returns
 returns c = search needs
 
--- src/lib.rt:67:9
 returns-2 : tie.Need-returns-2
 returns-2 c = let d = c .before .before .number .given in sign-past _ (d .0 .0) (d .0 .1 .0) _ (d .1) (omega arith)
 
--- src/lib.rt:70:9
 returns-3 : tie.Need-returns-3
 returns-3 c = let d = c .before .before .before .number .given in sign-edge _ (d .0 .0) (d .0 .1 .0) _ (d .1) (c .if2 .taken)
 
--- src/lib.rt:60:1
 returns-4 : tie.Need-returns-4
 returns-4 c = let d = c .before .before .before .number .given in sign-held _ (d .0 .0) (d .0 .1 .0) _ (d .1) (omega arith) (c .if2 .left)
 

@@ -1,11 +1,10 @@
--- By the type code, one law for each.
+-- `read_scalars::reads` meets its contract: by the type code, one law for each.
 -- Assumes nothing.
-use Prim.Native.Nat.{ℕ, suc, _+_, _-_, _*_, _%_, _/_, _^_, _≤_, _<_}
+use Prim.Native.Nat.{ℕ, _-_, _%_, _/_}
 use native.Mathlib.Omega.{arith}
-use mathlib.Core.Path.{_≡_, refl, sym, _∙_, ap}
+use mathlib.Core.Path.{_≡_, refl, _∙_, ap}
 use borrow.Author.Needs.{needs}
 use mathlib.Core.Bool.{not}
-use mathlib.Core.List.{List}
 use mathlib.Core.Option.{some}
 use Rattle.ion.specs.Value.{TypeCode, boolCode, positiveCode, negativeCode, floatCode, decimalCode, timestampCode, symbolCode, stringCode, clobCode, blobCode, string}
 use Rattle.ion.specs.Fields.{uint}
@@ -17,114 +16,82 @@ use Rattle.read_scalars.proofs.Bodies.{checked, bool-reads, negative-re
 use Rattle.read_scalars.proofs.Codes.{null-reads, body-reads, none-reads}
 use Rattle.read_scalars.proofs.reads.Statement.{statement}
 use Rattle.read_scalars.proofs.reads.Tie as tie
-use Rattle.read_scalars.proofs.reads.Reads as reads
-use Rattle.read_scalars.proofs.reads.Lts as lts
-use Rattle.read_bodies.proofs.decimal.Reads as decimal-reads
-use Rattle.read_bodies.proofs.is_zero.Reads as is-zero-reads
-use Rattle.read_bodies.proofs.symbol.Reads as symbol-reads
-use Rattle.read_scalars.proofs.is_decimal.Reads as is-decimal-reads
-use Rattle.read_scalars.proofs.is_float_size.Reads as is-float-size-reads
-use Rattle.read_scalars.proofs.is_symbol.Reads as is-symbol-reads
-use Rattle.read_scalars.proofs.is_timestamp.Reads as is-timestamp-reads
-use Rattle.read_timestamp.proofs.timestamp.Reads as timestamp-reads
-use Rattle.text.proofs.is_utf8.Reads as is-utf8-reads
 
 -- a body that is no null, by its type code
 read : (e : tie.Else1) (t : ℕ) (c : TypeCode) → codeOf t ≡ some c → e .before .before .args .kind / 16 ≡ t →
     isSome (bodyOf c (e .before .before .args .kind % 16) (e .before .before .args .body .now)) ≡ isSome (scalarIn (e .before .before .args .kind) (e .before .before .args .body .now))
 read e t c q k = body-reads (e .before .before .args .kind) (e .before .before .args .body .now) (e .if1 .left) t c q k
 
--- src/lib.rt:49:9
 returns : tie.Need-returns
 returns c = let a = c .before .before .args in null-reads (a .kind) (a .body .now) (omega arith) (c .if1 .taken)
 
--- src/lib.rt:54:15
 is-zero-requires : tie.Need-is-zero-requires
 is-zero-requires c κs = search needs
 
--- src/lib.rt:55:14
 is-float-size-requires : tie.Need-is-float-size-requires
 is-float-size-requires c κs = search needs
 
--- src/lib.rt:56:25
 decimal-requires : tie.Need-decimal-requires
 decimal-requires c κs = search needs
 
--- src/lib.rt:56:14
 is-decimal-requires : tie.Need-is-decimal-requires
 is-decimal-requires c κs = search needs
 
--- src/lib.rt:57:27
 timestamp-requires : tie.Need-timestamp-requires
 timestamp-requires c κs = search needs
 
--- src/lib.rt:57:14
 is-timestamp-requires : tie.Need-is-timestamp-requires
 is-timestamp-requires c κs = search needs
 
--- src/lib.rt:58:24
 symbol-requires : tie.Need-symbol-requires
 symbol-requires c κs = search needs
 
--- src/lib.rt:58:14
 is-symbol-requires : tie.Need-is-symbol-requires
 is-symbol-requires c κs = search needs
 
--- src/lib.rt:59:14
 is-utf8-requires : tie.Need-is-utf8-requires
 is-utf8-requires c κs = search needs
 
--- src/lib.rt:45:1
 returns-2 : tie.Need-returns-2
 unfolding codeFrom bodyOf scalarOf
 returns-2 c = let e = c .before in let a = e .before .before .args in bool-reads (a .kind % 16) ∙ read e 1 boolCode refl (c .match .keys1)
 
--- src/lib.rt:45:1
 returns-3 : tie.Need-returns-3
 unfolding codeFrom bodyOf scalarOf
 returns-3 c = let e = c .before in read e 2 positiveCode refl (c .match .keys2)
 
--- src/lib.rt:45:1
 returns-4 : tie.Need-returns-4
 unfolding codeFrom bodyOf scalarOf
 returns-4 c = let e = c .before .before in let a = e .before .before .args in ap not (c .is-zero .ensures) ∙ negative-reads (uint (a .body .now)) ∙ read e 3 negativeCode refl (c .before .match .keys3)
 
--- src/lib.rt:45:1
 returns-5 : tie.Need-returns-5
 unfolding codeFrom bodyOf scalarOf
 returns-5 c = let e = c .before .before in let a = e .before .before .args in c .is-float-size .ensures ∙ float-reads (a .body .now) ∙ read e 4 floatCode refl (c .before .match .keys4)
 
--- src/lib.rt:45:1
 returns-6 : tie.Need-returns-6
 unfolding codeFrom bodyOf scalarOf
 returns-6 c = let e = c .before .before .before in let a = e .before .before .args in c .is-decimal .ensures ∙ ap isDecimal (c .before .decimal .ensures) ∙ decimal-is-read (a .body .now) ∙ read e 5 decimalCode refl (c .before .before .match .keys5)
 
--- src/lib.rt:45:1
 returns-7 : tie.Need-returns-7
 unfolding codeFrom bodyOf scalarOf
 returns-7 c = let e = c .before .before .before in let a = e .before .before .args in c .is-timestamp .ensures ∙ ap isTimestamp (c .before .timestamp .ensures) ∙ timestamp-is-read (a .body .now) ∙ read e 6 timestampCode refl (c .before .before .match .keys6)
 
--- src/lib.rt:45:1
 returns-8 : tie.Need-returns-8
 unfolding codeFrom bodyOf scalarOf
 returns-8 c = let e = c .before .before .before in let a = e .before .before .args in c .is-symbol .ensures ∙ ap isSymbol (c .before .symbol .ensures) ∙ symbol-is-read (a .body .now) ∙ read e 7 symbolCode refl (c .before .before .match .keys7)
 
--- src/lib.rt:45:1
 returns-9 : tie.Need-returns-9
 unfolding codeFrom bodyOf scalarOf
 returns-9 c = let e = c .before .before in let a = e .before .before .args in c .is-utf8 .ensures ∙ checked (utf8 (a .body .now)) (string (a .body .now)) ∙ read e 8 stringCode refl (c .before .match .keys8)
 
--- src/lib.rt:45:1
 returns-10 : tie.Need-returns-10
 unfolding codeFrom bodyOf scalarOf
 returns-10 c = let e = c .before in read e 9 clobCode refl (c .match .keys9)
 
--- src/lib.rt:45:1
 returns-11 : tie.Need-returns-11
 unfolding codeFrom bodyOf scalarOf
 returns-11 c = let e = c .before in read e 10 blobCode refl (c .match .keys10)
 
--- src/lib.rt:45:1
 returns-12 : tie.Need-returns-12
 returns-12 c = let e = c .before in let a = e .before .before .args in none-reads (a .kind) (a .body .now) (e .if1 .left) (omega arith) (c .match .rest)
 

@@ -1,38 +1,27 @@
--- One law for each answer.
+-- `read_timestamp::coefficient_fits` meets its contract: one law for each answer.
 -- Assumes nothing.
-use Prim.Native.Nat.{ℕ, suc, _+_, _-_, _*_, _%_, _/_, _^_, _≤_, _<_}
-use native.Mathlib.Omega.{arith}
-use mathlib.Core.Path.{_≡_, refl, sym, _∙_, ap}
+use Prim.Native.Nat.{_-_}
+use mathlib.Core.Path.{_∙_}
 use borrow.Author.Needs.{needs}
 use Rattle.ion.specs.Fields.{intField}
 use Rattle.read_timestamp.proofs.Coefficients.{fits-below, fits-zero}
 use Rattle.read_timestamp.proofs.coefficient_fits.Statement.{statement}
 use Rattle.read_timestamp.proofs.coefficient_fits.Tie as tie
-use Rattle.read_timestamp.proofs.coefficient_fits.Reads as reads
-use Rattle.read_timestamp.proofs.coefficient_fits.Lts as lts
-use Rattle.read_fraction.proofs.below_one.Reads as below-one-reads
-use Rattle.read_timestamp.proofs.is_negative.Reads as is-negative-reads
-use Rattle.read_timestamp.proofs.is_zero.Reads as is-zero-reads
 
--- src/lib.rt:125:39
 is-negative-requires : tie.Need-is-negative-requires
 is-negative-requires c κs = search needs
 
--- src/lib.rt:126:9
 below-one-requires : tie.Need-below-one-requires
 below-one-requires c κs = search needs
 
--- src/lib.rt:126:9
 returns : tie.Need-returns
 returns c =
     let d = c .before .before in let a = d .before .before .args in
     c .below-one .ensures ∙ fits-below (a .negative) (a .exponent) (a .c .now) (rw (← d .is-negative .ensures) (c .before .if1 .taken))
 
--- src/lib.rt:128:5
 is-zero-requires : tie.Need-is-zero-requires
 is-zero-requires c κs = search needs
 
--- src/lib.rt:122:1
 returns-2 : tie.Need-returns-2
 returns-2 c =
     let d = c .before .before in let a = d .before .before .args in

@@ -1,8 +1,8 @@
--- By the exponent, then by its coefficient.
+-- `read_timestamp::fraction_at` meets its contract: by the exponent, then by its coefficient.
 -- Assumes nothing.
-use Prim.Native.Nat.{ℕ, suc, _+_, _-_, _*_, _%_, _/_, _^_, _≤_, _<_}
+use Prim.Native.Nat.{ℕ, _-_}
 use native.Mathlib.Omega.{arith}
-use mathlib.Core.Path.{_≡_, refl, sym, _∙_, ap}
+use mathlib.Core.Path.{sym, _∙_}
 use borrow.Author.Needs.{needs}
 use mathlib.Core.List.{List}
 use lib.ListN.{drop}
@@ -12,10 +12,6 @@ use Rattle.read_bodies.proofs.VarFields.{FieldAt, var-int-is, var-int-none}
 use Rattle.read_timestamp.proofs.Coefficients.{fraction-none, fraction-no, fraction-refused, fraction-digits, fraction-zero}
 use Rattle.read_timestamp.proofs.fraction_at.Statement.{statement}
 use Rattle.read_timestamp.proofs.fraction_at.Tie as tie
-use Rattle.read_timestamp.proofs.fraction_at.Reads as reads
-use Rattle.read_timestamp.proofs.fraction_at.Lts as lts
-use Rattle.read_bodies.proofs.var_int.Reads as var-int-reads
-use Rattle.read_timestamp.proofs.coefficient_fits.Reads as coefficient-fits-reads
 
 abbrev body : tie.After-exponent → List ℕ
 body e = e .before .before .before .before .before .args .body .now
@@ -29,59 +25,47 @@ exponent e =
     var-int-is (body e) (start e) (e .exponent .given .0 .0) (e .exponent .given .0 .1 .0) (e .exponent .given .0 .1 .1 .0)
     (sym (e .before .before .var-int .ensures) ∙ e .exponent .given .1)
 
--- src/lib.rt:136:9
 returns : tie.Need-returns
 returns c = let a = c .before .before .args in fraction-none (a .body .now) (a .at) (omega arith)
 
--- src/lib.rt:138:9
 var-int-requires : tie.Need-var-int-requires
 var-int-requires c κs = search needs
 
--- src/lib.rt:139:22
 enum-known-exponent : tie.Need-enum-known-exponent
 enum-known-exponent c = search needs
 
--- src/lib.rt:140:9
 enum-told : tie.Need-enum-told
 enum-told c = search needs
 
--- src/lib.rt:140:9
 returns-2 : tie.Need-returns-2
 returns-2 c =
     let w = c .before .before in let a = w .before .before .before .args in
     fraction-no (a .body .now) (a .at) (omega arith) (var-int-none (a .body .now) (a .at) (sym (w .var-int .ensures) ∙ c .enum-told .given .1))
 
--- src/lib.rt:142:47
 sub-coefficient-fits : tie.Need-sub-coefficient-fits
 sub-coefficient-fits c = exponent (c .before) .within
 
--- src/lib.rt:142:47
 part-coefficient-fits-start : tie.Need-part-coefficient-fits-start
 part-coefficient-fits-start c = exponent (c .before) .within
 
--- src/lib.rt:142:47
 part-coefficient-fits-end : tie.Need-part-coefficient-fits-end
 part-coefficient-fits-end c = search needs
 
--- src/lib.rt:142:9
 coefficient-fits-requires : tie.Need-coefficient-fits-requires
 coefficient-fits-requires c κs = search needs
 
--- src/lib.rt:143:9
 returns-3 : tie.Need-returns-3
 returns-3 c =
     let d = c .before .before .before in let e = d .before in
     fraction-refused (body e) (start e) (omega arith) (e .exponent .given .0 .0) (e .exponent .given .0 .1 .0) (e .exponent .given .0 .1 .1 .0) (exponent e)
     _ (c .before .coefficient-fits .ensures) (c .if2 .taken)
 
--- src/lib.rt:146:9
 returns-4 : tie.Need-returns-4
 returns-4 c =
     let f = c .before .before in let e = f .before .before .before in
     fraction-digits (body e) (start e) (omega arith) (e .exponent .given .0 .0) (e .exponent .given .0 .1 .0) (e .exponent .given .0 .1 .1 .0) (exponent e)
     _ (f .coefficient-fits .ensures) (c .before .if2 .left) (c .if3 .taken)
 
--- src/lib.rt:132:1
 returns-5 : tie.Need-returns-5
 returns-5 c =
     let f = c .before .before in let e = f .before .before .before in

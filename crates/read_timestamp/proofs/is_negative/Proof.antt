@@ -1,24 +1,18 @@
--- By the first byte.
+-- `read_timestamp::is_negative` meets its contract: by the first byte.
 -- Assumes nothing.
-use Prim.Native.Nat.{ℕ, suc, _+_, _-_, _*_, _%_, _/_, _^_, _≤_, _<_}
+use Prim.Native.Nat.{_-_}
 use native.Mathlib.Omega.{arith}
-use mathlib.Core.Path.{_≡_, refl, sym, _∙_, ap}
 use borrow.Author.Needs.{needs}
 use Rattle.read_timestamp.proofs.Coefficients.{negative-none, negative-first}
 use Rattle.read_timestamp.proofs.is_negative.Statement.{statement}
 use Rattle.read_timestamp.proofs.is_negative.Tie as tie
-use Rattle.read_timestamp.proofs.is_negative.Reads as reads
-use Rattle.read_timestamp.proofs.is_negative.Lts as lts
 
--- src/lib.rt:103:9
 returns : tie.Need-returns
 returns c = negative-none _ (c .if1 .taken)
 
--- src/lib.rt:105:13
 shared-slice-read-result : tie.Need-shared-slice-read-result
 shared-slice-read-result c = search needs
 
--- src/lib.rt:99:1
 returns-2 : tie.Need-returns-2
 returns-2 c = negative-first _ (omega arith)
 

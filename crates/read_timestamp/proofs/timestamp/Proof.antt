@@ -1,8 +1,7 @@
--- Part after part, one law for each answer.
+-- `read_timestamp::timestamp` meets its contract: part after part, one law for each answer.
 -- Assumes nothing.
-use Prim.Native.Nat.{ℕ, suc, _+_, _-_, _*_, _%_, _/_, _^_, _≤_, _<_}
-use native.Mathlib.Omega.{arith}
-use mathlib.Core.Path.{_≡_, refl, sym, _∙_, ap}
+use Prim.Native.Nat.{ℕ, _-_}
+use mathlib.Core.Path.{sym, _∙_}
 use borrow.Author.Needs.{needs}
 use mathlib.Core.List.{List}
 use Rattle.ion.specs.Value.{signed}
@@ -12,12 +11,6 @@ use Rattle.read_timestamp.proofs.Gathered.{FieldsAre, fields-are}
 use Rattle.read_timestamp.proofs.Whole.{no-offset, no-fields, bad-fields, no-fraction, is-timestamp}
 use Rattle.read_timestamp.proofs.timestamp.Statement.{statement}
 use Rattle.read_timestamp.proofs.timestamp.Tie as tie
-use Rattle.read_timestamp.proofs.timestamp.Reads as reads
-use Rattle.read_timestamp.proofs.timestamp.Lts as lts
-use Rattle.read_bodies.proofs.var_int.Reads as var-int-reads
-use Rattle.read_timestamp.proofs.are_fields.Reads as are-fields-reads
-use Rattle.read_timestamp.proofs.fields_at.Reads as fields-at-reads
-use Rattle.read_timestamp.proofs.fraction_at.Reads as fraction-at-reads
 
 abbrev body : tie.After-offset → List ℕ
 body o = o .before .before .before .before .args .body .now
@@ -39,70 +32,55 @@ fields : (f : tie.After-fields) → FieldsAre (body (told f)) (next (told f)) (f
     (f .fields .given .0 .1 .1 .1 .1 .1 .1 .1 .0)
 fields f = fields-are (body (told f)) (next (told f)) _ _ _ _ _ _ _ _ (offset (told f) .within) (sym (f .before .before .fields-at .ensures) ∙ f .fields .given .1)
 
--- src/lib.rt:157:9
 var-int-requires : tie.Need-var-int-requires
 var-int-requires c κs = search needs
 
--- src/lib.rt:158:22
 enum-known-offset : tie.Need-enum-known-offset
 enum-known-offset c = search needs
 
--- src/lib.rt:159:30
 enum-told : tie.Need-enum-told
 enum-told c = search needs
 
--- src/lib.rt:159:9
 returns : tie.Need-returns
 returns c = let w = c .before .before in no-offset _ (var-int-none (w .before .before .args .body .now) 0 (sym (w .var-int .ensures) ∙ c .enum-told .given .1))
 
--- src/lib.rt:161:9
 fields-at-requires : tie.Need-fields-at-requires
 fields-at-requires c κs = offset (c .before) .within
 
--- src/lib.rt:162:23
 enum-known-fields : tie.Need-enum-known-fields
 enum-known-fields c = search needs
 
--- src/lib.rt:163:30
 enum-told-2 : tie.Need-enum-told-2
 enum-told-2 c = search needs
 
--- src/lib.rt:163:9
 returns-2 : tie.Need-returns-2
 returns-2 c =
     let f = c .before .before in let o = f .before .before in
     no-fields (body o) (o .offset .given .0 .0) (o .offset .given .0 .1 .0) (next o) (offset o) (sym (f .fields-at .ensures) ∙ c .enum-told2 .given .1)
 
--- src/lib.rt:165:9
 are-fields-requires : tie.Need-are-fields-requires
 are-fields-requires c κs = fields (c .before) .most
 
--- src/lib.rt:166:9
 returns-3 : tie.Need-returns-3
 returns-3 c =
     let a = c .before in let f = a .before .before in let o = f .before .before .before .before in let g = f .fields .given .0 in
     bad-fields (body o) (o .offset .given .0 .0) (o .offset .given .0 .1 .0) (next o) (offset o) _ _ _ _ _ _ _ _ (fields f) _ (a .are-fields .ensures) (c .if1 .taken)
 
--- src/lib.rt:168:9
 fraction-at-requires : tie.Need-fraction-at-requires
 fraction-at-requires c κs = search needs
 
--- src/lib.rt:169:24
 enum-known-fraction : tie.Need-enum-known-fraction
 enum-known-fraction c = search needs
 
--- src/lib.rt:170:30
 enum-told-3 : tie.Need-enum-told-3
 enum-told-3 c = search needs
 
--- src/lib.rt:170:9
 returns-4 : tie.Need-returns-4
 returns-4 c =
     let q = c .before .before in let a = q .before .before in let f = a .before .before in let o = f .before .before .before .before in
     no-fraction (body o) (o .offset .given .0 .0) (o .offset .given .0 .1 .0) (next o) (offset o) _ _ _ _ _ _ _ _ (fields f) _ (a .are-fields .ensures) (q .before .if1 .left)
     (sym (q .fraction-at .ensures) ∙ c .enum-told3 .given .1)
 
--- src/lib.rt:154:1
 returns-5 : tie.Need-returns-5
 returns-5 c =
     let r = c .before in let q = r .before .before in let a = q .before .before in let f = a .before .before in let o = f .before .before .before .before in
