@@ -1,5 +1,6 @@
-//! Measures the writer and the reader. `bench winch N` writes N records of a winch log, reads them back and prints their size, hash and
-//! times; `bench calls`, `bench closes` and `bench strings` print tables. Times of the tables are the least of many turns.
+//! Measures the writer and the reader. `bench winch N` writes N records of a winch log and prints their size, hash and time; `bench reading N`
+//! reads as many and prints the times; `bench calls`, `bench closes` and `bench strings` print tables. Times of the tables are the least of
+//! many turns.
 use goatminute::{
     sys, Decimal, ListWriter, ReadRefusal, Reader, Refusal, StructWriter, Timestamp, WriteValues, Writer, STATE_SIZE,
 };
@@ -149,8 +150,6 @@ fn winch(count: u64) -> Result<(), Refusal> {
         hash: 0xCBF29CE484222325,
     };
     let mut time = Duration::ZERO;
-    let mut checking = Duration::ZERO;
-    let mut walking = Duration::ZERO;
     let mut records = Vec::with_capacity(BATCH);
     let mut writer = Writer::new(&mut buf)?;
     let mut i = 0;
@@ -167,11 +166,6 @@ fn winch(count: u64) -> Result<(), Refusal> {
         let finished = writer.finished();
         time += begun.elapsed();
         sum.add(finished);
-        for (read, time) in [(check as fn(&[u8]) -> _, &mut checking), (walk, &mut walking)] {
-            let begun = Instant::now();
-            read(finished).map_err(|refused| refused.refusal)?;
-            *time += begun.elapsed();
-        }
         writer.empty()?;
     }
     println!("structs {count}");
@@ -179,6 +173,30 @@ fn winch(count: u64) -> Result<(), Refusal> {
     println!("fnv1a64 {:016x}", sum.hash);
     println!("total_ns {}", time.as_nanos());
     println!("total_ns_per_struct {:.1}", time.as_nanos() as f64 / count.max(1) as f64);
+    Ok(())
+}
+
+/// The same log, read: whole by one call, and item by item.
+fn reading(count: u64) -> Result<(), Refusal> {
+    let mut buf = vec![0; ROOM];
+    let mut draws = Draws(20260314);
+    let mut checking = Duration::ZERO;
+    let mut walking = Duration::ZERO;
+    let mut writer = Writer::new(&mut buf)?;
+    let mut i = 0;
+    while i < count {
+        let end = count.min(i + BATCH as u64);
+        while i < end {
+            write_record(&mut writer, &draws.record(i))?;
+            i += 1;
+        }
+        for (read, time) in [(check as fn(&[u8]) -> _, &mut checking), (walk, &mut walking)] {
+            let begun = Instant::now();
+            read(writer.finished()).map_err(|refused| refused.refusal)?;
+            *time += begun.elapsed();
+        }
+        writer.empty()?;
+    }
     println!("checking_ns {}", checking.as_nanos());
     println!("walking_ns {}", walking.as_nanos());
     Ok(())
@@ -309,8 +327,9 @@ fn main() -> ExitCode {
     let arguments: Vec<String> = env::args().skip(1).collect();
     let words: Vec<&str> = arguments.iter().map(String::as_str).collect();
     let done = match words[..] {
-        ["winch", count] => match count.parse() {
-            Ok(count) => winch(count),
+        [log @ ("winch" | "reading"), count] => match count.parse() {
+            Ok(count) if log == "winch" => winch(count),
+            Ok(count) => reading(count),
             Err(_) => {
                 eprintln!("not a count: {count}");
                 return ExitCode::FAILURE;
@@ -320,7 +339,7 @@ fn main() -> ExitCode {
         ["closes"] => closes(),
         ["strings"] => strings(),
         _ => {
-            eprintln!("use: bench winch N | calls | closes | strings");
+            eprintln!("use: bench winch N | reading N | calls | closes | strings");
             return ExitCode::FAILURE;
         }
     };
