@@ -1,6 +1,7 @@
 -- A timestamp's body reads as its offset, its UTC fields and its fraction: part by part, in the order of the body.
 -- Assumes nothing.
 use Prim.Native.Nat.{ℕ, zero, suc, _+_, _/_, _%_, _^_, _<_, _≤_}
+use native.Mathlib.Nat.{pow-le-pow-left}
 use native.Mathlib.Omega.{arith}
 use mathlib.Core.Path.{_≡_, refl, _∙_, ap, subst}
 use mathlib.Core.Bool.{true, false, false≢true}
@@ -14,9 +15,10 @@ use Rattle.ion.specs.Value.{Signed, signed, Fraction, noFraction, fraction, tim
 use Rattle.ion.specs.Chain.{_>>=_}
 use Rattle.ion.specs.Fields.{intField, groups, varUInt, varUInts, varInt}
 use Rattle.ion.specs.Calendar.{isDay, daysInMonth}
-use Rattle.ion.specs.Scalars.{offsetOf, isYear, areFields, fractionOf, fractionAt, timestampOf}
+use Rattle.ion.specs.Scalars.{offsetOf, isYear, areFields, isCoefficient, fractionOf, fractionAt, timestampOf}
 use Rattle.ion.proofs.Tests.{both, and-true}
 use Rattle.ion.proofs.Fields.{varUInt-append}
+use Rattle.ion.proofs.Coefficients.{coefficient-of-length}
 use Rattle.encoding.specs.Fields.{varUIntBytes, varUIntsBytes, varIntBytes, signedOf, uintBytes, trimmed, intBytes, AllU64}
 use Rattle.encoding.specs.Decimal.{isZeroDecimal, decimalBody}
 use Rattle.encoding.specs.Timestamp.{Date, date, utcMinutes, utcDay, fieldsAt, utc, isTimestamp, offsetBytes, fractionBytes, timestampBody, UtcKeepsSeconds, UtcAreFields}
@@ -196,6 +198,10 @@ fraction-body : (k c : ℕ) → decimalBody false (uintBytes c) (negsuc k) ≡ v
 unfolding decimalBody
 fraction-body k c = rw (not-zero (trimmed (uintBytes c)) k, decimalBody)
 
+-- 18 digits take no more than 18 bytes
+coefficient-of-digits : (k c : ℕ) → k ≤ 18 → c < 10 ^ k → isCoefficient c ≡ true
+coefficient-of-digits k c h lt = coefficient-of-length c k (omega arith) (omega (arith, pow-le-pow-left {n = 10} {m = 256} (omega arith) k))
+
 digits-read : (k c : ℕ) → k < 18 → c < 10 ^ suc k → fractionAt (decimalBody false (uintBytes c) (negsuc k)) ≡ some (fraction (suc k) c)
 unfolding fractionOf
 digits-read k c h lt =
@@ -203,7 +209,7 @@ digits-read k c h lt =
     let v : intField u ≡ signed false c = intBytes-reads false (trimmed (uintBytes c)) ∙ ap (signed false) (trimmed-same (uintBytes c) ∙ uintBytes-reads c) in
     ap fractionAt (fraction-body k c)
     ∙ fraction-front (varIntBytes (signed true (suc k)) ++ u) u (signed true (suc k)) (varIntBytes-reads true (suc k) u (le-leb (suc k) (2 ^ 63) (omega arith)))
-    ∙ rw (v, lt-ltb c (10 ^ suc k) lt)
+    ∙ rw (v, coefficient-of-digits (suc k) c (omega arith) lt, lt-ltb c (10 ^ suc k) lt)
 
 fraction-reads : (x : Fraction) (fs : List ℕ) → fractionFits x fs ≡ true → fractionAt (fractionBytes x) ≡ some x
 fraction-reads noFraction fs e = unfold fractionAt in refl

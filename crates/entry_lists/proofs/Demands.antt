@@ -63,7 +63,8 @@ module _ (w : Lent) (m : Config) (s : Spells w m) (c : Call) where
 
 -- ---- a list of calls
 
-abbrev calls : List HostCall → List Call
+-- the machine's calls
+abbrev pub calls : List HostCall → List Call
 calls [] = []
 calls (h ∷ hs) = callOf (h .entry) ∷ calls hs
 
@@ -141,7 +142,7 @@ module _ (hs : List HostCall) (st b : List ℕ) (r : LentRun hs st b) where
   spells : Spells (lentStarted st b) (started b)
   spells = started-spells st b (r .starts)
 
-  spelling-is : lentSpelling hs st b ≡ spelling (calls hs) b
+  pub spelling-is : lentSpelling hs st b ≡ spelling (calls hs) b
   spelling-is = model-is meaning hs (lentStarted st b) (started b) startedModel spells
 
   run-of : Run (calls hs) b

@@ -44,7 +44,7 @@ thirtyThree = replicate 33 1
 abbrev twoHundred : List ℕ
 twoHundred = replicate 200 1
 
-ones-typed : (n : ℕ) → AllU8 (replicate n 1)
+pub ones-typed : (n : ℕ) → AllU8 (replicate n 1)
 ones-typed zero = tt
 ones-typed (suc n) = (omega arith, ones-typed n)
 
@@ -82,13 +82,13 @@ noDay = record {
   coefficient = most;
 }
 
-earliest-typed : TimestampTyped earliest
+pub earliest-typed : TimestampTyped earliest
 earliest-typed = omega arith
 
-noDay-typed : TimestampTyped noDay
+pub noDay-typed : TimestampTyped noDay
 noDay-typed = omega arith
 
-abbrev hostLimits : List HostCall
+abbrev pub hostLimits : List HostCall
 hostLimits =
     record { entry = gmWriteNull [] 11; typed = omega arith }
     ∷ record { entry = gmOpenStruct ff; typed = omega arith }
@@ -131,18 +131,18 @@ hostLimits =
     ∷ record { entry = gmAbandon; typed = omega arith }
     ∷ []
 
-abbrev sevens : List ℕ
+abbrev pub sevens : List ℕ
 sevens = replicate stateSize 7
 
 -- ---- what the demands say of them
 
 -- what is computed of them
-record Limits : Type 0 where
-  run : LentRun hostLimits sevens nines
-  joined : lentJoined hostLimits (lentStarted sevens nines) ≡ bytes
-  spelled : lentSpelling hostLimits sevens nines .items ≡ items
+pub record Limits : Type 0 where
+  pub run : LentRun hostLimits sevens nines
+  pub joined : lentJoined hostLimits (lentStarted sevens nines) ≡ bytes
+  pub spelled : lentSpelling hostLimits sevens nines .items ≡ items
 
-limits : Limits
+pub limits : Limits
 unfolding lentJoined lentModelAfter startEntered entered run stateOf containersFrom storedHead storedContainer laid sidsOf sidsUpTo sidAt leastFirst
     typeCoded precisionNumbered offsetLent fractionLent verdict startVerdict finishedLength fits containerFits containersFit splice closedBytes
     meaning argumentBytes annotatedBytes annotationBytes framedBytes headerBytes float32Bytes narrows float64Bytes fixedBytes uintBytes trimmed

@@ -5,6 +5,7 @@ pub mod Reader
 pub mod Unique
 pub mod Exact
 pub mod Floats
+pub mod Coefficients
 pub mod Readings
 pub mod FieldExamples
 pub mod TextExamples

@@ -10,7 +10,7 @@ use lib.Ieee.{ofBits}
 use Rattle.ion.specs.Value.{Scalar, Item, value, scalar}
 use Rattle.ion.specs.Fields.{bigEndian, intField, groups, varUInt, varUInts, varInt}
 use Rattle.ion.specs.Text.{begun, utf8From, utf8}
-use Rattle.ion.specs.Scalars.{floatOf, decimalOf, areFields, fractionOf, fractionAt, timestampOf, scalarOf}
+use Rattle.ion.specs.Scalars.{floatOf, decimalOf, areFields, isCoefficient, fractionOf, fractionAt, timestampOf, scalarOf}
 use Rattle.ion.proofs.Reader.{findCode, cut, lengthOf, framed, shapeOf, plain, sortedAt, boolAt, bitsAt, floatAt, bodyAt, shapeAt, shape}
 use Rattle.ion.proofs.Reader.{sidsOf, bareOf, innerOf, wrapperOf, valueOf, isPad, nextMember, nextField, readMembers}
 use Rattle.ion.proofs.Reader.{afterMarker, nextItem, orElse, readStream, reader}
@@ -37,7 +37,7 @@ scalars (s ∷ ss) = value (scalar [] s) ∷ scalars ss
 unfoldable pub readerWhole : List ℕ → Option (List (Item Scalar))
 unfolding bytesBefore reader readStream nextItem orElse afterMarker readMembers nextMember nextField isPad valueOf wrapperOf innerOf bareOf sidsOf
     shape shapeAt bodyAt plain sortedAt boolAt bitsAt floatAt framed lengthOf cut shapeOf findCode scalarOf decimalOf timestampOf areFields
-    fractionOf fractionAt floatOf ofBits bigEndian intField groups varUInt varUInts varInt begun utf8From utf8
+    isCoefficient fractionOf fractionAt floatOf ofBits bigEndian intField groups varUInt varUInts varInt begun utf8From utf8
 readerWhole b = reader b
 
 -- the bytes on the left are read as the items on the right

@@ -63,12 +63,17 @@ areFields (y ∷ m ∷ d ∷ h ∷ i ∷ []) = isYear y && (isDay y m d && (ltb 
 areFields (y ∷ m ∷ d ∷ h ∷ i ∷ s ∷ []) = isYear y && (isDay y m d && (ltb h 24 && (ltb i 60 && ltb s 60)))
 areFields (y ∷ m ∷ d ∷ h ∷ i ∷ s ∷ x ∷ r) = false
 
+-- A fraction's coefficient has at most 4,096 bytes, leading zeros aside: to compare a longer one with a power of ten exactly takes memory that grows with it.
+-- Document 02, Item 1, leaves this open (docs/DECISIONS.md).
+unfoldable pub isCoefficient : ℕ → Bool
+isCoefficient c = ltb c (256 ^ 4096)
+
 -- The exponent and the coefficient make a value of at least zero and below one. Zero with an exponent above -1 is no fraction;
 -- a coefficient of negative zero is zero (document 02, Item 1).
 unfoldable pub fractionOf : Signed → Signed → Option Fraction
 fractionOf (signed false e) (signed s c) = check (eqb c 0) (some noFraction)
 fractionOf (signed true zero) (signed s c) = check (eqb c 0) (some noFraction)
-fractionOf (signed true (suc e)) (signed false c) = check (ltb c (10 ^ suc e)) (some (fraction (suc e) c))
+fractionOf (signed true (suc e)) (signed false c) = check (isCoefficient c && ltb c (10 ^ suc e)) (some (fraction (suc e) c))
 fractionOf (signed true (suc e)) (signed true c) = check (eqb c 0) (some (fraction (suc e) 0))
 
 unfoldable pub fractionAt : List ℕ → Option Fraction

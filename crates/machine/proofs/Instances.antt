@@ -135,7 +135,7 @@ items =
 
 -- ---- what the demands say of them
 
-run : Run limits nines
+pub run : Run limits nines
 unfolding verdicts joined modelAfter verdict startVerdict finishedLength fits containerFits containersFit splice closedBytes meaning argumentBytes annotatedBytes annotationBytes framedBytes headerBytes float32Bytes narrows float64Bytes fixedBytes uintBytes trimmed intBytes decimalBody timestampBody isTimestamp areFields dayBefore dayAfter varIntBytes varIntGroups varUIntsBytes varUIntBytes digits digitCount countDigits lowDigits bigEndian begun utf8From utf8 floatOf ofBits toBits holds isNan
 run = record { starts = refl; ends = refl }
 
@@ -143,14 +143,14 @@ typed-both : (l r : List Call) → AllTyped l → AllTyped r → AllTyped (l ++ 
 typed-both [] r h k = k
 typed-both (c ∷ l) r h k = (h .0, typed-both l r (h .1) k)
 
-typed : AllTyped limits
+pub typed : AllTyped limits
 typed = typed-both structBegun (structEnded ++ behind) (omega arith) (typed-both structEnded behind (omega arith) (omega arith))
 
-joined-bytes : joined limits (started nines) ≡ bytes
+pub joined-bytes : joined limits (started nines) ≡ bytes
 unfolding verdicts joined modelAfter verdict startVerdict finishedLength fits containerFits containersFit splice closedBytes meaning argumentBytes annotatedBytes annotationBytes framedBytes headerBytes float32Bytes narrows float64Bytes fixedBytes uintBytes trimmed intBytes decimalBody timestampBody isTimestamp areFields dayBefore dayAfter varIntBytes varIntGroups varUIntsBytes varUIntBytes digits digitCount countDigits lowDigits bigEndian begun utf8From utf8 floatOf ofBits toBits holds isNan
 joined-bytes = refl
 
-spelled-items : spelled limits nines ≡ items
+pub spelled-items : spelled limits nines ≡ items
 unfolding verdicts joined modelAfter verdict startVerdict finishedLength fits containerFits containersFit splice closedBytes meaning argumentBytes annotatedBytes annotationBytes framedBytes headerBytes float32Bytes narrows float64Bytes fixedBytes uintBytes trimmed intBytes decimalBody timestampBody isTimestamp areFields dayBefore dayAfter varIntBytes varIntGroups varUIntsBytes varUIntBytes digits digitCount countDigits lowDigits bigEndian begun utf8From utf8 floatOf ofBits toBits holds isNan
 spelled-items = refl
 

@@ -1,0 +1,1 @@
+// Lists of calls read back: the joined bytes of the machine's lists, and of a host's, come back from the walk as the items spelled. No code.
