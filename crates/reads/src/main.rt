@@ -15,8 +15,12 @@ const LONGEST_STREAM: usize = 8192;
 const MOST_U64: u64 = 18446744073709551615;
 
 fn print_stream(line: &[u8]) {
+    let hex = words::word(line, 0);
+    if 2 * LONGEST_STREAM < hex.len() {
+        return print(b"longer than is read");
+    }
     let mut bytes = [0u8; LONGEST_STREAM];
-    let n = words::hex::bytes(words::word(line, 0), &mut bytes);
+    let n = words::hex::bytes(hex, &mut bytes);
     let position = words::numbers::natural(words::word(line, 1), MOST_U64);
     walk::print_walk(&bytes[0..n], position as usize);
 }

@@ -1,6 +1,4 @@
-// Numbers of a body as words: the bytes of a magnitude in hex, from its first byte that is not zero on.
-ghost use Prim.Native.Nat.{_≤_};
-ghost use lib.ListN.{length};
+// Text, numbers in base ten, and the numbers of a body in hex, from the first byte that is not zero on.
 use libc::STDOUT_FILENO;
 use words::byte_at;
 use words::least;

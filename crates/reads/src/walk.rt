@@ -26,14 +26,14 @@ const START: usize = 4;
 
 const STOP: usize = 5;
 
-// Type bytes: a pad's are below, a marker's, and what stands for no item more.
+// The least type byte that is no pad's, that of a marker, and what stands for no item more.
 const PAST_PADS: u8 = 0x0F;
 
 const MARKER: u8 = 0xE0;
 
 const NO_MORE: u8 = 0xFF;
 
-// What holds an item: where it ends, its type byte, which is 0 for the stream, and the least name that may follow.
+// What holds an item, a container or the stream: where it ends, its type byte, which is 0 for the stream, and the least name that may follow in it.
 struct Holder {
     end: usize,
     kind: u8,
@@ -56,7 +56,7 @@ struct Ending {
 // No refusal: the turns ran out before the walk ended.
 const ENDLESS: u8 = 255;
 
-// The part of a stream between two places, of which what lies in the stream.
+// The bytes between two places, as far as the stream has them.
 fn part<'a>(stream: &'a [u8], from: u64, to: u64) -> &'a [u8] {
     let end = least(to as usize, stream.len());
     let start = least(from as usize, end);
@@ -160,7 +160,7 @@ fn read_item(stream: &[u8], walk: Walk, item: &mut [u64; 6]) -> u8
     )
 }
 
-// Behind the container that was entered last.
+// The walk behind the container that it entered last.
 fn left(walk: Walk) -> Walk
     requires { ⌜ Standing walk ⌝ }
     ensures { λ r. ⌜ Standing r ⌝ }
@@ -174,7 +174,7 @@ fn left(walk: Walk) -> Walk
     next
 }
 
-// Behind an item. A pad's name is not counted.
+// The walk behind an item. The name of a pad does not count.
 fn passed(walk: Walk, item: &[u64; 6]) -> Walk
     requires { ⌜ Standing walk ⌝ }
     ensures { λ r. ⌜ Standing r ⌝ }
@@ -188,7 +188,7 @@ fn passed(walk: Walk, item: &[u64; 6]) -> Walk
     next
 }
 
-// In a container. The reader refuses one for which there is no room.
+// The walk in a container. The reader refuses one for which there is no room.
 fn entered(walk: Walk, item: &[u64; 6]) -> Walk
     requires { ⌜ Standing walk ⌝ }
     ensures { λ r. ⌜ Standing r ⌝ }

@@ -1,6 +1,6 @@
 -- `walk::print_annotations` is safe and ends: the turns are counted down.
 -- Assumes nothing.
-use Prim.Native.Nat.{_-_, _≤_}
+use Prim.Native.Nat.{_≤_}
 use lib.ListN.{length}
 use borrow.Author.Needs.{needs}
 use Rattle.reads.proofs.walk.print_annotations.Statement.{statement}
