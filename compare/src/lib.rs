@@ -1,12 +1,13 @@
-//! Trial lines, and what document 01 says of them.
+//! Trial lines and what document 01 says of them; streams and what document 02, Item 1, says of them.
 //!
-//! Written from document 01 alone: nothing here is shared with the proved sources, so that a slip
+//! Written from the documents alone: nothing here is shared with the proved sources, so that a slip
 //! in one shows against the other.
 
 pub mod damage;
 pub mod families;
 pub mod form;
 pub mod random;
+pub mod reading;
 pub mod refusal;
 pub mod rng;
 pub mod sample;

@@ -1,6 +1,8 @@
-//! Measures the writer. `bench winch N` writes N records of a winch log and prints their size, hash and time; `bench calls`,
-//! `bench closes` and `bench strings` print tables. Times of the tables are the least of many turns.
-use goatminute::{sys, Decimal, ListWriter, Refusal, StructWriter, Timestamp, WriteValues, Writer, STATE_SIZE};
+//! Measures the writer and the reader. `bench winch N` writes N records of a winch log, reads them back and prints their size, hash and
+//! times; `bench calls`, `bench closes` and `bench strings` print tables. Times of the tables are the least of many turns.
+use goatminute::{
+    sys, Decimal, ListWriter, ReadRefusal, Reader, Refusal, StructWriter, Timestamp, WriteValues, Writer, STATE_SIZE,
+};
 use std::env;
 use std::hint::black_box;
 use std::process::ExitCode;
@@ -100,6 +102,30 @@ fn write_record(writer: &mut Writer, record: &Record) -> Result<(), Refusal> {
     Ok(())
 }
 
+// not inlined, as `write_record`
+#[inline(never)]
+fn check(stream: &[u8]) -> Result<(), ReadRefusal> {
+    Reader::new(stream).check()
+}
+
+/// Steps through all items, containers entered.
+#[inline(never)]
+fn walk(stream: &[u8]) -> Result<(), ReadRefusal> {
+    let mut reader = Reader::new(stream);
+    loop {
+        match reader.next() {
+            Some(item) => {
+                let item = black_box(item?);
+                if item.value.is_container() {
+                    reader.step_in()?;
+                }
+            }
+            None if reader.depth() == 0 => return Ok(()),
+            None => reader.step_out()?,
+        }
+    }
+}
+
 /// FNV-1a of 64 bits, and a count.
 struct Sum {
     bytes: u64,
@@ -123,6 +149,8 @@ fn winch(count: u64) -> Result<(), Refusal> {
         hash: 0xCBF29CE484222325,
     };
     let mut time = Duration::ZERO;
+    let mut checking = Duration::ZERO;
+    let mut walking = Duration::ZERO;
     let mut records = Vec::with_capacity(BATCH);
     let mut writer = Writer::new(&mut buf)?;
     let mut i = 0;
@@ -139,6 +167,11 @@ fn winch(count: u64) -> Result<(), Refusal> {
         let finished = writer.finished();
         time += begun.elapsed();
         sum.add(finished);
+        for (read, time) in [(check as fn(&[u8]) -> _, &mut checking), (walk, &mut walking)] {
+            let begun = Instant::now();
+            read(finished).map_err(|refused| refused.refusal)?;
+            *time += begun.elapsed();
+        }
         writer.empty()?;
     }
     println!("structs {count}");
@@ -146,6 +179,8 @@ fn winch(count: u64) -> Result<(), Refusal> {
     println!("fnv1a64 {:016x}", sum.hash);
     println!("total_ns {}", time.as_nanos());
     println!("total_ns_per_struct {:.1}", time.as_nanos() as f64 / count.max(1) as f64);
+    println!("checking_ns {}", checking.as_nanos());
+    println!("walking_ns {}", walking.as_nanos());
     Ok(())
 }
 

@@ -1,4 +1,4 @@
-/* Goatminute: an Ion 1.0 binary log writer over one lent buffer. Link with libgoatminute.a.
+/* Goatminute: an Ion 1.0 binary log writer over one lent buffer, and a reader over a lent stream. Link with libgoatminute.a.
  *
  * The state is GM_STATE_SIZE bytes that the caller keeps between the calls:
  *   0     4  used length, least significant byte first
@@ -34,7 +34,13 @@ enum gm_answer {
     GM_BAD_TIMESTAMP = 7,      /* a field of a timestamp is out of its range */
     GM_DECIMAL_TOO_LONG = 8,   /* a decimal's body is over 32 bytes */
     GM_TIMESTAMP_TOO_LONG = 9, /* a timestamp's body is over 32 bytes: no call meets it */
-    GM_NO_ROOM = 10            /* the used length on return would pass the buffer */
+    GM_NO_ROOM = 10,           /* the used length on return would pass the buffer */
+    GM_NOT_ION = 13,           /* bytes outside the grammar of Ion 1.0 */
+    GM_CUT_SHORT = 14,         /* the stream stops inside a value, a pad or a version marker */
+
+    /* the reader's words for 2 and 4 */
+    GM_PAST_THE_END = 2,       /* the position is past the end, or the end past the stream's */
+    GM_READ_TOO_DEEP = 4       /* a container inside GM_MOST_OPEN others */
 };
 
 #ifdef __cplusplus
@@ -152,6 +158,67 @@ uint8_t gm_empty(uint8_t *state, size_t state_len, const uint8_t *buf, size_t bu
 /* A taking: how many bytes from the buffer's front are finished. 0 while a container is open or a field name waits,
  * or if state or buffer would be refused by 1 or 2. */
 size_t gm_finished(const uint8_t *state, size_t state_len, const uint8_t *buf, size_t buf_len);
+
+/* ---- The reader
+ *
+ * It keeps nothing between the calls. A place in the stream is five numbers:
+ *   end       where what holds the item ends: the stream's length, or a container's `stop`
+ *   parent    the type byte of what holds it: a container's `kind`, or 0 for the stream itself
+ *   least     the name of the item before, pads aside, or 0: in a sorted struct (kind D1) no name is under it
+ *   depth     how many containers are open
+ *   position  where the item is read
+ * A stream is begun with end = its length and 0 for the others, at any position.
+ *
+ * What is answered goes to a slice that is lent for it, as many numbers as it holds; a refused call leaves it as it was,
+ * but for gm_read_rest. The first reason answers: 2; 13 for a header that cannot be; 14 for one that the stream cuts, or whose
+ * body it cuts; 13 for what the body holds, and for all that does not fit into its container; 4. */
+
+#define GM_NOTHING 0xFF /* the kind of no item: the position is the end */
+#define GM_MARKER 0xE0  /* the kind of a version marker */
+
+/* The item at a place, by six numbers:
+ *   0  name      its sid; 0 outside structs
+ *   1  sids      where the sids of its annotations start, for gm_read_sid
+ *   2  sids_end  where they stop; the same place if there are none
+ *   3  kind      the type byte of the value itself, behind annotations. Below 0F a NOP pad, GM_MARKER, GM_NOTHING, and else
+ *                type code and low four bits of the Ion document: 1 bool (11 true), 2 and 3 int (3 negative), 4 float, 5 decimal,
+ *                6 timestamp, 7 symbol, 8 string, 9 clob, 10 blob, 11 list, 12 sexp, 13 struct; low bits 15 are a null
+ *   4  start     where its body starts: an int's magnitude, a float's bits, the bytes of a string or lob, a container's items
+ *   5  stop      where its body stops; the next item stands there
+ * The scalars of an item that is answered are checked whole; a container's items are not read. A container (B0 to DE, not BF, CF)
+ * is entered with end = stop, parent = kind, least = 0, depth + 1, position = start.
+ * Refusals 2, 4, 13, 14 (in the stream itself only). */
+uint8_t gm_read_item(const uint8_t *stream, size_t stream_len, size_t end, uint8_t parent, uint64_t least, uint8_t depth,
+                     size_t position, uint64_t *item, size_t item_len);
+
+/* Reads and checks all from a place to the end, containers entered. Refused, `place` gets the place where the item begins that does
+ * not read: a field's where its name begins, an annotated value's where its wrapper begins. Reading a container so is how to skip it
+ * without losing what is refused in it. Refusals 2, 4, 13, 14. */
+uint8_t gm_read_rest(const uint8_t *stream, size_t stream_len, size_t end, uint8_t parent, uint64_t least, uint8_t depth,
+                     size_t position, uint64_t *place, size_t place_len);
+
+/* A VarUInt at a position of a part of the stream, as a sid of annotations is: the number, and the position behind it.
+ * Refusal 13. */
+uint8_t gm_read_sid(const uint8_t *part, size_t part_len, size_t position, uint64_t *sid, size_t sid_len);
+
+/* A decimal's body, by three numbers: 1 if the exponent is negative, else 0; its magnitude; where in the body the coefficient starts.
+ * The coefficient is an Int: the top bit of its first byte is its sign, the rest its magnitude, and no bytes are zero. Refusal 13. */
+uint8_t gm_read_decimal(const uint8_t *body, size_t body_len, uint64_t *decimal, size_t decimal_len);
+
+/* A timestamp's body, by twelve numbers:
+ *   0  1 if the offset is known, else 0
+ *   1  1 if it is negative, else 0
+ *   2  its minutes
+ *   3  how many fields there are: year 1, month 2, day 3, hour and minute 5, second 6
+ *   4  year, month, day, hour, minute and second of UTC, 0 where there is none
+ *  10  how many digits the fraction of the second has; 0 is none
+ *  11  where in the body their number starts, an Int that is not negative or is negative zero
+ * Refusal 13. */
+uint8_t gm_read_timestamp(const uint8_t *body, size_t body_len, uint64_t *timestamp, size_t timestamp_len);
+
+/* A symbol's body: its sid.
+ * Refusal 13. */
+uint8_t gm_read_symbol(const uint8_t *body, size_t body_len, uint64_t *sid, size_t sid_len);
 
 #ifdef __cplusplus
 }

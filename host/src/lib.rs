@@ -1,6 +1,6 @@
-//! An Ion 1.0 binary log writer over one lent buffer, for hosts in Rust.
+//! An Ion 1.0 binary log writer over one lent buffer, and a reader over a lent stream, for hosts in Rust.
 //!
-//! The calls are those of ion-rust's `LazyRawBinaryWriter_1_0`; docs/MIGRATION.md has them side by side. What they write and refuse
+//! The writer's calls are those of ion-rust's `LazyRawBinaryWriter_1_0`; docs/MIGRATION.md has them side by side. What they write and refuse
 //! is proved of the library that this crate links. No call allocates, and none panics.
 //!
 //! ```
@@ -18,17 +18,23 @@
 //! # Ok(())
 //! # }
 //! ```
+//!
+//! [`Reader`] reads the whole of the Ion 1.0 binary grammar back, and says by number and place why a stream does not read.
 
 #![no_std]
 #![deny(unsafe_code)]
 
+mod items;
+mod reader;
 mod refusal;
 #[allow(unsafe_code)]
 pub mod sys;
 mod values;
 mod writer;
 
-pub use refusal::Refusal;
+pub use items::{Annotations, Fields, Float, Fraction, Item, Magnitude, ReadDecimal, ReadTimestamp, Value};
+pub use reader::Reader;
+pub use refusal::{ReadRefusal, Refusal};
 pub use values::{Closed, Coefficient, Decimal, IonType, Precision, Timestamp};
 pub use writer::{ListWriter, SexpWriter, State, StructWriter, ValueWriter, WriteValues, Writer};
 
@@ -37,7 +43,7 @@ pub(crate) use refusal::answer;
 /// The longest buffer that can be lent.
 pub const LONGEST_BUFFER: usize = 16_777_215;
 
-/// How many containers may be open.
+/// How many containers may be open, in what is written and in what is read.
 pub const MOST_OPEN: usize = 32;
 
 /// The bytes of a state.

@@ -1,7 +1,9 @@
 use core::fmt;
 
-/// Why a call was refused: 1 to 10 of document 01, in their order. A refused call leaves state and buffer as they were.
+/// Why a call was refused: the writer's 1 to 10 of document 01, in their order, and 2, 4, 13 and 14 of the reader.
+/// A refused call leaves state and buffer as they were.
 #[derive(Clone, Copy, Debug, PartialEq, Eq, Hash)]
+#[non_exhaustive]
 pub enum Refusal {
     BufferTooLong,
     StateUnfit,
@@ -14,6 +16,10 @@ pub enum Refusal {
     /// No call meets it: a timestamp that 7 does not refuse has a body of at most 18 bytes.
     TimestampTooLong,
     NoRoom,
+    /// Bytes outside the grammar of Ion 1.0.
+    NotIon,
+    /// The stream stops inside a value, a pad or a version marker.
+    CutShort,
     /// A number that this crate has no name for: the library is of another version.
     Unknown(u8),
 }
@@ -32,6 +38,8 @@ impl Refusal {
             Refusal::DecimalTooLong => 8,
             Refusal::TimestampTooLong => 9,
             Refusal::NoRoom => 10,
+            Refusal::NotIon => 13,
+            Refusal::CutShort => 14,
             Refusal::Unknown(number) => number,
         }
     }
@@ -60,6 +68,8 @@ fn refusal(number: u8) -> Refusal {
         8 => Refusal::DecimalTooLong,
         9 => Refusal::TimestampTooLong,
         10 => Refusal::NoRoom,
+        13 => Refusal::NotIon,
+        14 => Refusal::CutShort,
         other => Refusal::Unknown(other),
     }
 }
@@ -68,9 +78,9 @@ impl fmt::Display for Refusal {
     fn fmt(&self, f: &mut fmt::Formatter<'_>) -> fmt::Result {
         let why = match self {
             Refusal::BufferTooLong => "the buffer is longer than 16,777,215 bytes",
-            Refusal::StateUnfit => "the state does not fit the buffer or itself",
+            Refusal::StateUnfit => "the state does not fit the buffer or itself, or a position lies past a stream's end",
             Refusal::Misplaced => {
-                "the call is out of place: a name, value, close, abandonment, marker or emptying that cannot stand here"
+                "the call is out of place: a name, value, close, abandonment, marker, emptying or step that cannot stand here"
             }
             Refusal::TooDeep => "32 containers are open",
             Refusal::NegativeZero => "an int with a negative sign has magnitude zero",
@@ -79,6 +89,8 @@ impl fmt::Display for Refusal {
             Refusal::DecimalTooLong => "the decimal's body is over 32 bytes",
             Refusal::TimestampTooLong => "the timestamp's body is over 32 bytes",
             Refusal::NoRoom => "the buffer has no room",
+            Refusal::NotIon => "the bytes are outside the grammar of Ion 1.0",
+            Refusal::CutShort => "the stream stops inside a value, a pad or a version marker",
             Refusal::Unknown(number) => {
                 write!(f, "the library answered {number}, which is no refusal of this crate: ")?;
                 return f.write_str("crate and library are of different versions");
@@ -89,6 +101,27 @@ impl fmt::Display for Refusal {
 }
 
 impl core::error::Error for Refusal {}
+
+/// Why a reader stopped, and where the item begins that does not read: a field where its name begins, an annotated value where its
+/// wrapper begins.
+#[derive(Clone, Copy, Debug, PartialEq, Eq, Hash)]
+pub struct ReadRefusal {
+    pub refusal: Refusal,
+    pub place: usize,
+}
+
+impl fmt::Display for ReadRefusal {
+    fn fmt(&self, f: &mut fmt::Formatter<'_>) -> fmt::Result {
+        match self.refusal {
+            Refusal::StateUnfit => f.write_str("the position is past the stream's end (refusal 2)")?,
+            Refusal::TooDeep => f.write_str("a thirty-third container would be open (refusal 4)")?,
+            refusal => write!(f, "{refusal}")?,
+        }
+        write!(f, " at byte {}", self.place)
+    }
+}
+
+impl core::error::Error for ReadRefusal {}
 
 #[cfg(test)]
 mod tests {
@@ -115,6 +148,8 @@ mod tests {
             let expected = match number {
                 0 => Ok(()),
                 1..=10 => Err(named[number as usize - 1]),
+                13 => Err(Refusal::NotIon),
+                14 => Err(Refusal::CutShort),
                 _ => Err(Refusal::Unknown(number)),
             };
             assert_eq!(answer(number), expected);

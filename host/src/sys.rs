@@ -7,8 +7,11 @@
 //!
 //! The state is [`STATE_SIZE`](crate::STATE_SIZE) bytes (docs/STATE.md); a slice of another length is refused by 2. Annotations are
 //! eight little-endian bytes for each sid, see [`sid_bytes`]. A refused call leaves state and buffer as they were.
+//!
+//! The calls of the reader are lent the stream and keep nothing: a [`Place`] says where they read. They answer numbers into a slice
+//! that is lent for them, as many as it holds.
 
-use crate::{answer, Closed, Refusal, Timestamp};
+use crate::{answer, Closed, ReadRefusal, Refusal, Timestamp};
 
 // As in include/goatminute.h.
 #[rustfmt::skip]
@@ -51,6 +54,14 @@ extern "C" {
     fn gm_version_marker(state: *mut u8, state_len: usize, buf: *mut u8, buf_len: usize) -> u8;
     fn gm_empty(state: *mut u8, state_len: usize, buf: *const u8, buf_len: usize) -> u8;
     fn gm_finished(state: *const u8, state_len: usize, buf: *const u8, buf_len: usize) -> usize;
+    fn gm_read_item(stream: *const u8, stream_len: usize, end: usize, parent: u8, least: u64, depth: u8, position: usize,
+        item: *mut u64, item_len: usize) -> u8;
+    fn gm_read_rest(stream: *const u8, stream_len: usize, end: usize, parent: u8, least: u64, depth: u8, position: usize,
+        place: *mut u64, place_len: usize) -> u8;
+    fn gm_read_sid(part: *const u8, part_len: usize, position: usize, sid: *mut u64, sid_len: usize) -> u8;
+    fn gm_read_decimal(body: *const u8, body_len: usize, decimal: *mut u64, decimal_len: usize) -> u8;
+    fn gm_read_timestamp(body: *const u8, body_len: usize, timestamp: *mut u64, timestamp_len: usize) -> u8;
+    fn gm_read_symbol(body: *const u8, body_len: usize, sid: *mut u64, sid_len: usize) -> u8;
 }
 
 /// The two parts of a slice that crosses.
@@ -343,6 +354,155 @@ pub fn sid_bytes(sids: &[u64]) -> &[u8] {
 
 #[cfg(not(target_endian = "little"))]
 compile_error!("sid_bytes reads sids in place, which needs a little-endian machine");
+
+/// Where an item is read.
+#[derive(Clone, Copy, Debug, PartialEq, Eq)]
+pub struct Place {
+    /// Where what holds the item ends: the stream's length, or a container's `stop`.
+    pub end: usize,
+    /// The container's `kind`; 0 is the stream itself.
+    pub parent: u8,
+    /// The name of the item before, pads aside, or 0: in a sorted struct no name is under it.
+    pub least: u64,
+    /// How many containers are open.
+    pub depth: u8,
+    pub position: usize,
+}
+
+impl Place {
+    /// In the stream itself.
+    #[inline]
+    pub const fn in_stream(stream: &[u8], position: usize) -> Self {
+        Place {
+            end: stream.len(),
+            parent: 0,
+            least: 0,
+            depth: 0,
+            position,
+        }
+    }
+}
+
+/// An item by the places of its parts.
+#[derive(Clone, Copy, Debug, PartialEq, Eq)]
+pub struct ItemParts {
+    /// 0 where the parent is no struct.
+    pub name: u64,
+    /// Where the annotations' sids start and stop.
+    pub sids: usize,
+    pub sids_end: usize,
+    /// The type byte of the value itself. Below 0F a NOP pad; E0 a version marker; FF nothing, the position is the end.
+    pub kind: u8,
+    /// Where the value's body starts and stops. The next item stands at `stop`.
+    pub start: usize,
+    pub stop: usize,
+}
+
+/// The item at a place, by its parts.
+#[inline]
+pub fn read_item(stream: &[u8], place: Place) -> Result<ItemParts, Refusal> {
+    let mut item = [0; 6];
+    let (stream, stream_len) = lend(stream);
+    let Place {
+        end,
+        parent,
+        least,
+        depth,
+        position,
+    } = place;
+    answer(unsafe {
+        gm_read_item(
+            stream,
+            stream_len,
+            end,
+            parent,
+            least,
+            depth,
+            position,
+            item.as_mut_ptr(),
+            item.len(),
+        )
+    })?;
+    let [name, sids, sids_end, kind, start, stop] = item;
+    Ok(ItemParts {
+        name,
+        sids: sids as usize,
+        sids_end: sids_end as usize,
+        kind: kind as u8,
+        start: start as usize,
+        stop: stop as usize,
+    })
+}
+
+/// Reads and checks all from a place to the end of what holds it, containers entered. Refused, it answers where the item begins that
+/// does not read.
+#[inline]
+pub fn read_rest(stream: &[u8], place: Place) -> Result<(), ReadRefusal> {
+    let Place {
+        end,
+        parent,
+        least,
+        depth,
+        position,
+    } = place;
+    let mut refused = [position as u64];
+    let (stream, stream_len) = lend(stream);
+    answer(unsafe {
+        gm_read_rest(
+            stream,
+            stream_len,
+            end,
+            parent,
+            least,
+            depth,
+            position,
+            refused.as_mut_ptr(),
+            refused.len(),
+        )
+    })
+    .map_err(|refusal| ReadRefusal {
+        refusal,
+        place: refused[0] as usize,
+    })
+}
+
+/// A sid at a position of the annotations, or of any VarUInts; and the position behind it.
+#[inline]
+pub fn read_sid(part: &[u8], position: usize) -> Result<(u64, usize), Refusal> {
+    let mut sid = [0; 2];
+    let (part, part_len) = lend(part);
+    answer(unsafe { gm_read_sid(part, part_len, position, sid.as_mut_ptr(), sid.len()) })?;
+    Ok((sid[0], sid[1] as usize))
+}
+
+/// A decimal's body: whether its exponent is negative, the exponent's magnitude, and where in the body the coefficient starts. That is an
+/// Int: the top bit of its first byte is its sign.
+#[inline]
+pub fn read_decimal(body: &[u8]) -> Result<[u64; 3], Refusal> {
+    let mut decimal = [0; 3];
+    let (body, body_len) = lend(body);
+    answer(unsafe { gm_read_decimal(body, body_len, decimal.as_mut_ptr(), decimal.len()) })?;
+    Ok(decimal)
+}
+
+/// A timestamp's body: whether its offset is known, whether that is negative, and its minutes; how many fields there are; year, month,
+/// day, hour, minute and second of UTC; how many digits the fraction has, and where in the body their coefficient starts, an Int.
+#[inline]
+pub fn read_timestamp(body: &[u8]) -> Result<[u64; 12], Refusal> {
+    let mut timestamp = [0; 12];
+    let (body, body_len) = lend(body);
+    answer(unsafe { gm_read_timestamp(body, body_len, timestamp.as_mut_ptr(), timestamp.len()) })?;
+    Ok(timestamp)
+}
+
+/// A symbol's body: its sid.
+#[inline]
+pub fn read_symbol(body: &[u8]) -> Result<u64, Refusal> {
+    let mut sid = [0];
+    let (body, body_len) = lend(body);
+    answer(unsafe { gm_read_symbol(body, body_len, sid.as_mut_ptr(), sid.len()) })?;
+    Ok(sid[0])
+}
 
 #[cfg(test)]
 mod tests {

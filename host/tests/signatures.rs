@@ -42,6 +42,7 @@ fn of_rust(text: &str, before: &str) -> Signatures {
         for parameter in parameters.split(',').map(str::trim).filter(|parameter| !parameter.is_empty()) {
             match between(parameter, ":").1.trim() {
                 "&mut [u8]" => types.extend(["*mut u8".to_string(), "usize".to_string()]),
+                "&mut [u64]" => types.extend(["*mut u64".to_string(), "usize".to_string()]),
                 "&[u8]" => types.extend(["*const u8".to_string(), "usize".to_string()]),
                 other => types.push(other.to_string()),
             }
@@ -57,6 +58,7 @@ fn of_c(text: &str) -> Signatures {
     let rust = |c: &str| {
         match c.trim() {
             "uint8_t *" => "*mut u8",
+            "uint64_t *" => "*mut u64",
             "const uint8_t *" => "*const u8",
             "size_t" => "usize",
             "uint8_t" => "u8",
@@ -94,7 +96,7 @@ fn entry_points_header_and_declarations_agree() {
     let exported = of_rust(&libraries(), "pub extern \"C\" fn gm_");
     let declared = of_rust(&read("src/sys.rs"), "    fn gm_");
     let header = of_c(&read("include/goatminute.h"));
-    assert_eq!(exported.len(), 22);
+    assert_eq!(exported.len(), 28);
     assert_eq!(declared, exported);
     assert_eq!(header, exported);
 }

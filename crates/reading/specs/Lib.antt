@@ -5,4 +5,3 @@ pub mod Bodies
 pub mod Told
 pub mod Items
 pub mod Walk
-pub mod Exact

@@ -1,35 +1,34 @@
 -- A value without its annotation wrapper, at a place: its header, its scalar or its members, as the walk finds them.
 -- Assumes nothing.
-use Prim.Native.Nat.{ℕ, zero, suc, _+_, _*_, _/_, _%_, _^_, _≤_, _<_}
+use Prim.Native.Nat.{ℕ, _+_, _*_, _/_, _%_, _≤_, _<_}
 use native.Mathlib.Omega.{arith}
-use mathlib.Core.Path.{_≡_, refl, sym, _∙_, ap}
+use mathlib.Core.Path.{_≡_, refl, sym, ap}
 use mathlib.Core.Logic.{_≢_}
-use mathlib.Core.Bool.{Bool, true, false, cond, _&&_, _||_, not}
-use mathlib.Core.List.{List, [], _∷_, _++_, append-nil}
-use mathlib.Core.Option.{Option, none, some, Option·none-ne-some}
-use lib.Dec.{ltb, leb, eqb}
+use mathlib.Core.Bool.{Bool, true, false, cond}
+use mathlib.Core.List.{List, [], _∷_, _++_}
+use mathlib.Core.Option.{Option, some, Option·none-ne-some}
+use lib.Dec.{ltb, eqb}
 use lib.Ieee.{binary32, binary64}
-use lib.ListN.{length, take, getD, length-append}
-use borrow.Author.Tests.{lt-ltb, le-ltb, le-leb, lt-leb, ne-eqb, eq-eqb}
+use lib.ListN.{length, getD}
+use borrow.Author.Tests.{lt-ltb, le-ltb, le-leb, lt-leb, ne-eqb}
 use Rattle.ion.specs.Value.{IonType, ionList, ionSexp, ionStruct, TypeCode, nullCode, boolCode, positiveCode, negativeCode, floatCode, decimalCode, timestampCode, symbolCode, stringCode, clobCode, blobCode, listCode, sexpCode, structCode, annotationCode, highBits, nullType, SequenceType, list, sexp, sequenceCode}
-use Rattle.ion.specs.Value.{Signed, signed, finite, Scalar, null, bool, float, Value, scalar, sequence, struct, Members, Fields}
-use Rattle.ion.specs.Chain.{_>>=_, check}
-use Rattle.ion.specs.Fields.{VarUInt, uint, bigEndian, varInt, giveSign, varUInts, groups, isI64, isNegative}
+use Rattle.ion.specs.Value.{signed, finite, Scalar, null, bool, float, Value, scalar, sequence, struct, Members, Fields}
+use Rattle.ion.specs.Chain.{_>>=_}
+use Rattle.ion.specs.Fields.{VarUInt, uint, bigEndian, varInt, varUInts, groups, isI64, isNegative}
 use Rattle.ion.specs.Scalars.{scalarOf, timestampOf, areFields, floatOf}
-use Rattle.ion.specs.Grammar.{Header, short, long, sorted}
+use Rattle.ion.specs.Grammar.{Header, sorted}
 use Rattle.ion.proofs.Tests.{by-cases}
-use Rattle.ion.proofs.Fields.{varUInt-pos}
-use Rattle.ion.proofs.Exact.{bind-some}
 use Rattle.reading.specs.declared.Refusal.{Refusal}
 use Rattle.reading.specs.declared.Header.the-variants as H
-use Rattle.reading.specs.Headers.{impossible, alone, measured, never, headerAt}
-use Rattle.reading.specs.Scalars.{scalarIn, bodyOf, isSome}
+use Rattle.reading.specs.Headers.{impossible, alone, headerAt}
+use Rattle.reading.specs.Scalars.{scalarIn, bodyOf}
 use Rattle.reading.specs.Items.{isPad, isMarker, isWrapper, opens, reads, hasNames, isSorted, isStream}
 use Rattle.reading.specs.Walk.{Event, leaf, begins, ends, treeEvents, treeDepth, memberEvents, fieldEvents, membersDepth, fieldsDepth, Walk, shows, containerType, containerWalk, leafWalk, walkFrom}
+use Rattle.reading_grammar.proofs.Tests.{contrary}
 use Rattle.reading_grammar.proofs.Places.{Rest}
 use Rattle.reading_grammar.proofs.TypeBytes as K
 use Rattle.reading_grammar.proofs.TypeBytes.{IsLeaf, IsContainer, high, low, codeOf-highBits}
-use Rattle.reading_grammar.proofs.Headed.{Usual, First, first, header-pos, plain-header, sorted-header, byte-header, float-header}
+use Rattle.reading_grammar.proofs.Headed.{HeaderFound, Usual, first, header-pos, plain-header, sorted-header, byte-header, float-header}
 
 -- what the walk makes of a type byte and its body, which fills t from `start` on
 abbrev pub contentWalk : ℕ → List ℕ → ℕ → Option ℕ → List ℕ → ℕ → ℕ → List ℕ → Walk
@@ -48,15 +47,14 @@ pub record BareFound (b an : List ℕ) (v : Value) : Type 0 where
   pub wrapper : isWrapper kind ≡ false
   pub deep : opens kind ≡ true → 0 < treeDepth v
   pub good : reads kind body ≡ true
-  pub headed : (out : Refusal) (s : List ℕ) (at : ℕ) (r : List ℕ) (start stop : ℕ) → start ≡ at + length header → stop ≡ start + length body
-      → Rest s at (header ++ (body ++ r)) → headerAt out s at ≡ H.Is kind start stop
+  pub headed : HeaderFound kind header body
   pub walks : (t : List ℕ) (start f depth : ℕ) (name : Option ℕ) → Rest t start body → length body < f → depth + treeDepth v ≤ 32
       → contentWalk f t depth name an kind start body ≡ shows (treeEvents name v)
 
 -- ---- scalars
 
 module _ (an : List ℕ) (kind : ℕ) (h body : List ℕ) (x : Scalar) (pos : 0 < length h) (byte : getD h 0 0 ≡ kind) (k : IsLeaf kind) (e : scalarIn kind body ≡ some x)
-    (headed : (out : Refusal) (s : List ℕ) (at : ℕ) (r : List ℕ) (start stop : ℕ) → start ≡ at + length h → stop ≡ start + length body → Rest s at (h ++ (body ++ r)) → headerAt out s at ≡ H.Is kind start stop) where
+    (headed : HeaderFound kind h body) where
   found-leaf : BareFound (h ++ body) an (scalar an x)
   unfolding treeEvents treeDepth
   found-leaf = record {
@@ -69,7 +67,7 @@ module _ (an : List ℕ) (kind : ℕ) (h body : List ℕ) (x : Scalar) (pos : 0 
     pad = k .pad;
     marker = k .marker;
     wrapper = k .wrapper;
-    deep = λ q. absurd (let z : _≡_ {A = Bool} true false = cc in let y : _≡_ {A = ℕ} 0 1 = ap (λ b. cond b 0 1) z in omega arith);
+    deep = λ q. contrary (k .shut) q;
     good = rw (k .pad, k .marker, k .shut, e);
     headed = headed;
     walks = λ t start f depth name r lt le. rw (k .shut, k .marker, e);
@@ -260,7 +258,7 @@ FieldsFound b fs =
 
 module _ (an : List ℕ) (kind : ℕ) (h body : List ℕ) (v : Value) (t : IonType) (es : List Event) (d : ℕ) (pos : 0 < length h) (byte : getD h 0 0 ≡ kind) (k : IsContainer kind)
     (type : containerType kind ≡ t) (events : (name : Option ℕ) → treeEvents name v ≡ begins name an t ∷ (es ++ (ends ∷ []))) (depth-is : treeDepth v ≡ 1 + d)
-    (headed : (out : Refusal) (s : List ℕ) (at : ℕ) (r : List ℕ) (start stop : ℕ) → start ≡ at + length h → stop ≡ start + length body → Rest s at (h ++ (body ++ r)) → headerAt out s at ≡ H.Is kind start stop)
+    (headed : HeaderFound kind h body)
     (inner : (u : List ℕ) (start f depth : ℕ) → Rest u start body → length body < f → depth + d ≤ 32 → walkFrom f u kind 0 depth start ≡ shows es) where
   found-container : BareFound (h ++ body) an v
   found-container = record {
@@ -307,7 +305,7 @@ found-sequence an h body sexp vs hd ih = found-sexp an h body vs hd ih
 
 -- a struct, sorted or not, by its type byte
 struct-found : (an : List ℕ) (kind : ℕ) (h body : List ℕ) (fs : Fields Scalar) → 0 < length h → getD h 0 0 ≡ kind → 0xD0 ≤ kind → kind < 0xDF
-    → ((out : Refusal) (s : List ℕ) (at : ℕ) (r : List ℕ) (start stop : ℕ) → start ≡ at + length h → stop ≡ start + length body → Rest s at (h ++ (body ++ r)) → headerAt out s at ≡ H.Is kind start stop)
+    → HeaderFound kind h body
     → (isSorted kind ≡ true → sorted 0 fs ≡ true) → FieldsFound body fs → BareFound (h ++ body) an (struct an fs)
 unfolding treeEvents treeDepth
 struct-found an kind h body fs pos byte lo hi headed up ih =
@@ -319,17 +317,13 @@ struct-found an kind h body fs pos byte lo hi headed up ih =
 struct-usual : (n : ℕ) → n ≢ 1 → Usual 13 n
 struct-usual n ne = let z : eqb n 1 ≡ false = ne-eqb n 1 ne in record { shortly = λ lt. refl; at-length = refl; framed = refl; plain = z; short-fits = rw z; long-fits = rw z }
 
-false-true : {X : Type 0} {b : Bool} → b ≡ false → b ≡ true → X
-false-true {b = true} e f = absurd (let y : _≡_ {A = ℕ} 0 1 = ap (λ c. cond c 1 0) (sym e) in omega arith)
-false-true {b = false} e f = absurd (let y : _≡_ {A = ℕ} 0 1 = ap (λ c. cond c 1 0) f in omega arith)
-
 pub found-struct : (an h body : List ℕ) (fs : Fields Scalar) → Header structCode (length body) h → length body ≢ 1 → FieldsFound body fs → BareFound (h ++ body) an (struct an fs)
 found-struct an h body fs hd ne ih =
     let k = first hd in
     let no : getD h 0 0 ≢ 0xD1 = λ e. k .not-one ne (omega (arith, k .is)) in
     struct-found an (getD h 0 0) h body fs (header-pos hd) refl (omega (arith, k .is)) (omega (arith, k .is, k .small))
     (λ out s at r start stop p q y. plain-header out body r start stop hd (struct-usual (length body) ne) p q y)
-    (λ e. false-true (ne-eqb (getD h 0 0) 0xD1 no) e) ih
+    (λ e. contrary (ne-eqb (getD h 0 0) 0xD1 no) e) ih
 
 pub found-sorted : (an l body : List ℕ) (fs : Fields Scalar) → VarUInt l (length body) → 0 < length body → length body ≢ 1 → sorted 0 fs ≡ true → FieldsFound body fs → BareFound (0xD1 ∷ (l ++ body)) an (struct an fs)
 found-sorted an l body fs v pos ne up ih =

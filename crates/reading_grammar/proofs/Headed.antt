@@ -1,25 +1,22 @@
 -- A header of the grammar is found at its place: type byte, then length, then a body that lies within the bytes.
 -- Assumes nothing.
-use Prim.Native.Nat.{ℕ, suc, _+_, _*_, _/_, _%_, _≤_, _<_}
+use Prim.Native.Nat.{ℕ, _+_, _*_, _/_, _%_, _≤_, _<_}
 use native.Mathlib.Omega.{arith}
-use mathlib.Core.Path.{_≡_, refl, sym, _∙_, ap}
+use mathlib.Core.Path.{_≡_, refl, _∙_, ap}
 use mathlib.Core.Logic.{_≢_}
-use mathlib.Core.Bool.{Bool, true, false, cond, _&&_, _||_}
-use mathlib.Core.List.{List, [], _∷_, _++_}
-use lib.Dec.{ltb, leb, eqb}
+use mathlib.Core.Bool.{true, false, _&&_}
+use mathlib.Core.List.{List, _∷_, _++_}
+use lib.Dec.{eqb}
 use lib.ListN.{length, getD, length-append}
-use borrow.Author.Tests.{lt-ltb, le-leb, ne-eqb, le-ltb}
+use borrow.Author.Tests.{lt-ltb, le-leb, ne-eqb}
 use Rattle.ion.specs.Value.{TypeCode, highBits}
 use Rattle.ion.specs.Fields.{VarUInt}
 use Rattle.ion.specs.Grammar.{Header, short, long}
-use Rattle.ion.proofs.Fields.{varUInt-pos}
 use Rattle.reading.specs.declared.Refusal.{Refusal}
-use Rattle.reading.specs.declared.Number.{Number}
 use Rattle.reading.specs.declared.Number.the-variants as N
-use Rattle.reading.specs.declared.Header as DH
 use Rattle.reading.specs.declared.Header.the-variants as H
 use Rattle.reading.specs.Headers.{varUIntAt, impossible, alone, measured, never, headerAt}
-use Rattle.reading_grammar.proofs.Places.{Rest, rest-length, rest-next, rest-head, rest-tail}
+use Rattle.reading_grammar.proofs.Places.{Rest, rest-length, rest-head, rest-tail}
 use Rattle.reading_grammar.proofs.Numbers.{number-found}
 use Rattle.reading_grammar.proofs.TypeBytes.{high, low}
 
@@ -65,7 +62,6 @@ pub plain-header : (out : Refusal) {s : List ℕ} {at : ℕ} {c : TypeCode} {h :
     → Header c (length body) h → Usual (highBits c) (length body) → start ≡ at + length h → stop ≡ start + length body → Rest s at (h ++ (body ++ r))
     → headerAt out s at ≡ H.Is (getD h 0 0) start stop
 plain-header out {s} {at} {c} body r start stop (short lt) u e f x =
-    let n : ℕ = length body in
     let all : length s ≡ at + (1 + (length body + length r)) = rest-length x ∙ ap (λ (k : ℕ). at + k) (omega (arith, length-append body r)) in
     rw e
     (short-header out s at (highBits c * 16 + length body) (highBits c) (length body) (rest-head x) (omega arith) (high c (length body) (omega arith)) (low c (length body) (omega arith)) (u .shortly lt)
@@ -97,3 +93,8 @@ float-header out {s} {at} b l body r stop hi lo lt can n e x =
     let all : length s ≡ at + (1 + (length body + length r)) = rest-length x ∙ ap (λ (k : ℕ). at + k) (omega (arith, length-append body r)) in
     short-header out s at b 4 l (rest-head x) (omega arith) hi lo can
     (rw (ne-eqb l 15 (λ q. omega arith))) (rw (ne-eqb l 14 (λ q. omega arith))) refl stop (omega arith) (omega arith)
+
+-- Wherever these bytes of a header and a body stand, the header is found, with the type byte k.
+abbrev pub HeaderFound : ℕ → List ℕ → List ℕ → Type 0
+HeaderFound k h body =
+    (out : Refusal) (s : List ℕ) (at : ℕ) (r : List ℕ) (start stop : ℕ) → start ≡ at + length h → stop ≡ start + length body → Rest s at (h ++ (body ++ r)) → headerAt out s at ≡ H.Is k start stop

@@ -1,3 +1,4 @@
+pub mod Tests
 pub mod Places
 pub mod Numbers
 pub mod TypeBytes
@@ -6,3 +7,10 @@ pub mod Bare
 pub mod One
 pub mod Steps
 pub mod Walked
+pub mod Framing
+pub mod Derived
+pub mod Unwrapped
+pub mod Items
+pub mod Values
+pub mod Read
+pub mod Examples

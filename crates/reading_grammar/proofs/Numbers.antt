@@ -2,11 +2,10 @@
 -- Assumes nothing.
 use Prim.Native.Nat.{ℕ, zero, suc, _+_, _*_, _%_, _^_, _≤_, _<_}
 use native.Mathlib.Omega.{arith}
-use native.Mathlib.Nat.{add-zero, add-assoc}
 use mathlib.Core.Path.{_≡_, refl, sym, _∙_, ap, subst}
-use mathlib.Core.Bool.{Bool, true, false, cond}
+use mathlib.Core.Bool.{true}
 use mathlib.Core.List.{List, [], _∷_, _++_}
-use mathlib.Core.Option.{Option, none, some, Option·some-injective, Option·none-ne-some}
+use mathlib.Core.Option.{Option, some, Option·some-injective, Option·none-ne-some}
 use lib.Dec.{ltb}
 use lib.ListN.{length, drop, length-append}
 use borrow.Author.Tests.{lt-ltb, ltb-true}
@@ -17,12 +16,10 @@ use Rattle.ion.proofs.Tests.{by-cases}
 use Rattle.ion.proofs.Fields.{inU64-some, some-inU64, varUInt-append, varUInt-split, varUInt-pos}
 use Rattle.ion.proofs.Exact.{bind-some}
 use Rattle.reading.specs.declared.Refusal.{Refusal}
-use Rattle.reading.specs.declared.Refusal.the-variants.{NotIon}
-use Rattle.reading.specs.declared.Number.{Number}
 use Rattle.reading.specs.declared.Number.the-variants as N
 use Rattle.reading.specs.Headers.{varUIntFrom, varUIntAt}
 use Rattle.reading.specs.Scalars.{sidsOf}
-use Rattle.reading_grammar.proofs.Places.{Rest, rest-next}
+use Rattle.reading_grammar.proofs.Places.{Rest}
 
 -- ---- a VarUInt is found
 

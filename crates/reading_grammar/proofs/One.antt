@@ -1,34 +1,33 @@
 -- A value, bare or in its annotation wrapper, and a pad, at a place: as the walk finds them.
 -- Assumes nothing.
-use Prim.Native.Nat.{ℕ, zero, suc, _+_, _*_, _≤_, _<_}
+use Prim.Native.Nat.{ℕ, _+_, _≤_, _<_}
 use native.Mathlib.Omega.{arith}
 use mathlib.Core.Path.{_≡_, refl, sym, _∙_, ap}
 use mathlib.Core.Logic.{_≢_}
-use mathlib.Core.Bool.{Bool, true, false, cond, _&&_, _||_, not}
+use mathlib.Core.Bool.{true, false, cond}
 use mathlib.Core.List.{List, [], _∷_, _++_, append-assoc, append-nil}
-use mathlib.Core.Option.{Option, none, some, Option·some-injective}
-use lib.Dec.{ltb, leb, eqb}
+use mathlib.Core.Option.{Option, some, Option·some-injective}
+use lib.Dec.{ltb, eqb}
 use lib.ListN.{length, take, getD, length-append, List·getD-append}
-use lib.Seq.{slice, length-take-le}
-use borrow.Author.Tests.{le-leb, lt-ltb, ne-eqb, eq-eqb, le-ltb}
-use Rattle.ion.specs.Value.{nullCode, annotationCode, highBits, Value}
+use borrow.Author.Tests.{le-leb, ne-eqb, eq-eqb, le-ltb}
+use Rattle.ion.specs.Value.{nullCode, annotationCode, Value}
 use Rattle.ion.specs.Fields.{VarUInt, varUInts}
-use Rattle.ion.specs.Grammar.{Header, sids, _⟶_}
+use Rattle.ion.specs.Grammar.{Header}
 use Rattle.ion.proofs.Fields.{varUInt-pos}
 use Rattle.reading.specs.declared.Refusal.{Refusal}
 use Rattle.reading.specs.declared.Refusal.the-variants.{NotIon}
-use Rattle.reading.specs.declared.Number.the-variants as N
 use Rattle.reading.specs.declared.Header.the-variants as H
 use Rattle.reading.specs.declared.Wrapped.the-variants as W
-use Rattle.reading.specs.Headers.{impossible, never, varUIntAt, headerAt}
-use Rattle.reading.specs.Scalars.{isSome, sidsOf}
+use Rattle.reading.specs.Headers.{headerAt}
+use Rattle.reading.specs.Scalars.{sidsOf}
 use Rattle.reading.specs.Items.{isPad, isMarker, isWrapper, opens, reads, wrappedAt, unwrapped}
 use Rattle.reading.specs.Walk.{treeEvents, treeDepth, shows}
+use Rattle.reading_grammar.proofs.Tests.{contrary}
 use Rattle.reading_grammar.proofs.Places.{Rest, rest-length, rest-next, rest-slice, rest-within}
-use Rattle.reading_grammar.proofs.Numbers.{number-found, sids-found}
+use Rattle.reading_grammar.proofs.Numbers.{number-found}
 use Rattle.reading_grammar.proofs.TypeBytes as K
 use Rattle.reading_grammar.proofs.TypeBytes.{IsPadding}
-use Rattle.reading_grammar.proofs.Headed.{Usual, First, first, header-pos, plain-header}
+use Rattle.reading_grammar.proofs.Headed.{Usual, first, header-pos, plain-header}
 use Rattle.reading_grammar.proofs.Bare.{contentWalk, BareFound}
 
 -- the bytes b are found to be the value v: x is all before the sids, y all between them and the body
@@ -55,7 +54,7 @@ pub record OneFound (b : List ℕ) (v : Value) : Type 0 where
 -- ---- without a wrapper
 
 marker-not : (k : ℕ) → isMarker k ≡ false → k ≢ 0xE0
-marker-not k e q = let y : _≡_ {A = ℕ} 1 0 = ap (λ b. cond b 1 0) (sym (eq-eqb k 0xE0 q) ∙ e) in omega arith
+marker-not k e q = contrary e (eq-eqb k 0xE0 q)
 
 pub one-bare : (b : List ℕ) (v : Value) → BareFound b [] v → OneFound b v
 unfolding sidsOf varUInts
@@ -75,10 +74,10 @@ one-bare b v w = record {
   deep = w .deep;
   good = w .good;
   unwraps = λ out s at r from to start stop p q e f z.
-    let u : to ≡ from = omega arith in
-    let t : start ≡ from = omega arith in
-    let m : Rest s at (w .header ++ (w .body ++ r)) = rw append-assoc at (rw (w .joins) at z) in
-    rw (w .headed out s at r start stop (omega arith) f m, w .wrapper, u, t);
+      let u : to ≡ from = omega arith in
+      let t : start ≡ from = omega arith in
+      let m : Rest s at (w .header ++ (w .body ++ r)) = rw append-assoc at (rw (w .joins) at z) in
+      rw (w .headed out s at r start stop (omega arith) f m, w .wrapper, u, t);
   walks = w .walks;
 }
 
@@ -104,8 +103,18 @@ module _ (h l n b an : List ℕ) (a : ℕ) (v : Value) (hd : Header annotationCo
       let y : Rest t from (n ++ b) = rest-next l (n ++ b) from p x in
       let z : Rest t to b = rest-next n b to q y in
       let z′ : Rest t to (w .header ++ (w .body ++ [])) = rw (← append-nil (w .body)) at (rw (w .joins) at z) in
-      rw (number-found NotIon l (n ++ b) from e p x, le-leb 1 (length n) (sids-pos n k), ← q, le-leb to (length t) (omega arith), rest-slice n b to q y, k,
-      w .headed NotIon t to [] start stop i j z′, w .pad, w .wrapper, eq-eqb stop (length t) (sym len))
+      rw (
+        number-found NotIon l (n ++ b) from e p x,
+        le-leb 1 (length n) (sids-pos n k),
+        ← q,
+        le-leb to (length t) (omega arith),
+        rest-slice n b to q y,
+        k,
+        w .headed NotIon t to [] start stop i j z′,
+        w .pad,
+        w .wrapper,
+        eq-eqb stop (length t) (sym len),
+      )
 
   wrapper-size : 3 ≤ length (l ++ (n ++ b))
   wrapper-size = omega (arith, length-append l (n ++ b), length-append n b, ap length (w .joins), length-append (w .header) (w .body), varUInt-pos l e, sids-pos n k, w .pos)
@@ -133,15 +142,14 @@ module _ (h l n b an : List ℕ) (a : ℕ) (v : Value) (hd : Header annotationCo
     deep = w .deep;
     good = w .good;
     unwraps = λ out s at r from to start stop p q i j z.
-      let m : Rest s at (h ++ ((l ++ (n ++ b)) ++ r)) = rw (append-assoc h (l ++ (n ++ b)) r) at z in
-      let begin : ℕ = at + length h in
-      let size : length (l ++ (n ++ b)) ≡ length l + (length n + (length (w .header) + length (w .body))) = omega (arith, length-append l (n ++ b), length-append n b, ap length (w .joins), length-append (w .header) (w .body)) in
-      let e₁ : from ≡ at + length h + length l = omega (arith, length-append h l) in
-      let e₂ : stop ≡ at + length h + length (l ++ (n ++ b)) = omega arith in
-      let in-s : Rest s (at + length h) ((l ++ (n ++ b)) ++ r) = rest-next h ((l ++ (n ++ b)) ++ r) (at + length h) refl m in
-      let in-t : Rest (take stop s) (at + length h) (l ++ (n ++ b)) = rest-within (l ++ (n ++ b)) r stop e₂ in-s in
-      rw (plain-header out (l ++ (n ++ b)) r (at + length h) stop hd (wrapper-usual (length (l ++ (n ++ b))) wrapper-size) refl e₂ m, wrapper-byte)
-      (wrapped-found (take stop s) (at + length h) from to start stop e₁ q i j (rest-length in-t ∙ sym e₂) in-t);
+        let m : Rest s at (h ++ ((l ++ (n ++ b)) ++ r)) = rw (append-assoc h (l ++ (n ++ b)) r) at z in
+        let size : length (l ++ (n ++ b)) ≡ length l + (length n + (length (w .header) + length (w .body))) = omega (arith, length-append l (n ++ b), length-append n b, ap length (w .joins), length-append (w .header) (w .body)) in
+        let e₁ : from ≡ at + length h + length l = omega (arith, length-append h l) in
+        let e₂ : stop ≡ at + length h + length (l ++ (n ++ b)) = omega arith in
+        let in-s : Rest s (at + length h) ((l ++ (n ++ b)) ++ r) = rest-next h ((l ++ (n ++ b)) ++ r) (at + length h) refl m in
+        let in-t : Rest (take stop s) (at + length h) (l ++ (n ++ b)) = rest-within (l ++ (n ++ b)) r stop e₂ in-s in
+        rw (plain-header out (l ++ (n ++ b)) r (at + length h) stop hd (wrapper-usual (length (l ++ (n ++ b))) wrapper-size) refl e₂ m, wrapper-byte)
+        (wrapped-found (take stop s) (at + length h) from to start stop e₁ q i j (rest-length in-t ∙ sym e₂) in-t);
     walks = w .walks;
   }
 

@@ -1,12 +1,12 @@
 -- What stands in a list from a place on: places against concatenations.
 -- Assumes nothing.
-use Prim.Native.Nat.{ℕ, zero, suc, _+_, _-_, _≤_, _<_}
+use Prim.Native.Nat.{ℕ, _+_, _≤_}
 use native.Mathlib.Omega.{arith}
 use native.Mathlib.Nat.{add-zero}
 use mathlib.Core.Path.{_≡_, refl, sym, _∙_, ap}
 use mathlib.Core.List.{List, [], _∷_, _++_}
 use lib.ListN.{length, take, drop, getD, length-append, length-drop}
-use lib.Seq.{slice, length-take-le, take-append-seam, drop-append-seam, drop-at, take-at, getD-drop, drop-drop, take-add}
+use lib.Seq.{slice, length-take-le, take-append-seam, drop-append-seam, drop-at, getD-drop, drop-drop, take-add}
 
 -- from the place `at` to its end, s is l
 pub record Rest (s : List ℕ) (at : ℕ) (l : List ℕ) : Type 0 where

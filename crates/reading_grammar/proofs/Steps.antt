@@ -1,28 +1,24 @@
 -- One step of the walk, at a value, at a pad and at a version marker of the grammar.
 -- Assumes nothing.
-use Prim.Native.Nat.{ℕ, zero, suc, _+_, _*_, _/_, _%_, _≤_, _<_}
+use Prim.Native.Nat.{ℕ, suc, _+_, _/_, _%_, _≤_, _<_}
 use native.Mathlib.Omega.{arith}
-use mathlib.Core.Path.{_≡_, refl, sym, _∙_, ap}
-use mathlib.Core.Logic.{_≢_}
-use mathlib.Core.Bool.{Bool, true, false, cond, _&&_, _||_, not, and-false}
+use mathlib.Core.Path.{_≡_, sym, _∙_, ap}
+use mathlib.Core.Bool.{true, false, cond, _&&_, and-false}
 use mathlib.Core.List.{List, [], _∷_, _++_, append-assoc}
-use mathlib.Core.Option.{Option, none, some}
+use mathlib.Core.Option.{none}
 use lib.Dec.{ltb, leb, eqb}
-use lib.ListN.{length, take, drop, getD, length-append, List·getD-append}
-use lib.Seq.{slice, slice-empty}
-use borrow.Author.Tests.{le-ltb, lt-leb, ne-eqb, eq-eqb, ltb-true}
-use Rattle.ion.specs.Value.{nullCode, Value}
-use Rattle.ion.specs.Fields.{varUInts}
+use lib.ListN.{length, take, getD, length-append}
+use lib.Seq.{slice}
+use borrow.Author.Tests.{le-ltb, lt-leb, ne-eqb, ltb-true}
+use Rattle.ion.specs.Value.{Value}
 use Rattle.ion.proofs.Tests.{by-cases}
 use Rattle.reading.specs.declared.Refusal.{Refusal}
 use Rattle.reading.specs.declared.Refusal.the-variants.{NotIon, CutShort}
 use Rattle.reading.specs.declared.Number.the-variants as N
-use Rattle.reading.specs.declared.Header.the-variants as H
-use Rattle.reading.specs.declared.Wrapped.the-variants as W
 use Rattle.reading.specs.declared.Item.the-variants as I
 use Rattle.reading.specs.Headers.{headerAt, marked, markerAt, topHeaderAt}
-use Rattle.reading.specs.Scalars.{codeFrom, bodyOf, scalarIn, sidsOf}
-use Rattle.reading.specs.Items.{isPad, opens, isSorted, isStream, nameAt, headIn, unwrapped, itemAt}
+use Rattle.reading.specs.Scalars.{codeFrom, bodyOf, scalarIn}
+use Rattle.reading.specs.Items.{isPad, opens, isSorted, isStream, nameAt, headIn, itemAt}
 use Rattle.reading.specs.Walk.{Event, marker, treeEvents, treeDepth, shows, nameIn, itemWalk, walkFrom}
 use Rattle.reading_grammar.proofs.Places.{Rest, rest-length, rest-next, rest-slice, rest-within, rest-head}
 use Rattle.reading_grammar.proofs.One.{OneFound, PadFound}
@@ -65,8 +61,18 @@ module _ (s : List ℕ) (parent least depth at name next : ℕ) (b : List ℕ) (
   item-found : itemAt s parent least depth at ≡ I.Is name from to (w .kind) start stop
   unfolding itemAt
   item-found =
-      rw (le-ltb (length s) at (omega arith), ne-eqb at (length s) (λ e. omega arith), named, headIn-plain s parent next first-byte, w .unwraps (outIn parent) s next r from to start stop p q i j x,
-      body-slice, w .good, w .pad, rises, not-deep (w .kind) depth (treeDepth v) (w .deep) shallow)
+      rw (
+        le-ltb (length s) at (omega arith),
+        ne-eqb at (length s) (λ e. omega arith),
+        named,
+        headIn-plain s parent next first-byte,
+        w .unwraps (outIn parent) s next r from to start stop p q i j x,
+        body-slice,
+        w .good,
+        w .pad,
+        rises,
+        not-deep (w .kind) depth (treeDepth v) (w .deep) shallow,
+      )
 
   item-walks : (f : ℕ) → length b ≤ f → itemWalk (λ t k l d m. walkFrom f t k l d m) s parent depth name from to (w .kind) start stop ≡ shows (treeEvents (nameIn parent name) v)
   item-walks f h =
@@ -79,7 +85,7 @@ module _ (s : List ℕ) (parent least depth at name next : ℕ) (b : List ℕ) (
 
 -- ---- a pad
 
-pad-shows-none : (k : ℕ) (body : List ℕ) → isPad k ≡ true → scalarIn k body ≡ none
+pub pad-shows-none : (k : ℕ) (body : List ℕ) → isPad k ≡ true → scalarIn k body ≡ none
 unfolding scalarIn codeFrom bodyOf
 pad-shows-none k body e =
     let h : k < 15 = ltb-true k 15 e in
@@ -95,8 +101,17 @@ module _ (s : List ℕ) (parent least depth at name next : ℕ) (b r : List ℕ)
   pad-item : itemAt s parent least depth at ≡ I.Is name (next + w .size) (next + w .size) (w .kind) (next + w .size) stop
   unfolding itemAt
   pad-item =
-      rw (le-ltb (length s) at (omega arith), ne-eqb at (length s) (λ e. omega arith), named, headIn-plain s parent next pad-byte, w .headed (outIn parent) s next r stop j x,
-      w .is .wrapper, w .is .pad, w .is .shut, and-false (isSorted parent))
+      rw (
+        le-ltb (length s) at (omega arith),
+        ne-eqb at (length s) (λ e. omega arith),
+        named,
+        headIn-plain s parent next pad-byte,
+        w .headed (outIn parent) s next r stop j x,
+        w .is .wrapper,
+        w .is .pad,
+        w .is .shut,
+        and-false (isSorted parent),
+      )
 
   pub step-pad : (f : ℕ) (es : List Event) → walkFrom f s parent least depth stop ≡ shows es → walkFrom (suc f) s parent least depth at ≡ shows es
   unfolding walkFrom

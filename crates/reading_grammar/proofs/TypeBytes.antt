@@ -1,12 +1,11 @@
 -- Type bytes: what the tests on them say, by the range that a byte lies in.
 -- Assumes nothing.
-use Prim.Native.Nat.{ℕ, suc, _+_, _*_, _/_, _%_, _≤_, _<_}
+use Prim.Native.Nat.{ℕ, _+_, _*_, _/_, _%_, _≤_, _<_}
 use native.Mathlib.Omega.{arith}
 use mathlib.Core.Path.{_≡_, refl}
 use mathlib.Core.Logic.{_≢_}
-use mathlib.Core.Bool.{Bool, true, false}
-use mathlib.Core.Option.{Option, none, some}
-use lib.Dec.{eqb}
+use mathlib.Core.Bool.{true, false}
+use mathlib.Core.Option.{some}
 use lib.Arith.{digits-div, digits-mod}
 use borrow.Author.Tests.{lt-ltb, le-ltb, le-leb, lt-leb, ne-eqb}
 use Rattle.ion.specs.Value.{TypeCode, nullCode, boolCode, positiveCode, negativeCode, floatCode, decimalCode, timestampCode, symbolCode, stringCode, clobCode, blobCode, listCode, sexpCode, structCode, annotationCode, highBits}

@@ -1,26 +1,28 @@
 -- Every reading is what the walk shows: recursion over the grammar's productions.
 -- Assumes nothing.
-use Prim.Native.Nat.{ℕ, zero, suc, _+_, _*_, _≤_, _<_}
+use Prim.Native.Nat.{ℕ, zero, suc, _+_, _≤_, _<_}
 use native.Mathlib.Omega.{arith}
 use mathlib.Core.Path.{_≡_, refl, sym, _∙_, ap}
 use mathlib.Core.Logic.{_≢_}
-use mathlib.Core.Bool.{Bool, true, false, cond, _&&_, _||_, not}
-use mathlib.Core.List.{List, [], _∷_, _++_, append-nil}
-use mathlib.Core.Option.{Option, none, some}
-use lib.Dec.{ltb, leb, eqb}
-use lib.ListN.{length, take, drop, getD, length-append, length-drop}
+use mathlib.Core.Bool.{true, false, cond, _&&_}
+use mathlib.Core.List.{List, [], _∷_, _++_}
+use mathlib.Core.Option.{none, some}
+use lib.Dec.{ltb, leb}
+use lib.ListN.{length, drop, length-append, length-drop}
 use lib.Seq.{take-length}
-use borrow.Author.Tests.{le-ltb, le-leb, ne-eqb, eq-eqb, leb-true, leb-false}
+use borrow.Author.Tests.{le-ltb, le-leb, eq-eqb, leb-true, leb-false}
 use Rattle.ion.specs.Value.{Scalar, Value, Members, noMembers, member, Fields, noFields, field, Item, marker, value}
-use Rattle.ion.specs.Fields.{VarUInt, varUInts}
+use Rattle.ion.specs.Fields.{VarUInt}
 use Rattle.ion.specs.Grammar.{sorted, Phrase, padding, sids, bare, one, members, fields, stream, _⟶_, pad, sids-end, sids-next, is-null, is-false, is-true, is-zero, is-float32, is-float64, is-scalar, is-sequence, is-struct, is-sorted, is-bare, is-annotated, members-end, members-pad, members-next, fields-end, fields-pad, fields-next, stream-end, stream-pad, stream-marker, stream-next, Reads}
 use Rattle.ion.proofs.Tests.{by-cases, both}
 use Rattle.ion.proofs.Fields.{varUInt-pos}
+use Rattle.reading.specs.declared.Refusal.{Refusal}
 use Rattle.reading.specs.declared.Refusal.the-variants.{NotIon}
 use Rattle.reading.specs.declared.Number.the-variants as N
-use Rattle.reading.specs.Items.{isSorted, isStream, hasNames, nameAt, itemAt, mostOpen}
-use Rattle.reading.specs.Walk.{Event, treeEvents, memberEvents, fieldEvents, streamEvents, treeDepth, membersDepth, fieldsDepth, streamDepth, higher, shows, walkFrom, walkIn, walk}
-use Rattle.reading.specs.Exact.{ReadingIsWalked}
+use Rattle.reading.specs.declared.Reading.the-variants as R
+use Rattle.reading.specs.Items.{isSorted, hasNames, nameAt, itemAt, mostOpen}
+use Rattle.reading.specs.Walk.{Event, treeEvents, memberEvents, fieldEvents, streamEvents, treeDepth, membersDepth, fieldsDepth, streamDepth, higher, Walk, shows, nameIn, walkFrom, walkIn, walk}
+use Rattle.reading_grammar.specs.Exact.{ReadingIsWalked}
 use Rattle.reading_grammar.proofs.Places.{Rest, rest-length, rest-next}
 use Rattle.reading_grammar.proofs.Numbers.{number-found, sids-found}
 use Rattle.reading_grammar.proofs.Bare.{BareFound, MembersFound, FieldsFound, found-null, found-false, found-true, found-zero, found-float32, found-float64, found-scalar, found-sequence, found-struct, found-sorted}
@@ -54,26 +56,29 @@ unfolding walkFrom itemAt
 walk-ends zero s parent least depth at x h = absurd (omega arith)
 walk-ends (suc f) s parent least depth at x h = rw (le-ltb (length s) at (omega (arith, rest-length x)), eq-eqb at (length s) (omega (arith, rest-length x)))
 
--- ---- members
+-- ---- one item
 
 one-length : {b : List ℕ} {v : Value} → OneFound b v → 0 < length b
 one-length {b} w = omega (arith, ap length (w .joins), length-append (w .x) (w .names ++ (w .y ++ w .body)), w .pos)
 
--- a value, given its name
+-- a value behind its name, and all that follows
 value-step : (f : ℕ) (s : List ℕ) (parent least depth at name next : ℕ) (p b : List ℕ) (v : Value) (es : List Event) → OneFound p v → at < length s → nameAt s parent at ≡ N.Is name next → Rest s next (p ++ b)
     → (isSorted parent && ltb name least) ≡ false → depth + treeDepth v ≤ 32 → length p ≤ f → (Rest s (next + length p) b → walkFrom f s parent name depth (next + length p) ≡ shows es)
-    → walkFrom (suc f) s parent least depth at ≡ shows (treeEvents (cond (hasNames parent) (some name) none) v ++ es)
+    → walkFrom (suc f) s parent least depth at ≡ shows (treeEvents (nameIn parent name) v ++ es)
 value-step f s parent least depth at name next p b v es w inside named x rises shallow le rest =
     let size : length p ≡ length (w .x) + (length (w .names) + (length (w .y) + length (w .body))) =
-      omega (arith, ap length (w .joins), length-append (w .x) (w .names ++ (w .y ++ w .body)), length-append (w .names) (w .y ++ w .body), length-append (w .y) (w .body)) in
+    omega (arith, ap length (w .joins), length-append (w .x) (w .names ++ (w .y ++ w .body)), length-append (w .names) (w .y ++ w .body), length-append (w .y) (w .body)) in
     step-value s parent least depth at name next p v b w inside named x rises shallow
     (next + length (w .x)) (next + length (w .x) + length (w .names)) (next + length (w .x) + length (w .names) + length (w .y)) (next + length p)
     refl refl refl (omega arith) f es le (rest (rest-next p b (next + length p) refl x))
 
+-- a pad behind its name, and all that follows
 pad-step : (f : ℕ) (s : List ℕ) (parent least depth at name next : ℕ) (p b : List ℕ) (es : List Event) → PadFound p → at < length s → nameAt s parent at ≡ N.Is name next → Rest s next (p ++ b)
     → (Rest s (next + length p) b → walkFrom f s parent least depth (next + length p) ≡ shows es) → walkFrom (suc f) s parent least depth at ≡ shows es
 pad-step f s parent least depth at name next p b es w inside named x rest =
     step-pad s parent least depth at name next p b w inside named x (next + length p) refl f es (rest (rest-next p b (next + length p) refl x))
+
+-- ---- members
 
 no-name : (s : List ℕ) (parent at : ℕ) → hasNames parent ≡ false → nameAt s parent at ≡ N.Is 0 at
 no-name s parent at e = rw e
@@ -196,3 +201,10 @@ unfolding walkIn
 reading-is-walked s at is h r le =
     rw (le-leb (length s) (length s) (omega arith), take-length s)
     (found r (suc (length s)) s 0 at (record { within = h; is = refl }) (omega (arith, length-drop at s)) le)
+
+-- Where the walk is refused, no reading has at most 32 containers open.
+pub refused-is-no-reading : (s : List ℕ) (at : ℕ) (is : List (Item Scalar)) (r : Refusal) (place : ℕ) → at ≤ length s → walk s at .1 ≡ R.Refused r place → Reads (drop at s) is → streamDepth is ≤ mostOpen → ⊥
+refused-is-no-reading s at is r place h e x le =
+    let w : R.Whole ≡ R.Refused r place = sym (ap (λ (y : Walk). y .1) (reading-is-walked s at is h x le)) ∙ e in
+    let z : _≡_ {A = ℕ} 0 1 = cc in
+    omega arith

@@ -15,6 +15,82 @@ static void check(int ok, const char *what) {
 
 #define CHECK(condition) check((condition), #condition)
 
+/* Steps through what a place holds and counts its items, containers entered. Answers the refusal that ends it. */
+static uint8_t count_items(const uint8_t *stream, size_t length, size_t end, uint8_t parent, uint8_t depth, size_t position,
+                           int *items) {
+    uint64_t least = 0;
+    for (;;) {
+        uint64_t item[6];
+        uint8_t answer = gm_read_item(stream, length, end, parent, least, depth, position, item, 6);
+        uint64_t kind = item[3];
+        if (answer != GM_ACCEPTED || kind == GM_NOTHING)
+            return answer;
+        if (kind >= 0xB0 && kind < 0xDF && kind != 0xBF && kind != 0xCF) {
+            answer = count_items(stream, length, item[5], (uint8_t)kind, depth + 1, item[4], items);
+            if (answer != GM_ACCEPTED)
+                return answer;
+        }
+        if (kind >= 0x0F) {
+            least = item[0];
+            ++*items;
+        }
+        position = item[5];
+    }
+}
+
+static void read_back(const uint8_t *stream, size_t length) {
+    static const uint8_t cut[] = {0x82, 'o'};
+    static const uint8_t symbol[] = {0x01, 0x00};
+    static const uint8_t wrong[] = {0x20, 0xB2, 0x20, 0x12};
+    static const uint8_t decimal[] = {0xC1, 0x1F, 0xBD};
+    static const uint8_t timestamp[] = {0xBC, 0x0F, 0xEA, 0x83, 0x8E, 0x93, 0x9E, 0x80, 0xC3, 0x07};
+    static const uint64_t fields[] = {1, 0, 60, 6, 2026, 3, 14, 19, 30, 0, 3, 9};
+    uint64_t numbers[13];
+    int items = 0;
+
+    CHECK(count_items(stream, length, length, 0, 0, 0, &items) == GM_ACCEPTED);
+    CHECK(items == 12);
+    CHECK(gm_read_rest(stream, length, length, 0, 0, 0, 0, numbers, 1) == GM_ACCEPTED);
+    CHECK(gm_read_item(stream, length, length, 0, 0, 0, length + 1, numbers, 6) == GM_PAST_THE_END);
+    CHECK(gm_read_item(stream, length, length + 1, 0, 0, 0, 0, numbers, 6) == GM_PAST_THE_END);
+
+    memset(numbers, 0xEE, sizeof numbers);
+    CHECK(gm_read_item(stream, length, length, 0, 0, 0, 0, numbers, 6) == GM_ACCEPTED);
+    CHECK(numbers[3] == GM_MARKER && numbers[5] == 4);
+    CHECK(gm_read_item(stream, length, length, 0, 0, 0, 4, numbers, 6) == GM_ACCEPTED);
+    CHECK(numbers[0] == 0 && numbers[1] == 7 && numbers[2] == 8 && numbers[3] == 0xDE && numbers[4] == 10 && numbers[5] == 48);
+    CHECK(numbers[6] == UINT64_C(0xEEEEEEEEEEEEEEEE));
+    CHECK(gm_read_item(stream, length, 48, 0xDE, 0, 1, 10, numbers, 6) == GM_ACCEPTED);
+    CHECK(numbers[0] == 10 && numbers[1] == numbers[2] && numbers[3] == 0x53 && numbers[4] == 12 && numbers[5] == 15);
+    CHECK(gm_read_item(stream, length, 48, 0xDE, 0, 1, 48, numbers, 6) == GM_ACCEPTED);
+    CHECK(numbers[3] == GM_NOTHING);
+    CHECK(gm_read_item(stream, length, length, 0, 0, 32, 4, numbers, 6) == GM_READ_TOO_DEEP);
+    CHECK(gm_read_sid(stream + 7, 1, 0, numbers, 2) == GM_ACCEPTED);
+    CHECK(numbers[0] == 20 && numbers[1] == 1);
+
+    memset(numbers, 0xEE, sizeof numbers);
+    CHECK(gm_read_item(stream, length, length, 0, 0, 0, 4, numbers, 0) == GM_ACCEPTED);
+    CHECK(numbers[0] == UINT64_C(0xEEEEEEEEEEEEEEEE));
+    CHECK(gm_read_item(stream, length, length, 0, 0, 0, 4, numbers, 2) == GM_ACCEPTED);
+    CHECK(numbers[1] == 7 && numbers[2] == UINT64_C(0xEEEEEEEEEEEEEEEE));
+    CHECK(gm_read_item(cut, sizeof cut, sizeof cut, 0, 0, 0, 0, numbers, 6) == GM_CUT_SHORT);
+    CHECK(numbers[0] == 0 && numbers[1] == 7 && numbers[2] == UINT64_C(0xEEEEEEEEEEEEEEEE));
+    CHECK(gm_read_rest(cut, sizeof cut, sizeof cut, 0, 0, 0, 0, numbers, 0) == GM_CUT_SHORT);
+
+    CHECK(gm_read_rest(cut, sizeof cut, sizeof cut, 0, 0, 0, 0, numbers, 1) == GM_CUT_SHORT);
+    CHECK(numbers[0] == 0);
+    CHECK(gm_read_rest(wrong, sizeof wrong, sizeof wrong, 0, 0, 0, 0, numbers, 1) == GM_NOT_ION);
+    CHECK(numbers[0] == 3);
+
+    CHECK(gm_read_decimal(decimal, sizeof decimal, numbers, 3) == GM_ACCEPTED);
+    CHECK(numbers[0] == 1 && numbers[1] == 1 && numbers[2] == 1);
+    CHECK(gm_read_timestamp(timestamp, sizeof timestamp, numbers, 12) == GM_ACCEPTED);
+    CHECK(memcmp(numbers, fields, sizeof fields) == 0);
+    CHECK(gm_read_timestamp(timestamp, 1, numbers, 12) == GM_NOT_ION);
+    CHECK(gm_read_symbol(symbol, sizeof symbol, numbers, 1) == GM_ACCEPTED);
+    CHECK(numbers[0] == 256);
+}
+
 int main(void) {
     static uint8_t state[GM_STATE_SIZE];
     static uint8_t buf[96];
@@ -69,6 +145,7 @@ int main(void) {
     CHECK(memcmp(closed, "\x2C\x00\x00\x00\x05\x06", sizeof closed) == 0);
     CHECK(gm_finished(state, sizeof state, buf, sizeof buf) == sizeof expected);
     CHECK(memcmp(buf, expected, sizeof expected) == 0);
+    read_back(expected, sizeof expected);
     CHECK(state[0] == sizeof expected && state[4] == 0 && state[5] == 0);
     CHECK(gm_empty(state, sizeof state, buf, sizeof buf) == GM_ACCEPTED);
     CHECK(memcmp(buf, expected, sizeof expected) == 0);

@@ -1,4 +1,4 @@
--- What the walk has to do with the grammar (document 02, Item 1): the statements. The proofs are in the crate reading_grammar.
+-- What the walk has to do with the grammar (document 02, Item 1): the statements. The proofs are in proofs/{Walked,Read}.antt.
 -- Assumes nothing.
 use Prim.Native.Nat.{ℕ, _≤_}
 use mathlib.Core.Path.{_≡_}

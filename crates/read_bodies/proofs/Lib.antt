@@ -1,0 +1,3 @@
+pub mod VarFields
+pub mod Digits
+pub mod Bodies

@@ -1,0 +1,4 @@
+pub mod Powers
+pub mod Lengths
+pub mod Zeros
+pub mod Division
