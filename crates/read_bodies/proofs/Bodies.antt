@@ -38,30 +38,30 @@ pub decimal-no : (b : List ℕ) → 0 < length b → varIntAt b 0 ≡ I.No → D
 unfolding varIntAt
 decimal-no b h e = go (varInt b) e ∙ sym (decimal-front b h)
   where
-  go : (o : Option (Signed × List ℕ)) → signedIn (length b) o ≡ I.No → D.No NotIon ≡ decimalFrom (length b) o
-  go none e = refl
-  go (some x) e = absurdly cc
+    go : (o : Option (Signed × List ℕ)) → signedIn (length b) o ≡ I.No → D.No NotIon ≡ decimalFrom (length b) o
+    go none e = refl
+    go (some x) e = absurdly cc
 
 pub decimal-is : (b : List ℕ) (s : Bool) (v n : ℕ) → 0 < length b → varIntAt b 0 ≡ I.Is s v n → D.Is s v n ≡ decimalIn b
 unfolding varIntAt
 decimal-is b s v n h e = go (varInt b) e ∙ sym (decimal-front b h)
   where
-  go : (o : Option (Signed × List ℕ)) → signedIn (length b) o ≡ I.Is s v n → D.Is s v n ≡ decimalFrom (length b) o
-  go none e = absurdly cc
-  go (some x) e =
-      let p : isNegative (x .0) ≡ s = cc in
-      let q : magnitude (x .0) ≡ v = cc in
-      let r : length b - length (x .1) ≡ n = cc in
-      rw (p, q, r) refl
+    go : (o : Option (Signed × List ℕ)) → signedIn (length b) o ≡ I.Is s v n → D.Is s v n ≡ decimalFrom (length b) o
+    go none e = absurdly cc
+    go (some x) e =
+        let p : isNegative (x .0) ≡ s = cc in
+        let q : magnitude (x .0) ≡ v = cc in
+        let r : length b - length (x .1) ≡ n = cc in
+        rw (p, q, r) refl
 
 -- ---- a number of 64 bits
 
 pub small-number : (n v : ℕ) → small n ≡ S.Is v → (n ≡ v) × (n < 2 ^ 64)
 small-number n v e = go (ltb n (2 ^ 64)) refl e
   where
-  go : (t : Bool) → ltb n (2 ^ 64) ≡ t → cond t (S.Is n) S.Not ≡ S.Is v → (n ≡ v) × (n < 2 ^ 64)
-  go true q e = (cc, ltb-true n (2 ^ 64) q)
-  go false q e = absurdly cc
+    go : (t : Bool) → ltb n (2 ^ 64) ≡ t → cond t (S.Is n) S.Not ≡ S.Is v → (n ≡ v) × (n < 2 ^ 64)
+    go true q e = (cc, ltb-true n (2 ^ 64) q)
+    go false q e = absurdly cc
 
 -- ---- symbols
 
@@ -69,14 +69,14 @@ pub symbol-no : (b : List ℕ) → smallFrom b 0 0 ≡ S.Not → Y.No NotIon ≡
 unfolding smallFrom symbolIn
 symbol-no b e = go (ltb (uint b) (2 ^ 64)) e
   where
-  go : (t : Bool) → cond t (S.Is (uint b)) S.Not ≡ S.Not → Y.No NotIon ≡ cond t (Y.Is (uint b)) (Y.No NotIon)
-  go true e = absurdly cc
-  go false e = refl
+    go : (t : Bool) → cond t (S.Is (uint b)) S.Not ≡ S.Not → Y.No NotIon ≡ cond t (Y.Is (uint b)) (Y.No NotIon)
+    go true e = absurdly cc
+    go false e = refl
 
 pub symbol-is : (b : List ℕ) (v : ℕ) → smallFrom b 0 0 ≡ S.Is v → Y.Is v ≡ symbolIn b
 unfolding smallFrom symbolIn
 symbol-is b v e = go (ltb (uint b) (2 ^ 64)) e
   where
-  go : (t : Bool) → cond t (S.Is (uint b)) S.Not ≡ S.Is v → Y.Is v ≡ cond t (Y.Is (uint b)) (Y.No NotIon)
-  go true e = let q : uint b ≡ v = cc in ap Y.Is (sym q)
-  go false e = absurdly cc
+    go : (t : Bool) → cond t (S.Is (uint b)) S.Not ≡ S.Is v → Y.Is v ≡ cond t (Y.Is (uint b)) (Y.No NotIon)
+    go true e = let q : uint b ≡ v = cc in ap Y.Is (sym q)
+    go false e = absurdly cc

@@ -30,17 +30,17 @@ unfolding groups
 groups-least acc [] x e = absurd (Option·none-ne-some x e)
 groups-least acc (b ∷ bs) x e = go (ltb b 0x80) e (λ q. groups-least (acc * 128 + b) bs x q)
   where
-  go : (t : Bool) → elim t [ true ↦ groups (acc * 128 + b) bs | false ↦ some (acc * 128 + b % 128, bs) ] ≡ some x →
-      (groups (acc * 128 + b) bs ≡ some x → (acc * 128 + b) * 128 ≤ x .0) → acc * 128 ≤ x .0
-  go true e k = omega (arith, k e)
-  go false e k = let q : acc * 128 + b % 128 ≡ x .0 = ap (λ (y : ℕ × List ℕ). y .0) (Option·some-injective (acc * 128 + b % 128, bs) x e) in omega arith
+    go : (t : Bool) → elim t [ true ↦ groups (acc * 128 + b) bs | false ↦ some (acc * 128 + b % 128, bs) ] ≡ some x →
+        (groups (acc * 128 + b) bs ≡ some x → (acc * 128 + b) * 128 ≤ x .0) → acc * 128 ≤ x .0
+    go true e k = omega (arith, k e)
+    go false e k = let q : acc * 128 + b % 128 ≡ x .0 = ap (λ (y : ℕ × List ℕ). y .0) (Option·some-injective (acc * 128 + b % 128, bs) x e) in omega arith
 
 pub groups-past : (acc : ℕ) (l : List ℕ) → 2 ^ 57 ≤ acc → inU64 (groups acc l) ≡ none
 groups-past acc l h = go (groups acc l) refl
   where
-  go : (o : Option (ℕ × List ℕ)) → groups acc l ≡ o → inU64 o ≡ none
-  go none e = refl
-  go (some x) e = rw (le-ltb (x .0) (2 ^ 64) (omega (arith, groups-least acc l x e))) refl
+    go : (o : Option (ℕ × List ℕ)) → groups acc l ≡ o → inU64 o ≡ none
+    go none e = refl
+    go (some x) e = rw (le-ltb (x .0) (2 ^ 64) (omega (arith, groups-least acc l x e))) refl
 
 -- ---- one byte
 
@@ -86,13 +86,13 @@ pub signed-groups : (s : Bool) (size : ℕ) (o : Option (ℕ × List ℕ)) → w
 signed-groups s size none = refl
 signed-groups s size (some x) = go (ltb (x .0) (2 ^ 64)) refl
   where
-  tested : (t : Bool) → cond t (I.Is s (x .0) (size - length (x .1))) I.No ≡ signedIn size (check t (some (signed s (x .0), x .1)))
-  tested true = refl
-  tested false = refl
+    tested : (t : Bool) → cond t (I.Is s (x .0) (size - length (x .1))) I.No ≡ signedIn size (check t (some (signed s (x .0), x .1)))
+    tested true = refl
+    tested false = refl
 
-  go : (t : Bool) → ltb (x .0) (2 ^ 64) ≡ t → withSign s (numberIn size (inU64 (some x))) ≡ signedIn size (giveSign s (some x))
-  go true e = rw (e) (tested (isI64 (signed s (x .0))))
-  go false e = rw (e, not-i64 s (x .0) (ltb-false (x .0) (2 ^ 64) e)) refl
+    go : (t : Bool) → ltb (x .0) (2 ^ 64) ≡ t → withSign s (numberIn size (inU64 (some x))) ≡ signedIn size (giveSign s (some x))
+    go true e = rw (e) (tested (isI64 (signed s (x .0))))
+    go false e = rw (e, not-i64 s (x .0) (ltb-false (x .0) (2 ^ 64) e)) refl
 
 module _ (s : List ℕ) (at b : ℕ) where
   pub var-int-out : length s ≤ at → varIntAt s at ≡ I.No
@@ -116,30 +116,30 @@ module _ (s : Bool) (v n : ℕ) (m : Number) (is : m ≡ N.Is v n) where
   pub sign-past : 2 ^ 63 < v → I.No ≡ withSign s m
   sign-past h = rw (is) (go s)
     where
-    go : (t : Bool) → I.No ≡ withSign t (N.Is v n)
-    go false = rw (le-ltb v (2 ^ 63) (omega arith)) refl
-    go true = rw (lt-leb v (2 ^ 63) (omega arith)) refl
+      go : (t : Bool) → I.No ≡ withSign t (N.Is v n)
+      go false = rw (le-ltb v (2 ^ 63) (omega arith)) refl
+      go true = rw (lt-leb v (2 ^ 63) (omega arith)) refl
 
   pub sign-edge : (eqb v (2 ^ 63) && not s) ≡ true → I.No ≡ withSign s m
   sign-edge h = rw (is) (go s (both {a = eqb v (2 ^ 63)} h))
     where
-    go : (t : Bool) → (eqb v (2 ^ 63) ≡ true) × (not t ≡ true) → I.No ≡ withSign t (N.Is v n)
-    go false e = rw (le-ltb v (2 ^ 63) (omega (arith, eqb-true v (2 ^ 63) (e .0)))) refl
-    go true e = absurd (false≢true (e .1))
+      go : (t : Bool) → (eqb v (2 ^ 63) ≡ true) × (not t ≡ true) → I.No ≡ withSign t (N.Is v n)
+      go false e = rw (le-ltb v (2 ^ 63) (omega (arith, eqb-true v (2 ^ 63) (e .0)))) refl
+      go true e = absurd (false≢true (e .1))
 
   pub sign-held : v ≤ 2 ^ 63 → (eqb v (2 ^ 63) && not s) ≡ false → I.Is s v n ≡ withSign s m
   sign-held h e = rw (is) (go s e)
     where
-    go : (t : Bool) → (eqb v (2 ^ 63) && not t) ≡ false → I.Is t v n ≡ withSign t (N.Is v n)
-    go true e = rw (le-leb v (2 ^ 63) h) refl
-    go false e = edge (eqb v (2 ^ 63)) refl e
-      where
-      edge : (q : Bool) → eqb v (2 ^ 63) ≡ q → (q && true) ≡ false → I.Is false v n ≡ withSign false (N.Is v n)
-      edge true k e = absurd (false≢true (sym e))
-      edge false k e = rw (lt-ltb v (2 ^ 63) (below k)) refl
+      go : (t : Bool) → (eqb v (2 ^ 63) && not t) ≡ false → I.Is t v n ≡ withSign t (N.Is v n)
+      go true e = rw (le-leb v (2 ^ 63) h) refl
+      go false e = edge (eqb v (2 ^ 63)) refl e
         where
-        below : eqb v (2 ^ 63) ≡ false → v < 2 ^ 63
-        below k = let d : v ≡ 2 ^ 63 → ⊥ = eqb-false v (2 ^ 63) k in omega (arith, h)
+          edge : (q : Bool) → eqb v (2 ^ 63) ≡ q → (q && true) ≡ false → I.Is false v n ≡ withSign false (N.Is v n)
+          edge true k e = absurd (false≢true (sym e))
+          edge false k e = rw (lt-ltb v (2 ^ 63) (below k)) refl
+            where
+              below : eqb v (2 ^ 63) ≡ false → v < 2 ^ 63
+              below k = let d : v ≡ 2 ^ 63 → ⊥ = eqb-false v (2 ^ 63) k in omega (arith, h)
 
 -- ---- what a place told of a field says of the bytes
 
@@ -161,10 +161,10 @@ unfolding groups
 groups-behind acc [] x e = absurd (Option·none-ne-some x e)
 groups-behind acc (b ∷ bs) x e = go (ltb b 0x80) e (λ q. groups-behind (acc * 128 + b) bs x q)
   where
-  go : (t : Bool) → elim t [ true ↦ groups (acc * 128 + b) bs | false ↦ some (acc * 128 + b % 128, bs) ] ≡ some x →
-      (groups (acc * 128 + b) bs ≡ some x → Behind bs (x .1)) → Behind (b ∷ bs) (x .1)
-  go true e k = later (k e)
-  go false e k = subst (λ (y : ℕ × List ℕ). Behind (b ∷ bs) (y .1)) (Option·some-injective (acc * 128 + b % 128, bs) x e) (one-behind b bs)
+    go : (t : Bool) → elim t [ true ↦ groups (acc * 128 + b) bs | false ↦ some (acc * 128 + b % 128, bs) ] ≡ some x →
+        (groups (acc * 128 + b) bs ≡ some x → Behind bs (x .1)) → Behind (b ∷ bs) (x .1)
+    go true e k = later (k e)
+    go false e k = subst (λ (y : ℕ × List ℕ). Behind (b ∷ bs) (y .1)) (Option·some-injective (acc * 128 + b % 128, bs) x e) (one-behind b bs)
 
 -- the bytes behind, by the place where they begin
 behind-place : (s : List ℕ) (at : ℕ) (rest : List ℕ) → Behind (drop at s) rest →
@@ -187,9 +187,9 @@ inU64-some : (o : Option (ℕ × List ℕ)) (x : ℕ × List ℕ) → inU64 o �
 inU64-some none x e = absurd (Option·none-ne-some x e)
 inU64-some (some y) x e = go (ltb (y .0) (2 ^ 64)) e
   where
-  go : (t : Bool) → check t (some y) ≡ some x → some y ≡ some x
-  go true e = e
-  go false e = absurd (Option·none-ne-some x e)
+    go : (t : Bool) → check t (some y) ≡ some x → some y ≡ some x
+    go true e = e
+    go false e = absurd (Option·none-ne-some x e)
 
 absurdly : {X : Type 0} → _≡_ {A = ℕ} 0 1 → X
 absurdly z = absurd (omega arith)
@@ -201,40 +201,40 @@ pub var-uint-is : (s : List ℕ) (at v next : ℕ) → varUIntAt s at ≡ N.Is v
 unfolding varUIntAt varUInt
 var-uint-is s at v next e = go (inU64 (groups 0 (drop at s))) refl e
   where
-  go : (o : Option (ℕ × List ℕ)) → inU64 (groups 0 (drop at s)) ≡ o → numberIn (length s) o ≡ N.Is v next → FieldAt s at (inU64 (groups 0 (drop at s))) v next
-  go none q e = absurdly cc
-  go (some x) q e =
-      let p = behind-place s at (x .1) (groups-behind 0 (drop at s) x (inU64-some (groups 0 (drop at s)) x q)) in
-      let n : length s - length (x .1) ≡ next = cc in
-      let m : x .0 ≡ v = cc in
-      record { after = omega (arith, p .0, n); within = omega (arith, p .1, n); is = q ∙ ap some (pair m (p .2 ∙ ap (λ (i : ℕ). drop i s) n)) }
+    go : (o : Option (ℕ × List ℕ)) → inU64 (groups 0 (drop at s)) ≡ o → numberIn (length s) o ≡ N.Is v next → FieldAt s at (inU64 (groups 0 (drop at s))) v next
+    go none q e = absurdly cc
+    go (some x) q e =
+        let p = behind-place s at (x .1) (groups-behind 0 (drop at s) x (inU64-some (groups 0 (drop at s)) x q)) in
+        let n : length s - length (x .1) ≡ next = cc in
+        let m : x .0 ≡ v = cc in
+        record { after = omega (arith, p .0, n); within = omega (arith, p .1, n); is = q ∙ ap some (pair m (p .2 ∙ ap (λ (i : ℕ). drop i s) n)) }
 
 pub var-uint-none : (s : List ℕ) (at : ℕ) (r : Refusal) → varUIntAt s at ≡ N.No r → varUInt (drop at s) ≡ none
 unfolding varUIntAt
 var-uint-none s at r e = go (varUInt (drop at s)) refl e
   where
-  go : (o : Option (ℕ × List ℕ)) → varUInt (drop at s) ≡ o → numberIn (length s) o ≡ N.No r → varUInt (drop at s) ≡ none
-  go none q e = q
-  go (some x) q e = absurdly cc
+    go : (o : Option (ℕ × List ℕ)) → varUInt (drop at s) ≡ o → numberIn (length s) o ≡ N.No r → varUInt (drop at s) ≡ none
+    go none q e = q
+    go (some x) q e = absurdly cc
 
 sign-behind : (s : Bool) (l : List ℕ) (o : Option (ℕ × List ℕ)) (x : Signed × List ℕ) → ((y : ℕ × List ℕ) → o ≡ some y → Behind l (y .1)) → giveSign s o ≡ some x → Behind l (x .1)
 sign-behind s l none x h e = absurd (Option·none-ne-some x e)
 sign-behind s l (some y) x h e = go (isI64 (signed s (y .0))) e
   where
-  go : (t : Bool) → check t (some (signed s (y .0), y .1)) ≡ some x → Behind l (x .1)
-  go true e = subst (λ (z : Signed × List ℕ). Behind l (z .1)) (Option·some-injective (signed s (y .0), y .1) x e) (h y refl)
-  go false e = absurd (Option·none-ne-some x e)
+    go : (t : Bool) → check t (some (signed s (y .0), y .1)) ≡ some x → Behind l (x .1)
+    go true e = subst (λ (z : Signed × List ℕ). Behind l (z .1)) (Option·some-injective (signed s (y .0), y .1) x e) (h y refl)
+    go false e = absurd (Option·none-ne-some x e)
 
 varInt-behind : (l : List ℕ) (x : Signed × List ℕ) → varInt l ≡ some x → Behind l (x .1)
 unfolding varInt
 varInt-behind [] x e = absurd (Option·none-ne-some x e)
 varInt-behind (b ∷ bs) x e = go (ltb b 0x80) e
   where
-  go : (t : Bool) → elim t [ true ↦ giveSign (isNegative b) (groups (b % 64) bs) | false ↦ giveSign (isNegative b) (some (b % 64, bs)) ] ≡ some x → Behind (b ∷ bs) (x .1)
-  go true e = sign-behind (isNegative b) (b ∷ bs) (groups (b % 64) bs) x (λ y q. later (groups-behind (b % 64) bs y q)) e
-  go false e =
-      sign-behind (isNegative b) (b ∷ bs) (some (b % 64, bs)) x
-      (λ y q. subst (λ (z : ℕ × List ℕ). Behind (b ∷ bs) (z .1)) (Option·some-injective (b % 64, bs) y q) (one-behind b bs)) e
+    go : (t : Bool) → elim t [ true ↦ giveSign (isNegative b) (groups (b % 64) bs) | false ↦ giveSign (isNegative b) (some (b % 64, bs)) ] ≡ some x → Behind (b ∷ bs) (x .1)
+    go true e = sign-behind (isNegative b) (b ∷ bs) (groups (b % 64) bs) x (λ y q. later (groups-behind (b % 64) bs y q)) e
+    go false e =
+        sign-behind (isNegative b) (b ∷ bs) (some (b % 64, bs)) x
+        (λ y q. subst (λ (z : ℕ × List ℕ). Behind (b ∷ bs) (z .1)) (Option·some-injective (b % 64, bs) y q) (one-behind b bs)) e
 
 sign-and-size : (z : Signed) (s : Bool) (m : ℕ) → B.isNegative z ≡ s → B.magnitude z ≡ m → z ≡ signed s m
 sign-and-size (signed t n) s m e f = rw (e, f) refl
@@ -243,19 +243,19 @@ pub var-int-is : (s : List ℕ) (at : ℕ) (t : Bool) (m next : ℕ) → varIntA
 unfolding varIntAt
 var-int-is s at t m next e = go (varInt (drop at s)) refl e
   where
-  go : (o : Option (Signed × List ℕ)) → varInt (drop at s) ≡ o → signedIn (length s) o ≡ I.Is t m next → FieldAt s at (varInt (drop at s)) (signed t m) next
-  go none q e = absurdly cc
-  go (some x) q e =
-      let p = behind-place s at (x .1) (varInt-behind (drop at s) x q) in
-      let n : length s - length (x .1) ≡ next = cc in
-      let f : B.isNegative (x .0) ≡ t = cc in
-      let g : B.magnitude (x .0) ≡ m = cc in
-      record { after = omega (arith, p .0, n); within = omega (arith, p .1, n); is = q ∙ ap some (pair (sign-and-size (x .0) t m f g) (p .2 ∙ ap (λ (i : ℕ). drop i s) n)) }
+    go : (o : Option (Signed × List ℕ)) → varInt (drop at s) ≡ o → signedIn (length s) o ≡ I.Is t m next → FieldAt s at (varInt (drop at s)) (signed t m) next
+    go none q e = absurdly cc
+    go (some x) q e =
+        let p = behind-place s at (x .1) (varInt-behind (drop at s) x q) in
+        let n : length s - length (x .1) ≡ next = cc in
+        let f : B.isNegative (x .0) ≡ t = cc in
+        let g : B.magnitude (x .0) ≡ m = cc in
+        record { after = omega (arith, p .0, n); within = omega (arith, p .1, n); is = q ∙ ap some (pair (sign-and-size (x .0) t m f g) (p .2 ∙ ap (λ (i : ℕ). drop i s) n)) }
 
 pub var-int-none : (s : List ℕ) (at : ℕ) → varIntAt s at ≡ I.No → varInt (drop at s) ≡ none
 unfolding varIntAt
 var-int-none s at e = go (varInt (drop at s)) refl e
   where
-  go : (o : Option (Signed × List ℕ)) → varInt (drop at s) ≡ o → signedIn (length s) o ≡ I.No → varInt (drop at s) ≡ none
-  go none q e = q
-  go (some x) q e = absurdly cc
+    go : (o : Option (Signed × List ℕ)) → varInt (drop at s) ≡ o → signedIn (length s) o ≡ I.No → varInt (drop at s) ≡ none
+    go none q e = q
+    go (some x) q e = absurdly cc

@@ -1,5 +1,8 @@
 // The numbers in a scalar's body, and the bodies that are one number or two: decimals, symbols and negative ints.
-use reading::{Decimal, Number, Refusal, Symbol};
+use reading::Decimal;
+use reading::Number;
+use reading::Refusal;
+use reading::Symbol;
 ghost use mathlib.Core.Path.{_≡_};
 ghost use mathlib.Core.Bool.{Bool};
 ghost use Prim.Native.Nat.{ℕ, _+_, _*_, _/_, _%_, _<_, _≤_};
@@ -11,7 +14,11 @@ ghost use Rattle.read_bodies.specs.Places.{groupsAt, varUIntAt, varIntAt
 
 // A sign and a magnitude, and the place behind them.
 pub enum VarInt {
-    Is { negative: bool, magnitude: u64, next: usize },
+    Is {
+        negative: bool,
+        magnitude: u64,
+        next: usize,
+    },
     No,
 }
 
@@ -69,7 +76,11 @@ fn with_sign(negative: bool, number: Number) -> VarInt
     if (value == 0x8000_0000_0000_0000) & !negative {
         return VarInt::No;
     }
-    VarInt::Is { negative, magnitude: value, next }
+    VarInt::Is {
+        negative,
+        magnitude: value,
+        next,
+    }
 }
 
 // The VarInt at a place.
@@ -82,7 +93,11 @@ pub fn var_int(b: &[u8], at: usize) -> VarInt
     let first = wide(b[at]);
     let negative = first / 64 % 2 == 1;
     if 0x7F < first {
-        return VarInt::Is { negative, magnitude: first % 64, next: at + 1 };
+        return VarInt::Is {
+            negative,
+            magnitude: first % 64,
+            next: at + 1,
+        };
     }
     with_sign(negative, groups(b, at + 1, first % 64))
 }
@@ -126,13 +141,26 @@ pub fn decimal(body: &[u8]) -> Decimal
     ensures { λ r. ⌜ r ≡ decimalIn (now (body .entry)) ⌝ }
 {
     if body.len() == 0 {
-        return Decimal::Is { negative: false, exponent: 0, coefficient: 0 };
+        return Decimal::Is {
+            negative: false,
+            exponent: 0,
+            coefficient: 0,
+        };
     }
     let exponent = var_int(body, 0);
-    let VarInt::Is { negative, magnitude, next } = exponent else {
+    let VarInt::Is {
+        negative,
+        magnitude,
+        next,
+    } = exponent
+    else {
         return Decimal::No(Refusal::NotIon);
     };
-    Decimal::Is { negative, exponent: magnitude, coefficient: next }
+    Decimal::Is {
+        negative,
+        exponent: magnitude,
+        coefficient: next,
+    }
 }
 
 // "7: symbol".

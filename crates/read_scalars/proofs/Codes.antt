@@ -50,10 +50,10 @@ no-scalars b l t h e =
     go (leb 1 t && leb t 10) (isSome (codeOf t >>= λ c. bodyOf c l b)) e
     (all-true 16 (λ u. (leb 1 u && leb u 10) || not (isSome (codeOf u >>= λ c. bodyOf c l b))) refl t h)
   where
-  go : (x y : Bool) → x ≡ false → (x || not y) ≡ true → false ≡ y
-  go true y e q = absurd (false≢true (sym e))
-  go false true e q = absurd (false≢true q)
-  go false false e q = refl
+    go : (x y : Bool) → x ≡ false → (x || not y) ≡ true → false ≡ y
+    go true y e q = absurd (false≢true (sym e))
+    go false true e q = absurd (false≢true q)
+    go false false e q = refl
 
 -- ---- a scalar by its type byte
 
@@ -65,22 +65,22 @@ NoneTo k (suc n) = NoneTo k n × (k ≡ suc n → ⊥)
 none-to : (k n : ℕ) → NoneTo k n → (leb 1 k && leb k n) ≡ false
 none-to k zero h = go (leb 1 k) (leb k 0) refl refl
   where
-  go : (x y : Bool) → leb 1 k ≡ x → leb k 0 ≡ y → (x && y) ≡ false
-  go false y p q = refl
-  go true false p q = refl
-  go true true p q = absurd (omega (arith, leb-true 1 k p, leb-true k 0 q))
+    go : (x y : Bool) → leb 1 k ≡ x → leb k 0 ≡ y → (x && y) ≡ false
+    go false y p q = refl
+    go true false p q = refl
+    go true true p q = absurd (omega (arith, leb-true 1 k p, leb-true k 0 q))
 none-to k (suc n) h = go (leb k n) refl (none-to k n (h .0))
   where
-  go : (y : Bool) → leb k n ≡ y → (leb 1 k && y) ≡ false → (leb 1 k && leb k (suc n)) ≡ false
-  go true p e = rw (le-leb k (suc n) (omega (arith, leb-true k n p))) e
-  go false p e =
-      let d : k ≡ suc n → ⊥ = h .1 in
-      let l : n < k = leb-false k n p in
-      rw (lt-leb k (suc n) (omega arith)) (no (leb 1 k))
-    where
-    no : (x : Bool) → (x && false) ≡ false
-    no true = refl
-    no false = refl
+    go : (y : Bool) → leb k n ≡ y → (leb 1 k && y) ≡ false → (leb 1 k && leb k (suc n)) ≡ false
+    go true p e = rw (le-leb k (suc n) (omega (arith, leb-true k n p))) e
+    go false p e =
+        let d : k ≡ suc n → ⊥ = h .1 in
+        let l : n < k = leb-false k n p in
+        rw (lt-leb k (suc n) (omega arith)) (no (leb 1 k))
+      where
+        no : (x : Bool) → (x && false) ≡ false
+        no true = refl
+        no false = refl
 
 module _ (kind : ℕ) (b : List ℕ) where
   pub null-reads : kind < 256 → kind % 16 ≡ 15 → ltb (kind / 16) 14 ≡ isSome (scalarIn kind b)

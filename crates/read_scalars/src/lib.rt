@@ -1,5 +1,7 @@
 // Whether a body reads as the scalar that its type byte says, for every type byte.
-use reading::{Decimal, Symbol, Timestamp};
+use reading::Decimal;
+use reading::Symbol;
+use reading::Timestamp;
 ghost use mathlib.Core.Path.{_≡_};
 ghost use mathlib.Core.Bool.{_||_};
 ghost use Prim.Native.Nat.{ℕ};
@@ -11,7 +13,11 @@ fn is_decimal(d: Decimal) -> bool
     ensures { λ r. ⌜ r ≡ isDecimal d ⌝ }
 {
     match d {
-        Decimal::Is { negative: _, exponent: _, coefficient: _ } => true,
+        Decimal::Is {
+            negative: _,
+            exponent: _,
+            coefficient: _,
+        } => true,
         Decimal::No(_) => false,
     }
 }

@@ -155,9 +155,9 @@ module _ (s : List ℕ) (at : ℕ) where
         held : isSome (fractionOf (signed t m) (intField (drop next s))) ≡ true
         held = sym fits-whole ∙ yes r good
           where
-          yes : (a : Bool) → not a ≡ false → a ≡ true
-          yes true e = refl
-          yes false e = absurd (false≢true (sym e))
+            yes : (a : Bool) → not a ≡ false → a ≡ true
+            yes true e = refl
+            yes false e = absurd (false≢true (sym e))
 
         pub fraction-digits : (t && not (eqb m 0)) ≡ true → Q.Is m next ≡ fractionAt s at
         fraction-digits h =

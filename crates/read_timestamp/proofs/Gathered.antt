@@ -78,44 +78,44 @@ module _ (s : List ℕ) (at : ℕ) (f : List ℕ) (count i : ℕ) (w : Gathered 
     pub gathered-more : (v next : ℕ) → FieldAt s i (varUInt (drop i s)) v next → Gathered s at (set f count v) (count + 1) next
     gathered-more v next x = go (w .left) (w .sum) (w .stored) (w .rest)
       where
-      go : (n : ℕ) → count + n ≡ 6 → f ≡ w .fields ++ replicate n 0 → varUInts 6 (drop at s) ≡ continued (w .fields) (varUInts n (drop i s)) →
-          Gathered s at (set f count v) (count + 1) next
-      go zero e p q = absurd (omega arith)
-      go (suc n) e p q =
-          record {
-            fields = w .fields ++ (v ∷ []);
-            left = n;
-            many = length-append (w .fields) (v ∷ []) ∙ ap (λ (k : ℕ). k + 1) (w .many);
-            sum = omega arith;
-            stored =
-              ap (λ (l : List ℕ). set l count v) p ∙ set-at (w .fields) 0 (replicate n 0) v count (w .many) ∙ sym (append-assoc (w .fields) (v ∷ []) (replicate n 0));
-            within = x .within;
-            rest =
-              q ∙ ap (continued (w .fields)) (next-field n (drop i s) v (drop next s) (bytes-left inside) (x .is))
-              ∙ continued-cons (w .fields) v (varUInts n (drop next s));
-          }
+        go : (n : ℕ) → count + n ≡ 6 → f ≡ w .fields ++ replicate n 0 → varUInts 6 (drop at s) ≡ continued (w .fields) (varUInts n (drop i s)) →
+            Gathered s at (set f count v) (count + 1) next
+        go zero e p q = absurd (omega arith)
+        go (suc n) e p q =
+            record {
+              fields = w .fields ++ (v ∷ []);
+              left = n;
+              many = length-append (w .fields) (v ∷ []) ∙ ap (λ (k : ℕ). k + 1) (w .many);
+              sum = omega arith;
+              stored =
+                  ap (λ (l : List ℕ). set l count v) p ∙ set-at (w .fields) 0 (replicate n 0) v count (w .many) ∙ sym (append-assoc (w .fields) (v ∷ []) (replicate n 0));
+              within = x .within;
+              rest =
+                  q ∙ ap (continued (w .fields)) (next-field n (drop i s) v (drop next s) (bytes-left inside) (x .is))
+                  ∙ continued-cons (w .fields) v (varUInts n (drop next s));
+            }
 
     pub gathered-no : varUInt (drop i s) ≡ none → F.No ≡ fieldsAt s at
     unfolding fieldsAt
     gathered-no x = go (w .left) (w .sum) (w .rest)
       where
-      go : (n : ℕ) → count + n ≡ 6 → varUInts 6 (drop at s) ≡ continued (w .fields) (varUInts n (drop i s)) → F.No ≡ fieldsIn (length s) (varUInts 6 (drop at s))
-      go zero e q = absurd (omega arith)
-      go (suc n) e q = rw (q, no-field n (drop i s) (bytes-left inside) x) refl
+        go : (n : ℕ) → count + n ≡ 6 → varUInts 6 (drop at s) ≡ continued (w .fields) (varUInts n (drop i s)) → F.No ≡ fieldsIn (length s) (varUInts 6 (drop at s))
+        go zero e q = absurd (omega arith)
+        go (suc n) e q = rw (q, no-field n (drop i s) (bytes-left inside) x) refl
 
   module _ (ended : (ltb count 6 && ltb i (length s)) ≡ false) where
     gathered-rest : varUInts 6 (drop at s) ≡ some (w .fields, drop i s)
     unfolding varUInts
     gathered-rest = go (w .left) (w .sum) (w .rest)
       where
-      out : count < 6 → length s ≤ i
-      out h = ltb-false i (length s) (rw (lt-ltb count 6 h) at ended)
+        out : count < 6 → length s ≤ i
+        out h = ltb-false i (length s) (rw (lt-ltb count 6 h) at ended)
 
-      go : (n : ℕ) → count + n ≡ 6 → varUInts 6 (drop at s) ≡ continued (w .fields) (varUInts n (drop i s)) → varUInts 6 (drop at s) ≡ some (w .fields, drop i s)
-      go zero e q = q ∙ ap (λ (l : List ℕ). some (l, drop i s)) (append-nil (w .fields))
-      go (suc n) e q =
-          let d : drop i s ≡ [] = drop-of-length-le s {i = i} (out (omega arith)) in
-          rw (d) (rw (d, append-nil (w .fields)) at q)
+        go : (n : ℕ) → count + n ≡ 6 → varUInts 6 (drop at s) ≡ continued (w .fields) (varUInts n (drop i s)) → varUInts 6 (drop at s) ≡ some (w .fields, drop i s)
+        go zero e q = q ∙ ap (λ (l : List ℕ). some (l, drop i s)) (append-nil (w .fields))
+        go (suc n) e q =
+            let d : drop i s ≡ [] = drop-of-length-le s {i = i} (out (omega arith)) in
+            rw (d) (rw (d, append-nil (w .fields)) at q)
 
     getD-gathered : (k : ℕ) → getD f k 0 ≡ getD (w .fields) k 0
     getD-gathered k = ap (λ (l : List ℕ). getD l k 0) (w .stored) ∙ getD-before-zeros (w .fields) (w .left) k
@@ -164,18 +164,18 @@ fields-taken (suc n) [] x e =
     subst (λ (y : List ℕ × List ℕ). Taken (suc n) [] y) q (record { behind = record { count = 0; most = omega arith; is = refl }; few = omega arith })
 fields-taken (suc n) (b ∷ bs) x e = go (varUInt (b ∷ bs)) refl e (λ l y q. fields-taken n l y q)
   where
-  more : (v : ℕ × List ℕ) → Suffix (b ∷ bs) (v .1) → (o : Option (List ℕ × List ℕ)) → ((y : List ℕ × List ℕ) → o ≡ some y → Taken n (v .1) y) →
-      (o >>= λ y. some (v .0 ∷ y .0, y .1)) ≡ some x → Taken (suc n) (b ∷ bs) x
-  more v u none k e = absurd (Option·none-ne-some x e)
-  more v u (some y) k e =
-      let t = k y refl in
-      let q : (v .0 ∷ y .0, y .1) ≡ x = Option·some-injective (v .0 ∷ y .0, y .1) x e in
-      subst (λ (z : List ℕ × List ℕ). Taken (suc n) (b ∷ bs) z) q (record { behind = later (b ∷ bs) (v .1) (y .1) u (t .behind); few = omega (arith, t .few) })
+    more : (v : ℕ × List ℕ) → Suffix (b ∷ bs) (v .1) → (o : Option (List ℕ × List ℕ)) → ((y : List ℕ × List ℕ) → o ≡ some y → Taken n (v .1) y) →
+        (o >>= λ y. some (v .0 ∷ y .0, y .1)) ≡ some x → Taken (suc n) (b ∷ bs) x
+    more v u none k e = absurd (Option·none-ne-some x e)
+    more v u (some y) k e =
+        let t = k y refl in
+        let q : (v .0 ∷ y .0, y .1) ≡ x = Option·some-injective (v .0 ∷ y .0, y .1) x e in
+        subst (λ (z : List ℕ × List ℕ). Taken (suc n) (b ∷ bs) z) q (record { behind = later (b ∷ bs) (v .1) (y .1) u (t .behind); few = omega (arith, t .few) })
 
-  go : (o : Option (ℕ × List ℕ)) → varUInt (b ∷ bs) ≡ o → (o >>= λ v. varUInts n (v .1) >>= λ y. some (v .0 ∷ y .0, y .1)) ≡ some x →
-      ((l : List ℕ) (y : List ℕ × List ℕ) → varUInts n l ≡ some y → Taken n l y) → Taken (suc n) (b ∷ bs) x
-  go none q e k = absurd (Option·none-ne-some x e)
-  go (some v) q e k = more v (one-behind (b ∷ bs) v q) (varUInts n (v .1)) (k (v .1)) e
+    go : (o : Option (ℕ × List ℕ)) → varUInt (b ∷ bs) ≡ o → (o >>= λ v. varUInts n (v .1) >>= λ y. some (v .0 ∷ y .0, y .1)) ≡ some x →
+        ((l : List ℕ) (y : List ℕ × List ℕ) → varUInts n l ≡ some y → Taken n l y) → Taken (suc n) (b ∷ bs) x
+    go none q e k = absurd (Option·none-ne-some x e)
+    go (some v) q e k = more v (one-behind (b ∷ bs) v q) (varUInts n (v .1)) (k (v .1)) e
 
 -- a list of at most six, by its places
 six-places : (fs : List ℕ) → length fs ≤ 6 →
@@ -202,27 +202,27 @@ pub fields-are : (s : List ℕ) (at count y m d h i sec next : ℕ) → at ≤ l
 unfolding fieldsAt
 fields-are s at count y m d h i sec next inside e = go (varUInts 6 (drop at s)) refl e
   where
-  go : (o : Option (List ℕ × List ℕ)) → varUInts 6 (drop at s) ≡ o → fieldsIn (length s) o ≡ F.Are count y m d h i sec next → FieldsAre s at count y m d h i sec next
-  go none q e = let z : _≡_ {A = ℕ} 0 1 = cc in absurd (omega arith)
-  go (some x) q e =
-      let t = fields-taken 6 (drop at s) x q in
-      let u = t .behind in
-      let n : length (drop at s) ≡ length s - at = length-drop at s in
-      let r : x .1 ≡ drop (at + u .count) s = u .is ∙ drop-drop (u .count) at s in
-      let p : length s - length (x .1) ≡ at + u .count = ap (λ (l : List ℕ). length s - length l) r ∙ behind s (at + u .count) (omega (arith, u .most, n)) in
-      let k : length s - length (x .1) ≡ next = cc in
-      let c : length (x .0) ≡ count = cc in
-      let y≡ : getD (x .0) 0 0 ≡ y = cc in
-      let m≡ : getD (x .0) 1 0 ≡ m = cc in
-      let d≡ : getD (x .0) 2 0 ≡ d = cc in
-      let h≡ : getD (x .0) 3 0 ≡ h = cc in
-      let i≡ : getD (x .0) 4 0 ≡ i = cc in
-      let s≡ : getD (x .0) 5 0 ≡ sec = cc in
-      record {
-        fields = x .0;
-        is = q ∙ ap (λ (l : List ℕ). some (x .0, l)) (r ∙ ap (λ (j : ℕ). drop j s) (sym p ∙ k));
-        within = omega (arith, k);
-        most = omega (arith, c, t .few);
-        listed = rw (← c, ← y≡, ← m≡, ← d≡, ← h≡, ← i≡, ← s≡) (six-places (x .0) (t .few));
-        places = rw (c, y≡, m≡, d≡, h≡, i≡, s≡) refl;
-      }
+    go : (o : Option (List ℕ × List ℕ)) → varUInts 6 (drop at s) ≡ o → fieldsIn (length s) o ≡ F.Are count y m d h i sec next → FieldsAre s at count y m d h i sec next
+    go none q e = let z : _≡_ {A = ℕ} 0 1 = cc in absurd (omega arith)
+    go (some x) q e =
+        let t = fields-taken 6 (drop at s) x q in
+        let u = t .behind in
+        let n : length (drop at s) ≡ length s - at = length-drop at s in
+        let r : x .1 ≡ drop (at + u .count) s = u .is ∙ drop-drop (u .count) at s in
+        let p : length s - length (x .1) ≡ at + u .count = ap (λ (l : List ℕ). length s - length l) r ∙ behind s (at + u .count) (omega (arith, u .most, n)) in
+        let k : length s - length (x .1) ≡ next = cc in
+        let c : length (x .0) ≡ count = cc in
+        let y≡ : getD (x .0) 0 0 ≡ y = cc in
+        let m≡ : getD (x .0) 1 0 ≡ m = cc in
+        let d≡ : getD (x .0) 2 0 ≡ d = cc in
+        let h≡ : getD (x .0) 3 0 ≡ h = cc in
+        let i≡ : getD (x .0) 4 0 ≡ i = cc in
+        let s≡ : getD (x .0) 5 0 ≡ sec = cc in
+        record {
+          fields = x .0;
+          is = q ∙ ap (λ (l : List ℕ). some (x .0, l)) (r ∙ ap (λ (j : ℕ). drop j s) (sym p ∙ k));
+          within = omega (arith, k);
+          most = omega (arith, c, t .few);
+          listed = rw (← c, ← y≡, ← m≡, ← d≡, ← h≡, ← i≡, ← s≡) (six-places (x .0) (t .few));
+          places = rw (c, y≡, m≡, d≡, h≡, i≡, s≡) refl;
+        }

@@ -21,18 +21,18 @@ either-false true b e = absurd (false≢true (sym e))
 pub date-past : (y m d : ℕ) → (ltb 10000 y || ltb 12 m) ≡ true → false ≡ (isYear y && isDay y m d)
 date-past y m d e = go (ltb 10000 y) (ltb 12 m) refl refl e
   where
-  month : (a b : Bool) → leb m 12 ≡ false → false ≡ (a && ((leb 1 m && leb m 12) && b))
-  month a b h = rw (h) (none a (leb 1 m))
-    where
-    none : (a c : Bool) → false ≡ (a && ((c && false) && b))
-    none true true = refl
-    none true false = refl
-    none false c = refl
+    month : (a b : Bool) → leb m 12 ≡ false → false ≡ (a && ((leb 1 m && leb m 12) && b))
+    month a b h = rw (h) (none a (leb 1 m))
+      where
+        none : (a c : Bool) → false ≡ (a && ((c && false) && b))
+        none true true = refl
+        none true false = refl
+        none false c = refl
 
-  go : (s t : Bool) → ltb 10000 y ≡ s → ltb 12 m ≡ t → (s || t) ≡ true → false ≡ (isYear y && isDay y m d)
-  go true t p q e = rw (lt-leb y 10000 (ltb-true 10000 y p)) refl
-  go false true p q e = month (isYear y) (leb 1 d && leb d (daysInMonth y m)) (lt-leb m 12 (ltb-true 12 m q))
-  go false false p q e = absurd (false≢true e)
+    go : (s t : Bool) → ltb 10000 y ≡ s → ltb 12 m ≡ t → (s || t) ≡ true → false ≡ (isYear y && isDay y m d)
+    go true t p q e = rw (lt-leb y 10000 (ltb-true 10000 y p)) refl
+    go false true p q e = month (isYear y) (leb 1 d && leb d (daysInMonth y m)) (lt-leb m 12 (ltb-true 12 m q))
+    go false false p q e = absurd (false≢true e)
 
 pub date-years : (y m : ℕ) → (ltb 10000 y || ltb 12 m) ≡ false → (y ≤ 10000) × (m ≤ 12)
 date-years y m e = let b = either-false (ltb 10000 y) (ltb 12 m) e in (ltb-false 10000 y (b .0), ltb-false 12 m (b .1))
@@ -42,9 +42,9 @@ date-days y m d n e q =
     let b = date-years y m e in
     rw (q, le-leb y 10000 (b .0), le-leb m 12 (b .1)) (kept (leb 1 m) (leb 1 d && leb d (daysInMonth y m)))
   where
-  kept : (a b : Bool) → (a && b) ≡ ((a && true) && b)
-  kept true b = refl
-  kept false b = refl
+    kept : (a b : Bool) → (a && b) ≡ ((a && true) && b)
+    kept true b = refl
+    kept false b = refl
 
 -- ---- fields
 

@@ -35,14 +35,14 @@ fraction-ends : (size : ℕ) (o : Signed) (f l : List ℕ) → fractionFrom size
 fraction-ends size o f [] = refl
 fraction-ends size o f (b ∷ bs) = exponent (varInt (b ∷ bs))
   where
-  digits : (n : ℕ) (x : Option Ion.Fraction) → fractioned size o f n x ≡ ended o f (digitsIn size n x)
-  digits n none = refl
-  digits n (some Ion.noFraction) = refl
-  digits n (some (Ion.fraction k c)) = refl
+    digits : (n : ℕ) (x : Option Ion.Fraction) → fractioned size o f n x ≡ ended o f (digitsIn size n x)
+    digits n none = refl
+    digits n (some Ion.noFraction) = refl
+    digits n (some (Ion.fraction k c)) = refl
 
-  exponent : (e : Option (Signed × List ℕ)) → exponentFrom size o f e ≡ ended o f (exponentIn size e)
-  exponent none = refl
-  exponent (some e) = digits (length (e .1)) (fractionOf (e .0) (intField (e .1)))
+    exponent : (e : Option (Signed × List ℕ)) → exponentFrom size o f e ≡ ended o f (exponentIn size e)
+    exponent none = refl
+    exponent (some e) = digits (length (e .1)) (fractionOf (e .0) (intField (e .1)))
 
 known : (t : Bool) (m : ℕ) → not (t && eqb m 0) ≡ isKnown (signed t m)
 known false m = refl
@@ -64,9 +64,9 @@ module _ (b : List ℕ) (t : Bool) (m next : ℕ) (x : FieldAt b 0 (varInt b) (s
   unfolding fieldsAt
   no-fields e = go (varUInts 6 (drop next b)) e ∙ sym fields-follow
     where
-    go : (o : Option (List ℕ × List ℕ)) → fieldsIn (length b) o ≡ F.No → T.No NotIon ≡ fieldsFrom (length b) (signed t m) o
-    go none e = refl
-    go (some y) e = let z : _≡_ {A = ℕ} 0 1 = cc in absurd (omega arith)
+      go : (o : Option (List ℕ × List ℕ)) → fieldsIn (length b) o ≡ F.No → T.No NotIon ≡ fieldsFrom (length b) (signed t m) o
+      go none e = refl
+      go (some y) e = let z : _≡_ {A = ℕ} 0 1 = cc in absurd (omega arith)
 
   module _ (count y mo d h i sec behind : ℕ) (w : FieldsAre b next count y mo d h i sec behind) (r : Bool)
       (tested : r ≡ areFields (take count (y ∷ mo ∷ d ∷ h ∷ i ∷ sec ∷ []))) where
@@ -80,17 +80,17 @@ module _ (b : List ℕ) (t : Bool) (m next : ℕ) (x : FieldAt b 0 (varInt b) (s
     pub bad-fields : not r ≡ true → T.No NotIon ≡ timestampIn b
     bad-fields e = go r e ∙ sym tested-fields
       where
-      go : (a : Bool) → not a ≡ true → T.No NotIon ≡ cond a (ended (signed t m) (w .fields) (fractionAt b behind)) (T.No NotIon)
-      go true e = absurd (false≢true e)
-      go false e = refl
+        go : (a : Bool) → not a ≡ true → T.No NotIon ≡ cond a (ended (signed t m) (w .fields) (fractionAt b behind)) (T.No NotIon)
+        go true e = absurd (false≢true e)
+        go false e = refl
 
     module _ (good : not r ≡ false) where
       fraction-follows : timestampIn b ≡ ended (signed t m) (w .fields) (fractionAt b behind)
       fraction-follows = tested-fields ∙ go r good
         where
-        go : (a : Bool) → not a ≡ false → cond a (ended (signed t m) (w .fields) (fractionAt b behind)) (T.No NotIon) ≡ ended (signed t m) (w .fields) (fractionAt b behind)
-        go true e = refl
-        go false e = absurd (false≢true (sym e))
+          go : (a : Bool) → not a ≡ false → cond a (ended (signed t m) (w .fields) (fractionAt b behind)) (T.No NotIon) ≡ ended (signed t m) (w .fields) (fractionAt b behind)
+          go true e = refl
+          go false e = absurd (false≢true (sym e))
 
       pub no-fraction : fractionAt b behind ≡ Q.No → T.No NotIon ≡ timestampIn b
       no-fraction e = sym (fraction-follows ∙ ap (ended (signed t m) (w .fields)) e)

@@ -1,6 +1,8 @@
 // A timestamp's body: offset, UTC fields and seconds fraction.
 use read_bodies::VarInt;
-use reading::{Number, Refusal, Timestamp};
+use reading::Number;
+use reading::Refusal;
+use reading::Timestamp;
 ghost use mathlib.Core.Path.{_≡_};
 ghost use mathlib.Core.Bool.{_&&_};
 ghost use mathlib.Core.List.{List, [], _∷_};
@@ -81,7 +83,15 @@ fn is_date(year: u64, month: u64, day: u64) -> bool
 }
 
 // Year; month; day; hour and minute together; second.
-fn are_fields(count: u8, year: u64, month: u64, day: u64, hour: u64, minute: u64, second: u64) -> bool
+fn are_fields(
+    count: u8,
+    year: u64,
+    month: u64,
+    day: u64,
+    hour: u64,
+    minute: u64,
+    second: u64,
+) -> bool
     requires { ⌜ count ≤ 6 ⌝ }
     ensures { λ r. ⌜ r ≡ areFields (take count (year ∷ month ∷ day ∷ hour ∷ minute ∷ second ∷ [])) ⌝ }
 {
@@ -133,19 +143,33 @@ fn fraction_at(body: &[u8], at: usize) -> Fraction
     ensures { λ r. ⌜ r ≡ fractionAt (now (body .entry)) at ⌝ }
 {
     if body.len() <= at {
-        return Fraction::Is { digits: 0, coefficient: body.len() };
+        return Fraction::Is {
+            digits: 0,
+            coefficient: body.len(),
+        };
     }
     let exponent = read_bodies::var_int(body, at);
-    let VarInt::Is { negative, magnitude, next } = exponent else {
+    let VarInt::Is {
+        negative,
+        magnitude,
+        next,
+    } = exponent
+    else {
         return Fraction::No;
     };
     if !coefficient_fits(negative, magnitude, &body[next..body.len()]) {
         return Fraction::No;
     }
     if negative & (magnitude != 0) {
-        return Fraction::Is { digits: magnitude, coefficient: next };
+        return Fraction::Is {
+            digits: magnitude,
+            coefficient: next,
+        };
     }
-    Fraction::Is { digits: 0, coefficient: body.len() }
+    Fraction::Is {
+        digits: 0,
+        coefficient: body.len(),
+    }
 }
 
 // ---- the body
@@ -155,18 +179,37 @@ pub fn timestamp(body: &[u8]) -> Timestamp
     ensures { λ r. ⌜ r ≡ timestampIn (now (body .entry)) ⌝ }
 {
     let offset = read_bodies::var_int(body, 0);
-    let VarInt::Is { negative, magnitude, next } = offset else {
+    let VarInt::Is {
+        negative,
+        magnitude,
+        next,
+    } = offset
+    else {
         return Timestamp::No(Refusal::NotIon);
     };
     let fields = fields_at(body, next);
-    let Fields::Are { count, year, month, day, hour, minute, second, next: behind } = fields else {
+    let Fields::Are {
+        count,
+        year,
+        month,
+        day,
+        hour,
+        minute,
+        second,
+        next: behind,
+    } = fields
+    else {
         return Timestamp::No(Refusal::NotIon);
     };
     if !are_fields(count, year, month, day, hour, minute, second) {
         return Timestamp::No(Refusal::NotIon);
     }
     let fraction = fraction_at(body, behind);
-    let Fraction::Is { digits, coefficient } = fraction else {
+    let Fraction::Is {
+        digits,
+        coefficient,
+    } = fraction
+    else {
         return Timestamp::No(Refusal::NotIon);
     };
     Timestamp::Is {
