@@ -1,3 +1,4 @@
 pub mod Headers
 pub mod Markers
 pub mod Bounds
+pub mod Usual

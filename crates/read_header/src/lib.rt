@@ -7,6 +7,7 @@ ghost use Prim.Native.Nat.{_≤_};
 ghost use lib.ListN.{length};
 ghost use Rattle.reading.specs.Headers.{impossible, alone, measured, never, framed, headerAt, markerAt, topHeaderAt};
 ghost use Rattle.read_header.specs.Refused.{headerRefusal};
+ghost use Rattle.read_header.specs.Usual.{leastLength, usual};
 
 // Type codes.
 const BOOL: u8 = 1;
@@ -87,8 +88,8 @@ fn frame(s: &[u8], b: u8, n: u64, start: usize, out: Refusal) -> Header
     }
 }
 
-// The header at `at`; `out` where the bytes end before its body does.
-pub fn header_at(s: &[u8], at: usize, out: Refusal) -> Header
+// The header at `at`, whatever its type byte.
+fn any_header_at(s: &[u8], at: usize, out: Refusal) -> Header
     ensures { λ r. ⌜ r ≡ headerAt out (now (s .entry)) at ⌝ }
 {
     if s.len() <= at {
@@ -113,6 +114,50 @@ pub fn header_at(s: &[u8], at: usize, out: Refusal) -> Header
         return frame(s, b, value, next, out);
     }
     frame(s, b, (b % 16) as u64, at + 1, out)
+}
+
+// The least length of a type's bodies that the low four bits of its type byte may say; no length for types whose low bits say other things too.
+fn least_length(t: u8) -> u8
+    ensures { λ r. ⌜ r ≡ leastLength t ⌝ }
+{
+    match t {
+        BOOL => LONG,
+        NEGATIVE_INT => 1,
+        FLOAT => LONG,
+        TIMESTAMP => 2,
+        STRUCT => 2,
+        ANNOTATIONS => 3,
+        RESERVED => LONG,
+        _ => 0,
+    }
+}
+
+// The low four bits say a length that the type may have.
+fn is_usual(b: u8) -> bool
+    ensures { λ r. ⌜ r ≡ usual b ⌝ }
+{
+    (least_length(b / 16) <= b % 16) & (b % 16 < LONG)
+}
+
+// The header at `at`; `out` where the bytes end before its body does. Most have a short length, so that is asked first.
+pub fn header_at(s: &[u8], at: usize, out: Refusal) -> Header
+    ensures { λ r. ⌜ r ≡ headerAt out (now (s .entry)) at ⌝ }
+{
+    if s.len() <= at {
+        return Header::No(out);
+    }
+    let b = s[at];
+    if !is_usual(b) {
+        return any_header_at(s, at, out);
+    }
+    if s.len() - at <= (b % 16) as usize {
+        return Header::No(out);
+    }
+    Header::Is {
+        kind: b,
+        start: at + 1,
+        stop: at + 1 + (b % 16) as usize,
+    }
 }
 
 // The version marker at `at`.
