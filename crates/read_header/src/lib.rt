@@ -193,7 +193,7 @@ pub fn top_header_at(s: &[u8], at: usize) -> Header
     if s[at] == MARKER_START {
         return marker_at(s, at);
     }
-    header_at(s, at, Refusal::CutShort)
+    any_header_at(s, at, Refusal::CutShort)
 }
 
 // Why a header does not read.

@@ -20,13 +20,13 @@ returns-2 c =
     let a = c .before .before .before .before .before .args in
     c .marker-at .ensures ∙ sym (topHeader-marker (a .s .now) (a .at) (c .before .if2 .taken))
 
-header-at-requires : tie.Need-header-at-requires
-header-at-requires c κs = search needs
+any-header-at-requires : tie.Need-any-header-at-requires
+any-header-at-requires c κs = search needs
 
 returns-3 : tie.Need-returns-3
 returns-3 c =
     let a = c .before .before .before .before .before .args in
-    c .header-at .ensures ∙ sym (topHeader-header (a .s .now) (a .at) (c .before .if2 .left))
+    c .any-header-at .ensures ∙ sym (topHeader-header (a .s .now) (a .at) (c .before .if2 .left))
 
 pub top-header-at-spec : {M : Type 1} → statement M
 top-header-at-spec =
@@ -36,5 +36,5 @@ top-header-at-spec =
     shared-slice-read-if2
     marker-at-requires
     returns-2
-    header-at-requires
+    any-header-at-requires
     returns-3)
