@@ -45,7 +45,10 @@ pub extern "C" fn gm_read_rest(
     ensures { λ r. ⌜ _≡_ {A = Answered} (r, now (place .exit))
         (readingAnswer (walkIn (now (stream .entry)) end parent least depth position .1) (now (place .entry))) ⌝ }
 {
-    read_answers::answer_reading(reader::read(stream, end, parent, least, depth, position), place)
+    read_answers::answer_reading(
+        reader::read(stream, end, parent, least, depth, position),
+        place,
+    )
 }
 
 // A sid of the part that an item's sids are, and where the next starts.

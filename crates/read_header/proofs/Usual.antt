@@ -49,13 +49,14 @@ plain t l h k =
       possible = rw (n15, n1, n4, n14) refl;
       more = rw (number .0, n1) refl;
       short = rw (number .1, n13) refl;
-      has = rw (n3, n6, n14, n13) refl
+      has = rw (n3, n6, n14, n13) refl;
     })))))))
   where
-  number : Length l
-  number = (ne-eqb l 15 (λ e. omega arith), ne-eqb l 14 (λ e. omega arith))
-  least : (x : ℕ) → t ≡ x → leastLength x ≤ l
-  least x e = subst (λ (y : ℕ). leastLength y ≤ l) e h
+    number : Length l
+    number = (ne-eqb l 15 (λ e. omega arith), ne-eqb l 14 (λ e. omega arith))
+
+    least : (x : ℕ) → t ≡ x → leastLength x ≤ l
+    least x e = subst (λ (y : ℕ). leastLength y ≤ l) e h
 
 -- The body of a usual header: as many bytes as its low four bits say.
 pub headed-usual : (out : Refusal) (s : List ℕ) (at b : ℕ) → usual b ≡ true
