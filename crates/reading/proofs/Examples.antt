@@ -291,3 +291,12 @@ from-the-end = refl
 from-past-the-end : walk (0x11 ∷ []) 2 ≡ ([], R.Refused PastTheEnd 2)
 unfolding walkIn walkFrom itemAt wrappedAt sidsOf varUInts varUInt groups scalarIn bodyOf codeFrom headerAt topHeaderAt markerAt marked varUIntAt varUIntFrom scalarOf bigEndian
 from-past-the-end = refl
+
+-- what comes before a refusal is shown, also inside a container that does not end
+shown-before-a-refusal : walk (0x11 ∷ 0xF0 ∷ []) 0 ≡ (leaf none [] (bool true) ∷ [], R.Refused NotIon 1)
+unfolding walkIn walkFrom itemAt wrappedAt sidsOf varUInts varUInt groups scalarIn bodyOf codeFrom headerAt topHeaderAt markerAt marked varUIntAt varUIntFrom scalarOf bigEndian
+shown-before-a-refusal = refl
+
+shown-inside-a-refused-list : walk (0xB2 ∷ 0x11 ∷ 0x41 ∷ []) 0 ≡ (begins none [] ionList ∷ leaf none [] (bool true) ∷ [], R.Refused NotIon 2)
+unfolding walkIn walkFrom itemAt wrappedAt sidsOf varUInts varUInt groups scalarIn bodyOf codeFrom headerAt topHeaderAt markerAt marked varUIntAt varUIntFrom scalarOf bigEndian
+shown-inside-a-refused-list = refl
