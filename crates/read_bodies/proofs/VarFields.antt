@@ -7,18 +7,19 @@ use mathlib.Core.Path.{_≡_, refl, sym, _∙_, ap, subst}
 use mathlib.Core.Bool.{Bool, true, false, cond, _&&_, not, false≢true}
 use mathlib.Core.List.{List, [], _∷_}
 use mathlib.Core.Option.{Option, none, some, Option·some-injective, Option·none-ne-some}
-use lib.Dec.{ltb, eqb}
+use lib.Dec.{ltb, leb, eqb}
 use lib.ListN.{length, getD, drop, length-drop, drop-of-length-le}
 use lib.Seq.{drop-cons, drop-drop}
-use borrow.Author.Tests.{lt-ltb, le-ltb, le-leb, lt-leb, ltb-false, eqb-true, eqb-false}
+use borrow.Author.Tests.{lt-ltb, le-ltb, le-leb, lt-leb, ltb-true, ltb-false, leb-true, leb-false, eqb-true, eqb-false}
 use Rattle.ion.specs.Value.{Signed, signed}
 use Rattle.ion.specs.Chain.{check}
 use Rattle.ion.specs.Fields.{groups, inU64, isI64, varUInt, giveSign, isNegative, varInt}
-use Rattle.ion.proofs.Tests.{both}
+use Rattle.ion.proofs.Tests.{by-cases, both}
 use Rattle.reading.specs.declared.Number.{Number}
 use Rattle.reading.specs.declared.Refusal.{Refusal}
 use Rattle.reading.specs.declared.Refusal.the-variants.{NotIon}
 use Rattle.reading.specs.declared.Number.the-variants as N
+use Rattle.reading.specs.Headers.{varUIntFrom}
 use Rattle.reading.specs.Bodies as B
 use Rattle.read_bodies.specs.declared.VarInt.the-variants as I
 use Rattle.read_bodies.specs.Places.{numberIn, groupsAt, varUIntAt, signedIn, varIntAt, withSign}
@@ -51,25 +52,35 @@ front s i b inside is = rw (add-one, is) (drop-cons s i 0 inside)
 pub behind : (s : List ℕ) (i : ℕ) → i ≤ length s → length s - length (drop i s) ≡ i
 behind s i h = rw (length-drop i s) (omega arith)
 
-module _ (s : List ℕ) (i acc b : ℕ) (inside : i < length s) (is : b ≡ getD s i 0) where
-  pub group-past : 2 ^ 57 ≤ acc → groupsAt s i acc ≡ N.No NotIon
-  unfolding groupsAt
-  group-past h = rw (groups-past acc (drop i s) h) refl
+-- ---- the reader's VarUInt is the grammar's
 
-  pub group-last : acc < 2 ^ 57 → 0x7F < b → groupsAt s i acc ≡ N.Is (acc * 128 + b % 128) (i + 1)
-  unfolding groupsAt groups
-  group-last h k =
-      rw (front s i b inside is, groups, le-ltb b 0x80 (omega arith), lt-ltb (acc * 128 + b % 128) (2 ^ 64) (omega arith), behind s (i + 1) (omega arith)) refl
+from-groups : (acc at : ℕ) (l : List ℕ) → varUIntFrom NotIon acc at l ≡ numberIn (at + length l) (inU64 (groups acc l))
+unfolding varUIntFrom groups
+from-groups acc at [] = refl
+from-groups acc at (b ∷ bs) =
+    by-cases (ltb (acc * 128 + b % 128) (2 ^ 64))
+    (λ p. by-cases (ltb b 0x80)
+    (λ q.
+      let m : b % 128 ≡ b = let h = ltb-true b 0x80 q in omega arith in
+      let n : at + 1 + length bs ≡ at + suc (length bs) = omega arith in
+      rw (p, groups, q, m) (from-groups (acc * 128 + b) (at + 1) bs ∙ ap (λ (size : ℕ). numberIn size (inU64 (groups (acc * 128 + b) bs))) n))
+    (λ q.
+      let n : at + 1 ≡ at + suc (length bs) - length bs = omega arith in
+      rw (p, groups, q, p) (ap (λ (next : ℕ). N.Is (acc * 128 + b % 128) next) n)))
+    (λ p. by-cases (ltb b 0x80)
+    (λ q.
+      let m : b % 128 ≡ b = let h = ltb-true b 0x80 q in omega arith in
+      rw (p, groups, q, groups-past (acc * 128 + b) bs (omega (arith, ltb-false (acc * 128 + b % 128) (2 ^ 64) p))) refl)
+    (λ q. rw (p, groups, q, p) refl))
 
-  pub group-more : b ≤ 0x7F → groupsAt s i acc ≡ groupsAt s (i + 1) (acc * 128 + b % 128)
-  unfolding groupsAt groups
-  group-more k =
-      let m : b % 128 ≡ b = omega arith in
-      rw (front s i b inside is, groups, lt-ltb b 0x80 (omega arith), m) refl
-
-pub groups-out : (s : List ℕ) (i acc : ℕ) → length s ≤ i → groupsAt s i acc ≡ N.No NotIon
-unfolding groupsAt groups
-groups-out s i acc h = rw (drop-of-length-le s {i = i} h) refl
+pub groups-at : (s : List ℕ) (at acc : ℕ) → varUIntFrom NotIon acc at (drop at s) ≡ groupsAt s at acc
+unfolding groupsAt
+groups-at s at acc =
+    by-cases (leb at (length s))
+    (λ p.
+      let n : at + length (drop at s) ≡ length s = omega (arith, length-drop at s, leb-true at (length s) p) in
+      from-groups acc at (drop at s) ∙ ap (λ (size : ℕ). numberIn size (inU64 (groups acc (drop at s)))) n)
+    (λ p. rw (drop-of-length-le s {i = at} (omega (arith, leb-false at (length s) p))) (unfold varUIntFrom groups in refl))
 
 -- ---- the first byte of a VarInt
 

@@ -40,20 +40,7 @@ fn wide(b: u8) -> u64
 fn groups(b: &[u8], at: usize, acc: u64) -> Number
     ensures { λ r. ⌜ r ≡ groupsAt (now (b .entry)) at acc ⌝ }
 {
-    let mut i = at;
-    let mut value = acc;
-    while i < b.len() {
-        let group = wide(b[i]);
-        if 0x1FF_FFFF_FFFF_FFFF < value {
-            return Number::No(Refusal::NotIon);
-        }
-        value = value * 128 + group % 128;
-        i += 1;
-        if 0x7F < group {
-            return Number::Is { value, next: i };
-        }
-    }
-    Number::No(Refusal::NotIon)
+    read_fields::var_uint_from(b, at, acc, Refusal::NotIon)
 }
 
 // The VarUInt at a place.

@@ -2,7 +2,8 @@
 use reading::Number;
 use reading::Refusal;
 ghost use mathlib.Core.Path.{_≡_};
-ghost use Rattle.reading.specs.Headers.{varUIntAt};
+ghost use lib.ListN.{drop};
+ghost use Rattle.reading.specs.Headers.{varUIntFrom, varUIntAt};
 ghost use Rattle.read_fields.specs.Refused.{numberRefusal};
 
 const END_FLAG: u8 = 0x80;
@@ -10,12 +11,12 @@ const END_FLAG: u8 = 0x80;
 // The greatest number that seven more bits leave within 64.
 const MAX_BEFORE_GROUP: u64 = 0x1FF_FFFF_FFFF_FFFF;
 
-// The VarUInt, group by group of seven bits. How many they are is not limited, since leading groups may be zero.
-fn long_var_uint(s: &[u8], at: usize, out: Refusal) -> Number
-    ensures { λ r. ⌜ r ≡ varUIntAt out (now (s .entry)) at ⌝ }
+// The VarUInt whose groups before `at` make `acc`, group by group of seven bits. How many they are is not limited, since leading groups may be zero.
+pub fn var_uint_from(s: &[u8], at: usize, acc: u64, out: Refusal) -> Number
+    ensures { λ r. ⌜ r ≡ varUIntFrom out acc at (drop at (now (s .entry))) ⌝ }
 {
     let mut i = at;
-    let mut value: u64 = 0;
+    let mut value = acc;
     while i < s.len() {
         let b = s[i];
         if MAX_BEFORE_GROUP < value {
@@ -48,7 +49,7 @@ pub fn var_uint(s: &[u8], at: usize, out: Refusal) -> Number
             next: at + 1,
         };
     }
-    long_var_uint(s, at, out)
+    var_uint_from(s, at, 0, out)
 }
 
 // Why a number does not read.

@@ -30,11 +30,11 @@ returns-2 c =
     ap (λ (v : ℕ). N.Is v (a .at + 1)) (omega arith)
     ∙ sym (varUInt-last (a .out) (a .s .now) 0 (a .at) (omega arith) (omega arith) (omega arith))
 
-long-var-uint-requires : tie.Need-long-var-uint-requires
-long-var-uint-requires c κs = search needs
+var-uint-from-requires : tie.Need-var-uint-from-requires
+var-uint-from-requires c κs = search needs
 
 returns-3 : tie.Need-returns-3
-returns-3 c = search needs
+returns-3 c = unfold varUIntAt in c .var-uint-from .ensures
 
 pub var-uint-spec : {M : Type 1} → statement M
 var-uint-spec =
@@ -45,5 +45,5 @@ var-uint-spec =
     cast-t10
     add-t11
     returns-2
-    long-var-uint-requires
+    var-uint-from-requires
     returns-3)

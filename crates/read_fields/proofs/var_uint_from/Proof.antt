@@ -1,23 +1,22 @@
--- `read_fields::long_var_uint` meets its contract: at each byte, what is read from here with the groups so far is what is read from `at`.
+-- `read_fields::var_uint_from` meets its contract: at each byte, what is read from here with the groups so far is what is read from `at`.
 -- Assumes nothing.
 use Prim.Native.Nat.{_-_}
 use native.Mathlib.Omega.{arith}
 use mathlib.Core.Path.{_≡_, refl, sym, _∙_}
 use lib.ListN.{length, drop}
 use borrow.Author.Needs.{needs}
-use Rattle.reading.specs.Headers.{varUIntFrom, varUIntAt}
+use Rattle.reading.specs.Headers.{varUIntFrom}
 use Rattle.read_fields.proofs.VarUInts.{varUInt-out, varUInt-past, varUInt-last, varUInt-more}
-use Rattle.read_fields.proofs.long_var_uint.Statement.{statement}
-use Rattle.read_fields.proofs.long_var_uint.Tie as tie
+use Rattle.read_fields.proofs.var_uint_from.Statement.{statement}
+use Rattle.read_fields.proofs.var_uint_from.Tie as tie
 
 abbrev Inv-loop : tie.InvT-loop
-Inv-loop s at out i₀ value₀ i value = varUIntAt out s at ≡ varUIntFrom out value i (drop i s)
+Inv-loop s at acc out i₀ value₀ i value = varUIntFrom out acc at (drop at s) ≡ varUIntFrom out value i (drop i s)
 
 abbrev μ-loop : tie.MeasureT-loop
-μ-loop s at out i₀ value₀ i value = length s - i
+μ-loop s at acc out i₀ value₀ i value = length s - i
 
 loop-holds : tie.Need-loop-holds Inv-loop μ-loop
-unfolding varUIntAt
 loop-holds c = refl
 
 shared-slice-read-b : tie.Need-shared-slice-read-b Inv-loop μ-loop
@@ -58,8 +57,8 @@ returns-3 c =
     let d = c .before in let a = d .before .args in
     sym (d .loop .inv ∙ varUInt-out (a .out) (a .s .now) (d .loop .value) (d .loop .i) (omega arith))
 
-pub long-var-uint-spec : {M : Type 1} → statement M
-long-var-uint-spec =
+pub var-uint-from-spec : {M : Type 1} → statement M
+var-uint-from-spec =
     tie.close
     (tie.spec
     Inv-loop
