@@ -36,18 +36,18 @@ fn wide(b: u8) -> u64
 
 // ---- "VarUInt and VarInt Fields"
 
+// The VarUInt at a place.
+pub fn var_uint(b: &[u8], at: usize) -> Number
+    ensures { λ r. ⌜ r ≡ varUIntAt (now (b .entry)) at ⌝ }
+{
+    read_fields::var_uint(b, at, Refusal::NotIon)
+}
+
 // The VarUInt whose groups before `at` make `acc`.
 fn groups(b: &[u8], at: usize, acc: u64) -> Number
     ensures { λ r. ⌜ r ≡ groupsAt (now (b .entry)) at acc ⌝ }
 {
     read_fields::var_uint_from(b, at, acc, Refusal::NotIon)
-}
-
-// The VarUInt at a place.
-pub fn var_uint(b: &[u8], at: usize) -> Number
-    ensures { λ r. ⌜ r ≡ varUIntAt (now (b .entry)) at ⌝ }
-{
-    groups(b, at, 0)
 }
 
 // The magnitude that its groups make, with the sign, where signed 64 bits hold it.
