@@ -3,7 +3,7 @@
 use Prim.Native.Nat.{ℕ, _+_, _-_, _/_, _%_, _≤_, _<_}
 use native.Mathlib.Omega.{arith}
 use mathlib.Core.Path.{_≡_, refl, sym, _∙_, ap}
-use mathlib.Core.Bool.{Bool, true, false, cond, _&&_, not}
+use mathlib.Core.Bool.{true, false, cond, _&&_, not}
 use mathlib.Core.List.{List}
 use lib.Dec.{ltb, leb, eqb}
 use lib.ListN.{length, getD, take}
@@ -79,7 +79,7 @@ module _ (s : List ℕ) (parent at : ℕ) where
 
 -- ---- the item before that place
 
--- a usual header of an int whose body reads
+-- the item is an int where its header is a usual one and its body reads
 module _ (s : List ℕ) (parent at b : ℕ) (sequence : isSequence parent ≡ true) (is : getD s at 0 ≡ b) (header : usual b ≡ true) (code : b / 32 ≡ 1) (whole : at + b % 16 < length s)
     (reads : isSome (scalarIn b (slice (at + 1) (at + 1 + b % 16) s)) ≡ true) where
   header-is : headerAt NotIon s at ≡ H.Is b (at + 1) (at + 1 + b % 16)
@@ -91,11 +91,22 @@ module _ (s : List ℕ) (parent at b : ℕ) (sequence : isSequence parent ≡ tr
       let p = both {a = leb 0xB0 parent} {b = ltb parent 0xD0} sequence in
       let low = leb-true 0xB0 parent (p .0) in
       let high = ltb-true parent 0xD0 (p .1) in
-      rw (le-ltb (length s) at (omega arith), ne-eqb at (length s) (λ e. omega arith), lt-leb 0xD0 parent high, ne-eqb parent 0 (λ e. omega arith), header-is,
-        lt-leb 0xE1 b (omega arith), ne-eqb parent 0xD1 (λ e. omega arith), le-ltb b 0x0F (omega arith), ne-eqb b 0xE0 (λ e. omega arith), lt-leb 0xB0 b (omega arith), reads)
+      rw (
+        le-ltb (length s) at (omega arith),
+        ne-eqb at (length s) (λ e. omega arith),
+        lt-leb 0xD0 parent high,
+        ne-eqb parent 0 (λ e. omega arith),
+        header-is,
+        lt-leb 0xE1 b (omega arith),
+        ne-eqb parent 0xD1 (λ e. omega arith),
+        le-ltb b 0x0F (omega arith),
+        ne-eqb b 0xE0 (λ e. omega arith),
+        lt-leb 0xB0 b (omega arith),
+        reads,
+      )
       refl
 
--- the body of an int whose first byte is not zero, or of the int zero
+-- a positive int always reads, a negative one where its first byte is not zero
 module _ (s : List ℕ) (at b : ℕ) where
   positive-reads : (stop : ℕ) → b / 16 ≡ 2 → b % 16 < 14 → isSome (scalarIn b (slice (at + 1) stop s)) ≡ true
   unfolding codeFrom bodyOf scalarOf
@@ -105,7 +116,7 @@ module _ (s : List ℕ) (at b : ℕ) where
   unfolding codeFrom bodyOf scalarOf
   negative-body-reads stop h k n t l =
       let u : 0 < uint (slice (at + 1) stop s) =
-          not-zero (take stop s) (at + 1) (getD s (at + 1) 0) (omega (arith, length-take-le stop s k)) (sym (getD-take stop s (at + 1) 0 h)) n in
+      not-zero (take stop s) (at + 1) (getD s (at + 1) 0) (omega (arith, length-take-le stop s k)) (sym (getD-take stop s (at + 1) 0 h)) n in
       sym (ap not (sym (ne-eqb (uint (slice (at + 1) stop s)) 0 (λ e. omega arith))) ∙ negative-reads (uint (slice (at + 1) stop s))
       ∙ body-reads b (slice (at + 1) stop s) (λ e. omega arith) 3 negativeCode refl t)
 
@@ -120,11 +131,11 @@ module _ (s : List ℕ) (parent at : ℕ) (sequence : isSequence parent ≡ true
   int-here : (b : ℕ) → getD s at 0 ≡ b → usual b ≡ true → b / 32 ≡ 1 → at + b % 16 < length s → isSome (scalarIn b (slice (at + 1) (at + 1 + b % 16) s)) ≡ true →
       at + 1 + b % 16 ≡ intEnd s parent at → IntItem s parent at (intEnd s parent at)
   int-here b is header code whole reads e = record {
-      kind = b;
-      is = λ least depth. item-is s parent at b sequence is header code whole reads least depth ∙ ap (I.Is 0 (at + 1) (at + 1) b (at + 1)) e;
-      leaf = rw (lt-leb 0xB0 b (omega arith)) refl;
-      counts = le-ltb b 0x0F (omega arith)
-    }
+    kind = b;
+    is = λ least depth. item-is s parent at b sequence is header code whole reads least depth ∙ ap (I.Is 0 (at + 1) (at + 1) b (at + 1)) e;
+    leaf = rw (lt-leb 0xB0 b (omega arith)) refl;
+    counts = le-ltb b 0x0F (omega arith);
+  }
 
   zero-here : at < length s → getD s at 0 ≡ 0x20 → IntItem s parent at (intEnd s parent at)
   zero-here h e =
@@ -140,13 +151,13 @@ module _ (s : List ℕ) (parent at : ℕ) (sequence : isSequence parent ≡ true
         let most = lt-ltb (b % 16) 14 (k .most) in
         by-cases (eqb (b / 16) 2)
         (λ p.
-          let c = eqb-true (b / 16) 2 p in
-          int-here b refl (rw (c, le-leb 0 (b % 16) (omega arith), most) refl) (k .code) (omega arith) (positive-reads s at b (at + 1 + b % 16) c (k .most)) e)
+        let c = eqb-true (b / 16) 2 p in
+        int-here b refl (rw (c, le-leb 0 (b % 16) (omega arith), most) refl) (k .code) (omega arith) (positive-reads s at b (at + 1 + b % 16) c (k .most)) e)
         (λ p.
-          let n = eqb-false (b / 16) 2 p in
-          let c : b / 16 ≡ 3 = omega (arith, k .code) in
-          int-here b refl (rw (c, le-leb 1 (b % 16) (k .least), most) refl) (k .code) (omega arith)
-          (negative-body-reads s at b (at + 1 + b % 16) (omega (arith, k .least)) (omega arith) (omega arith) c (k .most)) e)
+        let n = eqb-false (b / 16) 2 p in
+        let c : b / 16 ≡ 3 = omega (arith, k .code) in
+        int-here b refl (rw (c, le-leb 1 (b % 16) (k .least), most) refl) (k .code) (omega arith)
+        (negative-body-reads s at b (at + 1 + b % 16) (omega (arith, k .least)) (omega arith) (omega arith) c (k .most)) e)
 
 -- Where the short way answers a place, it is that behind an int.
 pub int-item : (s : List ℕ) (parent at : ℕ) → (intEnd s parent at ≡ 0 → ⊥) → IntItem s parent at (intEnd s parent at)

@@ -1,10 +1,9 @@
 -- `read_items::int_end` meets its contract: one test of the definition after the other.
 -- Assumes nothing.
-use Prim.Native.Nat.{_%_, _≤_}
 use native.Mathlib.Omega.{arith}
-use mathlib.Core.Path.{_≡_, refl, sym, _∙_}
-use mathlib.Core.Bool.{true, false}
-use lib.ListN.{length, getD}
+use mathlib.Core.Path.{_≡_, sym, _∙_}
+use mathlib.Core.Bool.{true}
+use lib.ListN.{getD}
 use borrow.Author.Tests.{not-true, not-false}
 use Rattle.read_items.specs.Ints.{isSequence, isShortInt}
 use Rattle.read_items.proofs.Ints.{short-int, end-outside, end-past, end-zero, end-other, end-cut, end-zeros, end-is}
@@ -12,11 +11,11 @@ use borrow.Author.Needs.{needs}
 use Rattle.read_items.proofs.int_end.Statement.{statement}
 use Rattle.read_items.proofs.int_end.Tie as tie
 
--- in a list or an s-expression
 sequence : (e : tie.Else1) → isSequence (e .before .before .before .args .parent) ≡ true
 sequence e = sym (e .before .is-sequence .ensures) ∙ not-false (e .before .is-sequence .result) (e .if1 .left)
 
--- not past the end
+-- ---- another int than zero, of a short length
+
 abbrev start-of : tie.Else3 → tie.Start
 start-of e = e .before .before .before .before .before .before
 
