@@ -61,16 +61,16 @@ from-groups acc at (b ∷ bs) =
     by-cases (ltb (acc * 128 + b % 128) (2 ^ 64))
     (λ p. by-cases (ltb b 0x80)
     (λ q.
-      let m : b % 128 ≡ b = let h = ltb-true b 0x80 q in omega arith in
-      let n : at + 1 + length bs ≡ at + suc (length bs) = omega arith in
-      rw (p, groups, q, m) (from-groups (acc * 128 + b) (at + 1) bs ∙ ap (λ (size : ℕ). numberIn size (inU64 (groups (acc * 128 + b) bs))) n))
+    let m : b % 128 ≡ b = let h = ltb-true b 0x80 q in omega arith in
+    let n : at + 1 + length bs ≡ at + suc (length bs) = omega arith in
+    rw (p, groups, q, m) (from-groups (acc * 128 + b) (at + 1) bs ∙ ap (λ (size : ℕ). numberIn size (inU64 (groups (acc * 128 + b) bs))) n))
     (λ q.
-      let n : at + 1 ≡ at + suc (length bs) - length bs = omega arith in
-      rw (p, groups, q, p) (ap (λ (next : ℕ). N.Is (acc * 128 + b % 128) next) n)))
+    let n : at + 1 ≡ at + suc (length bs) - length bs = omega arith in
+    rw (p, groups, q, p) (ap (λ (next : ℕ). N.Is (acc * 128 + b % 128) next) n)))
     (λ p. by-cases (ltb b 0x80)
     (λ q.
-      let m : b % 128 ≡ b = let h = ltb-true b 0x80 q in omega arith in
-      rw (p, groups, q, groups-past (acc * 128 + b) bs (omega (arith, ltb-false (acc * 128 + b % 128) (2 ^ 64) p))) refl)
+    let m : b % 128 ≡ b = let h = ltb-true b 0x80 q in omega arith in
+    rw (p, groups, q, groups-past (acc * 128 + b) bs (omega (arith, ltb-false (acc * 128 + b % 128) (2 ^ 64) p))) refl)
     (λ q. rw (p, groups, q, p) refl))
 
 pub groups-at : (s : List ℕ) (at acc : ℕ) → varUIntFrom NotIon acc at (drop at s) ≡ groupsAt s at acc
@@ -78,8 +78,8 @@ unfolding groupsAt
 groups-at s at acc =
     by-cases (leb at (length s))
     (λ p.
-      let n : at + length (drop at s) ≡ length s = omega (arith, length-drop at s, leb-true at (length s) p) in
-      from-groups acc at (drop at s) ∙ ap (λ (size : ℕ). numberIn size (inU64 (groups acc (drop at s)))) n)
+    let n : at + length (drop at s) ≡ length s = omega (arith, length-drop at s, leb-true at (length s) p) in
+    from-groups acc at (drop at s) ∙ ap (λ (size : ℕ). numberIn size (inU64 (groups acc (drop at s)))) n)
     (λ p. rw (drop-of-length-le s {i = at} (omega (arith, leb-false at (length s) p))) (unfold varUIntFrom groups in refl))
 
 -- ---- the first byte of a VarInt

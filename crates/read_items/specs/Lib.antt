@@ -1,2 +1,3 @@
+pub mod Ints
 pub mod Refused
 pub mod Sids

@@ -15,11 +15,14 @@ ghost use Rattle.reading.specs.declared.Wrapped.the-variants as W;
 ghost use Rattle.reading.specs.Headers.{headerAt};
 ghost use Rattle.reading.specs.Scalars.{isSome, sidsOf};
 ghost use Rattle.reading.specs.Items.{isPad, isWrapper, opens, hasNames, nameAt, headIn, filled, annotated, wrappedAt, unwrapped, reads, falls, raised, judged, named, itemAt};
+ghost use Rattle.read_items.specs.Ints.{isSequence, isShortInt, intEnd};
 ghost use Rattle.read_items.specs.Sids.{groupsWith};
 ghost use Rattle.read_items.specs.Refused.{wrappedRefusal};
 
 // Type bytes. Those below null's are pads.
 const NULL: u8 = 0x0F;
+
+const INT_ZERO: u8 = 0x20;
 
 const LIST: u8 = 0xB0;
 
@@ -39,6 +42,9 @@ const NULL_WRAPPER: u8 = 0xEF;
 
 // The parent's type byte where that is the stream itself: no container has it.
 const STREAM: u8 = 0;
+
+// Low four bits of a type byte whose length is a field.
+const LONG: u8 = 14;
 
 // Containers that may be open at once.
 const MOST_OPEN: u8 = 32;
@@ -320,4 +326,46 @@ pub fn item(s: &[u8], parent: u8, least: u64, depth: u8, at: usize) -> Item
         return Item::No(read_fields::number_refusal(name));
     };
     named_item(s, parent, least, depth, value, next)
+}
+
+// A list's or an s-expression's type byte.
+fn is_sequence(parent: u8) -> bool
+    ensures { λ r. ⌜ r ≡ isSequence parent ⌝ }
+{
+    (LIST <= parent) & (parent < STRUCT)
+}
+
+// An int of 1 to 13 bytes, of either sign: their type codes are 2 and 3.
+fn is_short_int(kind: u8) -> bool
+    ensures { λ r. ⌜ r ≡ isShortInt kind ⌝ }
+{
+    (kind / 32 == 1) & ((0 < kind % 16) & (kind % 16 < LONG))
+}
+
+// A short way past an int in a list or an s-expression: the place behind it, or 0 where anything else stands, for `item` to judge.
+// In the shortest form an int's first byte is not zero, so it is not negative zero.
+pub fn int_end(s: &[u8], parent: u8, at: usize) -> usize
+    ensures { λ r. ⌜ r ≡ intEnd (now (s .entry)) parent at ⌝ }
+{
+    if !is_sequence(parent) {
+        return 0;
+    }
+    if s.len() <= at {
+        return 0;
+    }
+    let b = s[at];
+    if b == INT_ZERO {
+        return at + 1;
+    }
+    if !is_short_int(b) {
+        return 0;
+    }
+    let size = (b % 16) as usize;
+    if s.len() - at <= size {
+        return 0;
+    }
+    if s[at + 1] == 0 {
+        return 0;
+    }
+    at + 1 + size
 }

@@ -20,7 +20,9 @@ use Rattle.reading.specs.declared.Value.the-variants as Val
 use Rattle.reading.specs.Items.{opens, raised, itemAt}
 use Rattle.reading.specs.Scalars.{sidsOf}
 use Rattle.reading.specs.Walk.{Event, ends, Walk, before, nameIn, annotations, leafWalk, _andThen_, shows, containerWalk, stepWalk, walkFrom}
+use Rattle.read_items.specs.Ints.{intEnd}
 use Rattle.read_items.proofs.Bounds.{item-bounds}
+use Rattle.read_items.proofs.Ints.{IntItem, int-item}
 use Rattle.reader.specs.Values.{past, valueFrom, valueAt}
 
 -- ---- how two walks end, one behind the other
@@ -108,6 +110,14 @@ module _ (f : ℕ) (s : List ℕ) (parent least depth at : ℕ) where
     pub value-container : (r : Reading) → opens b ≡ true → r ≡ walkFrom f (take stop s) b 0 (depth + 1) start .1 → past r stop (raised least b name) ≡ valueAt f s parent least depth at
     unfolding valueAt
     value-container r o e = rw (is, o, e) refl
+
+  -- an int of a list or an s-expression has no name
+  int-goes-on : (next : ℕ) → IntItem s parent at next → Val.Is next 0 ≡ valueAt f s parent least depth at
+  unfolding valueAt
+  int-goes-on next i = rw (i .is least depth, i .leaf, i .counts) refl
+
+  pub value-int : (next : ℕ) → next ≡ intEnd s parent at → (next ≡ 0 → ⊥) → Val.Is next 0 ≡ valueAt f s parent least depth at
+  value-int next e n = ap (λ (x : ℕ). Val.Is x 0) e ∙ int-goes-on (intEnd s parent at) (int-item s parent at (λ z. n (e ∙ z)))
 
   -- the walk goes on behind the item, and within the bytes
   pub value-goes-on : (next low : ℕ) → Val.Is next low ≡ valueAt f s parent least depth at → (at < next) × (next ≤ length s)

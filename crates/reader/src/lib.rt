@@ -51,6 +51,13 @@ fn past_container(inside: Reading, next: usize, least: u64) -> Value
 fn value(s: &[u8], parent: u8, least: u64, depth: u8, at: usize) -> Value
     ensures { λ r. ⌜ ((f : ℕ) → length (now (s .entry)) - at ≤ f → r ≡ valueAt f (now (s .entry)) parent least depth at) ⌝ }
 {
+    let behind = read_items::int_end(s, parent, at);
+    if behind != 0 {
+        return Value::Is {
+            next: behind,
+            least: 0,
+        };
+    }
     let found = read_items::item(s, parent, least, depth, at);
     let Item::Is {
         name,

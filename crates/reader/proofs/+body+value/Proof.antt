@@ -21,7 +21,7 @@ use Rattle.reading.specs.Walk.{walkFrom}
 use Rattle.reading.proofs.Item.{the-type}
 use Rattle.read_items.proofs.Bounds.{Placed, item-bounds}
 use Rattle.reader.specs.Values.{endedAt, ended, past, valueFrom, valueAt}
-use Rattle.reader.proofs.Walks.{walk-at-end, walk-ended, walk-past, value-leaf, value-container, value-goes-on}
+use Rattle.reader.proofs.Walks.{walk-at-end, walk-ended, walk-past, value-int, value-leaf, value-container, value-goes-on}
 use borrow.Fn.Kinds.{In}
 use borrow.Fn.PlainCycle.{Measures, is, falls, and}
 use Rattle.reader.proofs.body.Reads as body
@@ -30,6 +30,7 @@ use Rattle.reader.proofs.+body+value.Lts-body as body-lts
 use Rattle.reader.proofs.value.Reads as value
 use Rattle.reader.proofs.value.Kinds as value-kinds
 use Rattle.reader.proofs.+body+value.Lts-value as value-lts
+use Rattle.read_items.proofs.int_end.Reads as int-end-reads
 use Rattle.read_items.proofs.is_container.Reads as is-container-reads
 use Rattle.read_items.proofs.item.Reads as item-reads
 use Rattle.read_items.proofs.least_after.Reads as least-after-reads
@@ -62,6 +63,8 @@ body-calls t = (value-below t, value.Post, ended-by-reads.Asked, ended-by-reads.
 
 abbrev value-calls : ℕ → value-lts.Claims
 value-calls t = (
+  int-end-reads.Asked,
+  int-end-reads.Learnt,
   item-reads.Asked,
   item-reads.Learnt,
   ended-at-reads.Asked,
@@ -115,7 +118,7 @@ abbrev Start : ℕ → Type 0
 Start t = value-lts.Start (value-calls t) (value-at t) value.Post
 
 abbrev start-of : (t : ℕ) → Found t → Start t
-start-of t c = c .before .before .before .before .before
+start-of t c = c .before .before .before .before .before .before .before
 
 found-is : (t : ℕ) (c : Found t) → let a = start-of t c .args in let g = c .before .found .given .0 in
     itemAt (a .s .now) (a .parent) (a .least) (a .depth) (a .at) ≡ I.Is (g .0) (g .1 .0) (g .1 .1 .0) (g .1 .1 .1 .0) (g .1 .1 .1 .1 .0) (g .1 .1 .1 .1 .1 .0)
@@ -177,6 +180,14 @@ body-returns-2 t c =
 
 -- ---- the value
 
+value-int-end-requires : (t : ℕ) → value-lts.Need-int-end-requires (value-calls t) (value-at t) value.Post
+value-int-end-requires t c κs = search needs
+
+value-returns : (t : ℕ) → value-lts.Need-returns (value-calls t) (value-at t) value.Post
+value-returns t c = λ f h.
+    let i = c .before in let a = i .before .before .args in
+    value-int f (a .s .now) (a .parent) (a .least) (a .depth) (a .at) (i .int-end .result) (i .int-end .ensures) (c .if1 .taken)
+
 value-item-requires : (t : ℕ) → value-lts.Need-item-requires (value-calls t) (value-at t) value.Post
 value-item-requires t c κs = search needs
 
@@ -186,10 +197,10 @@ value-enum-known-found t c = search needs
 value-ended-at-requires : (t : ℕ) → value-lts.Need-ended-at-requires (value-calls t) (value-at t) value.Post
 value-ended-at-requires t c κs = search needs
 
-value-returns : (t : ℕ) → value-lts.Need-returns (value-calls t) (value-at t) value.Post
+value-returns-2 : (t : ℕ) → value-lts.Need-returns-2 (value-calls t) (value-at t) value.Post
 unfolding valueAt
-value-returns t c = λ f h.
-    let i = c .before .before in let a = i .before .before .args in
+value-returns-2 t c = λ f h.
+    let i = c .before .before in let a = i .before .before .before .before .args in
     ap Val.Ended (c .ended-at .ensures) ∙ not-an-item f (a .s .now) (a .least) (a .depth) (a .at) (i .item .result) (c .before .match .keys2)
     ∙ ap (valueFrom f (a .s .now) (a .least) (a .depth) (a .at)) (i .item .ensures)
 
@@ -205,7 +216,7 @@ value-slice-aggregate-body t c = sym (prefix t (c .before .before .before .befor
 value-add-body : (t : ℕ) → value-lts.Need-add-body (value-calls t) (value-at t) value.Post
 value-add-body t c =
     let d = c .before .before .before in let k = d .before in
-    let room = placed t k .room (sym (c .before .before .is-container .ensures) ∙ c .before .if1 .taken) in
+    let room = placed t k .room (sym (c .before .before .is-container .ensures) ∙ c .before .if2 .taken) in
     omega (arith, room)
 
 value-body-requires : (t : ℕ) → value-lts.Need-body-requires (value-calls t) (value-at t) value.Post
@@ -216,18 +227,18 @@ value-body-requires t c κs =
 value-past-container-requires : (t : ℕ) → value-lts.Need-past-container-requires (value-calls t) (value-at t) value.Post
 value-past-container-requires t c κs = search needs
 
-value-returns-2 : (t : ℕ) → value-lts.Need-returns-2 (value-calls t) (value-at t) value.Post
-value-returns-2 t c = λ f h.
-    let b = c .before in let x = b .before .before .before in let l = x .before in let k = l .before in let a = start-of t k .args in let w = placed t k .held in let g = k .before .found .given .0 in
-    c .past-container .ensures ∙ ap (past (b .body .result) (g .1 .1 .1 .1 .1 .0)) (l .least-after .ensures)
-    ∙ value-container f (a .s .now) (a .parent) (a .least) (a .depth) (a .at) _ _ _ _ _ _ (found-is t k) (b .body .result) (sym (x .is-container .ensures) ∙ b .before .before .if1 .taken)
-    (b .body .ensures f (omega (arith, prefix t k, w .after, w .sids, w .before, w .body, w .within)))
-
 value-returns-3 : (t : ℕ) → value-lts.Need-returns-3 (value-calls t) (value-at t) value.Post
 value-returns-3 t c = λ f h.
+    let b = c .before in let x = b .before .before .before in let l = x .before in let k = l .before in let a = start-of t k .args in let w = placed t k .held in let g = k .before .found .given .0 in
+    c .past-container .ensures ∙ ap (past (b .body .result) (g .1 .1 .1 .1 .1 .0)) (l .least-after .ensures)
+    ∙ value-container f (a .s .now) (a .parent) (a .least) (a .depth) (a .at) _ _ _ _ _ _ (found-is t k) (b .body .result) (sym (x .is-container .ensures) ∙ b .before .before .if2 .taken)
+    (b .body .ensures f (omega (arith, prefix t k, w .after, w .sids, w .before, w .body, w .within)))
+
+value-returns-4 : (t : ℕ) → value-lts.Need-returns-4 (value-calls t) (value-at t) value.Post
+value-returns-4 t c = λ f h.
     let x = c .before in let l = x .before in let k = l .before in let a = start-of t k .args in let g = k .before .found .given .0 in
     ap (Val.Is (g .1 .1 .1 .1 .1 .0)) (l .least-after .ensures)
-    ∙ value-leaf f (a .s .now) (a .parent) (a .least) (a .depth) (a .at) _ _ _ _ _ _ (found-is t k) (sym (x .is-container .ensures) ∙ c .if1 .left)
+    ∙ value-leaf f (a .s .now) (a .parent) (a .least) (a .depth) (a .at) _ _ _ _ _ _ (found-is t k) (sym (x .is-container .ensures) ∙ c .if2 .left)
 
 pub +body+value-spec : {M : Type 1} → statement M
 +body+value-spec = close μ-body μ-value (λ t. body-lts.spec (body-calls t)
@@ -247,15 +258,17 @@ pub +body+value-spec : {M : Type 1} → statement M
     λ t. value-lts.spec (value-calls t)
     (value-at t)
     value.Post
+    (value-int-end-requires t)
+    (value-returns t)
     (value-item-requires t)
     (value-enum-known-found t)
     (value-ended-at-requires t)
-    (value-returns t)
+    (value-returns-2 t)
     (value-least-after-requires t)
     (value-is-container-requires t)
     (value-slice-aggregate-body t)
     (value-add-body t)
     (value-body-requires t)
     (value-past-container-requires t)
-    (value-returns-2 t)
     (value-returns-3 t)
+    (value-returns-4 t)
