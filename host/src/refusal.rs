@@ -56,6 +56,7 @@ pub(crate) fn answer(number: u8) -> Result<(), Refusal> {
 
 // cold, so that none of it stands in the way of an accepted call
 #[cold]
+#[inline(never)]
 fn refusal(number: u8) -> Refusal {
     match number {
         1 => Refusal::BufferTooLong,

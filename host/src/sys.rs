@@ -65,18 +65,18 @@ extern "C" {
 }
 
 /// The two parts of a slice that crosses.
-#[inline]
+#[inline(always)]
 fn lend(slice: &[u8]) -> (*const u8, usize) {
     (slice.as_ptr(), slice.len())
 }
 
-#[inline]
+#[inline(always)]
 fn lend_mut(slice: &mut [u8]) -> (*mut u8, usize) {
     (slice.as_mut_ptr(), slice.len())
 }
 
 /// A start: the empty state over a buffer that begins with a version marker. Refused, the state becomes the empty one with used length 0.
-#[inline]
+#[inline(always)]
 pub fn start(state: &mut [u8], buf: &mut [u8]) -> Result<(), Refusal> {
     let (state, state_len) = lend_mut(state);
     let (buf, buf_len) = lend_mut(buf);
@@ -85,7 +85,7 @@ pub fn start(state: &mut [u8], buf: &mut [u8]) -> Result<(), Refusal> {
 
 /// A null of the type with this code of the Ion document: 0 null, 1 bool, 2 int, 4 float, 5 decimal, 6 timestamp, 7 symbol, 8 string,
 /// 9 clob, 10 blob, 11 list, 12 sexp, 13 struct. 3 is int too, and a number past 13 is null.
-#[inline]
+#[inline(always)]
 pub fn write_null(state: &mut [u8], buf: &mut [u8], annotations: &[u8], code: u8) -> Result<(), Refusal> {
     let (state, state_len) = lend_mut(state);
     let (buf, buf_len) = lend_mut(buf);
@@ -94,7 +94,7 @@ pub fn write_null(state: &mut [u8], buf: &mut [u8], annotations: &[u8], code: u8
 }
 
 /// A bool.
-#[inline]
+#[inline(always)]
 pub fn write_bool(state: &mut [u8], buf: &mut [u8], annotations: &[u8], value: bool) -> Result<(), Refusal> {
     let (state, state_len) = lend_mut(state);
     let (buf, buf_len) = lend_mut(buf);
@@ -103,7 +103,7 @@ pub fn write_bool(state: &mut [u8], buf: &mut [u8], annotations: &[u8], value: b
 }
 
 /// An int of 64 bits with its sign.
-#[inline]
+#[inline(always)]
 pub fn write_i64(state: &mut [u8], buf: &mut [u8], annotations: &[u8], value: i64) -> Result<(), Refusal> {
     let (state, state_len) = lend_mut(state);
     let (buf, buf_len) = lend_mut(buf);
@@ -112,7 +112,7 @@ pub fn write_i64(state: &mut [u8], buf: &mut [u8], annotations: &[u8], value: i6
 }
 
 /// An int of any size: its sign, and its magnitude from the highest byte on.
-#[inline]
+#[inline(always)]
 pub fn write_int(state: &mut [u8], buf: &mut [u8], annotations: &[u8], negative: bool, magnitude: &[u8]) -> Result<(), Refusal> {
     let (state, state_len) = lend_mut(state);
     let (buf, buf_len) = lend_mut(buf);
@@ -134,7 +134,7 @@ pub fn write_int(state: &mut [u8], buf: &mut [u8], annotations: &[u8], negative:
 }
 
 /// A float by the bits of binary32.
-#[inline]
+#[inline(always)]
 pub fn write_f32(state: &mut [u8], buf: &mut [u8], annotations: &[u8], bits: u32) -> Result<(), Refusal> {
     let (state, state_len) = lend_mut(state);
     let (buf, buf_len) = lend_mut(buf);
@@ -143,7 +143,7 @@ pub fn write_f32(state: &mut [u8], buf: &mut [u8], annotations: &[u8], bits: u32
 }
 
 /// A float by the bits of binary64, in four bytes where binary32 holds it.
-#[inline]
+#[inline(always)]
 pub fn write_f64(state: &mut [u8], buf: &mut [u8], annotations: &[u8], bits: u64) -> Result<(), Refusal> {
     let (state, state_len) = lend_mut(state);
     let (buf, buf_len) = lend_mut(buf);
@@ -152,7 +152,7 @@ pub fn write_f64(state: &mut [u8], buf: &mut [u8], annotations: &[u8], bits: u64
 }
 
 /// A decimal: its sign, its coefficient from the highest byte on, its exponent.
-#[inline]
+#[inline(always)]
 pub fn write_decimal(
     state: &mut [u8],
     buf: &mut [u8],
@@ -182,7 +182,7 @@ pub fn write_decimal(
 }
 
 /// A timestamp by its local fields and its offset.
-#[inline]
+#[inline(always)]
 pub fn write_timestamp(state: &mut [u8], buf: &mut [u8], annotations: &[u8], value: Timestamp) -> Result<(), Refusal> {
     let (known, offset) = match value.offset {
         Some(minutes) => (1, minutes),
@@ -220,7 +220,7 @@ pub fn write_timestamp(state: &mut [u8], buf: &mut [u8], annotations: &[u8], val
 }
 
 /// A symbol by its sid.
-#[inline]
+#[inline(always)]
 pub fn write_symbol(state: &mut [u8], buf: &mut [u8], annotations: &[u8], sid: u64) -> Result<(), Refusal> {
     let (state, state_len) = lend_mut(state);
     let (buf, buf_len) = lend_mut(buf);
@@ -229,7 +229,7 @@ pub fn write_symbol(state: &mut [u8], buf: &mut [u8], annotations: &[u8], sid: u
 }
 
 /// A string, in UTF-8.
-#[inline]
+#[inline(always)]
 pub fn write_string(state: &mut [u8], buf: &mut [u8], annotations: &[u8], bytes: &[u8]) -> Result<(), Refusal> {
     let (state, state_len) = lend_mut(state);
     let (buf, buf_len) = lend_mut(buf);
@@ -239,7 +239,7 @@ pub fn write_string(state: &mut [u8], buf: &mut [u8], annotations: &[u8], bytes:
 }
 
 /// A clob.
-#[inline]
+#[inline(always)]
 pub fn write_clob(state: &mut [u8], buf: &mut [u8], annotations: &[u8], bytes: &[u8]) -> Result<(), Refusal> {
     let (state, state_len) = lend_mut(state);
     let (buf, buf_len) = lend_mut(buf);
@@ -249,7 +249,7 @@ pub fn write_clob(state: &mut [u8], buf: &mut [u8], annotations: &[u8], bytes: &
 }
 
 /// A blob.
-#[inline]
+#[inline(always)]
 pub fn write_blob(state: &mut [u8], buf: &mut [u8], annotations: &[u8], bytes: &[u8]) -> Result<(), Refusal> {
     let (state, state_len) = lend_mut(state);
     let (buf, buf_len) = lend_mut(buf);
@@ -259,7 +259,7 @@ pub fn write_blob(state: &mut [u8], buf: &mut [u8], annotations: &[u8], bytes: &
 }
 
 /// A field name.
-#[inline]
+#[inline(always)]
 pub fn field_name(state: &mut [u8], buf: &mut [u8], sid: u64) -> Result<(), Refusal> {
     let (state, state_len) = lend_mut(state);
     let (buf, buf_len) = lend_mut(buf);
@@ -267,7 +267,7 @@ pub fn field_name(state: &mut [u8], buf: &mut [u8], sid: u64) -> Result<(), Refu
 }
 
 /// The opening of a list.
-#[inline]
+#[inline(always)]
 pub fn open_list(state: &mut [u8], buf: &mut [u8], annotations: &[u8]) -> Result<(), Refusal> {
     let (state, state_len) = lend_mut(state);
     let (buf, buf_len) = lend_mut(buf);
@@ -276,7 +276,7 @@ pub fn open_list(state: &mut [u8], buf: &mut [u8], annotations: &[u8]) -> Result
 }
 
 /// The opening of an s-expression.
-#[inline]
+#[inline(always)]
 pub fn open_sexp(state: &mut [u8], buf: &mut [u8], annotations: &[u8]) -> Result<(), Refusal> {
     let (state, state_len) = lend_mut(state);
     let (buf, buf_len) = lend_mut(buf);
@@ -285,7 +285,7 @@ pub fn open_sexp(state: &mut [u8], buf: &mut [u8], annotations: &[u8]) -> Result
 }
 
 /// The opening of a struct.
-#[inline]
+#[inline(always)]
 pub fn open_struct(state: &mut [u8], buf: &mut [u8], annotations: &[u8]) -> Result<(), Refusal> {
     let (state, state_len) = lend_mut(state);
     let (buf, buf_len) = lend_mut(buf);
@@ -294,7 +294,7 @@ pub fn open_struct(state: &mut [u8], buf: &mut [u8], annotations: &[u8]) -> Resu
 }
 
 /// The closing of the innermost container.
-#[inline]
+#[inline(always)]
 pub fn close(state: &mut [u8], buf: &mut [u8]) -> Result<Closed, Refusal> {
     let mut size = [0; 4];
     close_into(state, buf, &mut size)?;
@@ -304,7 +304,7 @@ pub fn close(state: &mut [u8], buf: &mut [u8]) -> Result<Closed, Refusal> {
 }
 
 /// The library puts as many of its numbers into `closed` as that holds whole, so one with more numbers than are asked for fits too.
-#[inline]
+#[inline(always)]
 fn close_into(state: &mut [u8], buf: &mut [u8], closed: &mut [u8]) -> Result<(), Refusal> {
     let (state, state_len) = lend_mut(state);
     let (buf, buf_len) = lend_mut(buf);
@@ -313,7 +313,7 @@ fn close_into(state: &mut [u8], buf: &mut [u8], closed: &mut [u8]) -> Result<(),
 }
 
 /// The abandonment of the innermost container: its bytes are given back, and a name before it waits again.
-#[inline]
+#[inline(always)]
 pub fn abandon(state: &mut [u8], buf: &mut [u8]) -> Result<(), Refusal> {
     let (state, state_len) = lend_mut(state);
     let (buf, buf_len) = lend_mut(buf);
@@ -321,7 +321,7 @@ pub fn abandon(state: &mut [u8], buf: &mut [u8]) -> Result<(), Refusal> {
 }
 
 /// A version marker, at the place of the call.
-#[inline]
+#[inline(always)]
 pub fn version_marker(state: &mut [u8], buf: &mut [u8]) -> Result<(), Refusal> {
     let (state, state_len) = lend_mut(state);
     let (buf, buf_len) = lend_mut(buf);
@@ -329,7 +329,7 @@ pub fn version_marker(state: &mut [u8], buf: &mut [u8]) -> Result<(), Refusal> {
 }
 
 /// An emptying: the used length becomes 0, and no byte of the buffer alters.
-#[inline]
+#[inline(always)]
 pub fn empty(state: &mut [u8], buf: &[u8]) -> Result<(), Refusal> {
     let (state, state_len) = lend_mut(state);
     let (buf, buf_len) = lend(buf);
@@ -338,7 +338,7 @@ pub fn empty(state: &mut [u8], buf: &[u8]) -> Result<(), Refusal> {
 
 /// A taking: the finished bytes, as a part of the lent buffer. The part is empty if a container is open, a field name waits, or the
 /// state or buffer would be refused by 1 or 2.
-#[inline]
+#[inline(always)]
 pub fn finished<'b>(state: &[u8], buf: &'b [u8]) -> &'b [u8] {
     let length = unsafe { gm_finished(state.as_ptr(), state.len(), buf.as_ptr(), buf.len()) };
     buf.get(..length).unwrap_or(&[])
@@ -346,7 +346,7 @@ pub fn finished<'b>(state: &[u8], buf: &'b [u8]) -> &'b [u8] {
 
 /// Sids as the entry points read them, eight little-endian bytes each.
 #[cfg(target_endian = "little")]
-#[inline]
+#[inline(always)]
 pub fn sid_bytes(sids: &[u64]) -> &[u8] {
     // Sound: a u64 has eight bytes, all of them set, and bytes need no alignment. On such a machine they lie least significant first.
     unsafe { core::slice::from_raw_parts(sids.as_ptr().cast(), core::mem::size_of_val(sids)) }
@@ -399,7 +399,7 @@ pub struct ItemParts {
 }
 
 /// The item at a place, by its parts.
-#[inline]
+#[inline(always)]
 pub fn read_item(stream: &[u8], place: Place) -> Result<ItemParts, Refusal> {
     let mut item = [0; 6];
     let (stream, stream_len) = lend(stream);
@@ -436,7 +436,7 @@ pub fn read_item(stream: &[u8], place: Place) -> Result<ItemParts, Refusal> {
 
 /// Reads and checks all from a place to the end of what holds it, containers entered. Refused, it answers where the item begins that
 /// does not read.
-#[inline]
+#[inline(always)]
 pub fn read_rest(stream: &[u8], place: Place) -> Result<(), ReadRefusal> {
     let Place {
         end,
@@ -467,7 +467,7 @@ pub fn read_rest(stream: &[u8], place: Place) -> Result<(), ReadRefusal> {
 }
 
 /// A sid at a position of the annotations, or of any VarUInts; and the position behind it.
-#[inline]
+#[inline(always)]
 pub fn read_sid(part: &[u8], position: usize) -> Result<(u64, usize), Refusal> {
     let mut sid = [0; 2];
     let (part, part_len) = lend(part);
@@ -477,7 +477,7 @@ pub fn read_sid(part: &[u8], position: usize) -> Result<(u64, usize), Refusal> {
 
 /// A decimal's body: whether its exponent is negative, the exponent's magnitude, and where in the body the coefficient starts. That is an
 /// Int: the top bit of its first byte is its sign.
-#[inline]
+#[inline(always)]
 pub fn read_decimal(body: &[u8]) -> Result<[u64; 3], Refusal> {
     let mut decimal = [0; 3];
     let (body, body_len) = lend(body);
@@ -487,7 +487,7 @@ pub fn read_decimal(body: &[u8]) -> Result<[u64; 3], Refusal> {
 
 /// A timestamp's body: whether its offset is known, whether that is negative, and its minutes; how many fields there are; year, month,
 /// day, hour, minute and second of UTC; how many digits the fraction has, and where in the body their coefficient starts, an Int.
-#[inline]
+#[inline(always)]
 pub fn read_timestamp(body: &[u8]) -> Result<[u64; 12], Refusal> {
     let mut timestamp = [0; 12];
     let (body, body_len) = lend(body);
@@ -496,7 +496,7 @@ pub fn read_timestamp(body: &[u8]) -> Result<[u64; 12], Refusal> {
 }
 
 /// A symbol's body: its sid.
-#[inline]
+#[inline(always)]
 pub fn read_symbol(body: &[u8]) -> Result<u64, Refusal> {
     let mut sid = [0];
     let (body, body_len) = lend(body);

@@ -313,7 +313,7 @@ impl<'w> Open<'w> {
         }
     }
 
-    #[inline]
+    #[inline(always)]
     fn close(self) -> Result<Closed, Refusal> {
         let closed = sys::close(self.state, self.buf)?;
         mem::forget(self);
@@ -356,7 +356,7 @@ impl SexpWriter<'_> {
 
 impl StructWriter<'_> {
     /// Writes the name of the field whose value is next.
-    #[inline]
+    #[inline(always)]
     pub fn field_name(&mut self, sid: u64) -> Result<&mut Self, Refusal> {
         sys::field_name(self.0.state, self.0.buf, sid)?;
         Ok(self)
