@@ -1,7 +1,7 @@
 -- A timestamp as the writer is given it, and its body: document 01's modules types/timestamp and binary/timestamp.
 -- The fields are local, from the year down: 1, 2, 3, 5 or 6 of them, by the precision.
 -- Assumes nothing.
-use Prim.Native.Nat.{ℕ, suc, _+_, _-_, _*_, _/_, _%_, _^_, _≤_}
+use Prim.Native.Nat.{ℕ, suc, _+_, _-_, _*_, _/_, _%_, _^_, _≤_, _<_}
 use mathlib.Core.Path.{_≡_}
 use mathlib.Core.Bool.{Bool, true, false, cond, _&&_, not}
 use mathlib.Core.List.{List, [], _∷_, _++_}
@@ -10,8 +10,9 @@ use lib.Dec.{ltb, leb, eqb}
 use lib.ListN.{length, take, drop, getD}
 use lib.IntN.{ℤ, pos, negsuc, natAbs, negℤ, _-ℤ_}
 use Rattle.ion.specs.Value.{signed, Fraction, noFraction, fraction}
-use Rattle.ion.specs.Calendar.{daysInMonth, isMonth, minuteNumber}
+use Rattle.ion.specs.Calendar.{daysInMonth, isMonth, isDay, isCalendarYear, minuteNumber, minuteOf}
 use Rattle.ion.specs.Scalars.{areFields}
+use Rattle.ion.specs.OutOfCalendar.{isCalendarMinute, outOfCalendar}
 use Rattle.encoding.specs.Fields.{varUIntsBytes, varIntBytes, signedOf, uintBytes}
 use Rattle.encoding.specs.Decimal.{decimalBody}
 
@@ -63,7 +64,7 @@ utc (some z) (y ∷ m ∷ d ∷ h ∷ i ∷ r) = utcFields (utcMinutes z h i) y 
 -- ---- check 7: a rule for each field that is there; the first field that breaks its rule answers
 
 pub data TimestampField : Type 0 where
-  yearField monthField dayField hourField minuteField secondField offsetField digitCountField coefficientField : TimestampField
+  yearField monthField dayField hourField minuteField secondField offsetField digitCountField coefficientField utcYearField : TimestampField
 
 -- a field, its value, and whether its rule holds
 pub record TimestampRule : Type 0 where
@@ -73,7 +74,7 @@ pub record TimestampRule : Type 0 where
 
 -- year 1 to 9999
 abbrev pub yearRule : ℕ → TimestampRule
-yearRule y = record { field = yearField; value = pos y; holds = leb 1 y && leb y 9999 }
+yearRule y = record { field = yearField; value = pos y; holds = isCalendarYear y }
 
 -- real calendar day
 abbrev pub monthRule : ℕ → TimestampRule
@@ -112,9 +113,19 @@ fractionRules (fraction k c) fs =
     ∷ record { field = coefficientField; value = pos c; holds = ltb c (10 ^ k) }
     ∷ []
 
+abbrev pub localRules : Option ℤ → List ℕ → Fraction → List TimestampRule
+localRules offset fs x = fieldRules fs ++ (offsetRules offset fs ++ fractionRules x fs)
+
+-- the UTC year 1 to 9999 (document 02, Item 2); with no offset known it is the local one
+abbrev pub utcYearRules : Option ℤ → List ℕ → List TimestampRule
+utcYearRules none fs = []
+utcYearRules (some z) fs =
+    let y : ℕ = getD (utc (some z) fs) 0 0 in
+    record { field = utcYearField; value = pos y; holds = isCalendarYear y } ∷ []
+
 -- in the order in which they answer
 abbrev pub timestampRules : Option ℤ → List ℕ → Fraction → List TimestampRule
-timestampRules offset fs x = fieldRules fs ++ (offsetRules offset fs ++ fractionRules x fs)
+timestampRules offset fs x = localRules offset fs x ++ utcYearRules offset fs
 
 abbrev pub firstBad : List TimestampRule → Option TimestampRule
 firstBad [] = none
@@ -127,6 +138,10 @@ isNone (some x) = false
 -- year, month, day, minute or second: with an hour there is a minute. No call has another count of fields.
 abbrev pub isPrecision : ℕ → Bool
 isPrecision n = leb 1 n && (leb n 6 && not (eqb n 4))
+
+-- before UTC is looked at
+unfoldable pub isLocalTimestamp : Option ℤ → List ℕ → Fraction → Bool
+isLocalTimestamp offset fs x = isPrecision (length fs) && isNone (firstBad (localRules offset fs x))
 
 unfoldable pub isTimestamp : Option ℤ → List ℕ → Fraction → Bool
 isTimestamp offset fs x = isPrecision (length fs) && isNone (firstBad (timestampRules offset fs x))
@@ -146,10 +161,6 @@ timestampBody offset fs x = offsetBytes offset ++ (varUIntsBytes (utc offset fs)
 
 -- ---- `utc` by the calendar: what proofs/Calendar.antt and proofs/Timestamp.antt prove of it. The four together leave it no choice.
 
--- the minute of fields that have one, by its number
-abbrev pub minuteOf : List ℕ → ℤ
-minuteOf fs = pos (minuteNumber (getD fs 0 0) (getD fs 1 0) (getD fs 2 0) (getD fs 3 0) (getD fs 4 0))
-
 -- The UTC minute is the local minute minus the offset.
 abbrev pub UtcIsLocalMinusOffset : Type 0
 UtcIsLocalMinusOffset = (z : ℤ) (fs : List ℕ) (x : Fraction) → isTimestamp (some z) fs x ≡ true → minuteOf (utc (some z) fs) ≡ minuteOf fs -ℤ z
@@ -166,3 +177,14 @@ UtcAreFields = (o : Option ℤ) (fs : List ℕ) (x : Fraction) → isTimestamp o
 abbrev pub MinuteUnique : Type 0
 MinuteUnique =
     (fs gs : List ℕ) → areFields fs ≡ true → areFields gs ≡ true → 5 ≤ length fs → 5 ≤ length gs → minuteOf fs ≡ minuteOf gs → take 5 fs ≡ take 5 gs
+
+-- ---- the calendar's years by their minutes, and what the writer takes of them: proofs/Calendar.antt
+
+-- Of every time of day in every year from 0 on: its minute is one of the calendar's exactly if its year is.
+abbrev pub YearByMinute : Type 0
+YearByMinute =
+    (y m d h i : ℕ) → isDay y m d ≡ true → h < 24 → i < 60 → isCalendarMinute (pos (minuteNumber y m d h i)) ≡ isCalendarYear y
+
+-- What is written is never marked.
+abbrev pub NeverMarked : Type 0
+NeverMarked = (o : Option ℤ) (fs : List ℕ) (x : Fraction) → isTimestamp o fs x ≡ true → outOfCalendar o (utc o fs) ≡ false

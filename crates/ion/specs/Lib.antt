@@ -4,5 +4,6 @@ pub mod Fields
 pub mod Text
 pub mod Calendar
 pub mod Scalars
+pub mod OutOfCalendar
 pub mod Grammar
 pub mod Ieee

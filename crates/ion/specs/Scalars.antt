@@ -48,7 +48,7 @@ offsetOf (signed false n) = some (pos n)
 offsetOf (signed true zero) = none
 offsetOf (signed true (suc n)) = some (negsuc n)
 
--- Years 0 to 10000: document 01 admits those two UTC years beside the calendar's.
+-- Years 0 to 10000: files hold those two UTC years beside the calendar's, and remain readable (document 02, Item 2).
 abbrev pub isYear : ℕ → Bool
 isYear y = leb y 10000
 

@@ -3,7 +3,7 @@
 -- Assumes nothing.
 use Prim.Native.Nat.{ℕ}
 use mathlib.Core.Bool.{Bool}
-use mathlib.Core.List.{List}
+use mathlib.Core.List.{List, [], _∷_, _++_}
 use mathlib.Core.Option.{Option, none, some}
 use lib.IntN.{ℤ}
 
@@ -110,3 +110,24 @@ pub data Item (S : Type 0) : Type 0 where
 
 abbrev pub Value : Type 0
 Value = Tree Scalar
+
+-- ---- the leaves of what a stream holds, in their order
+
+unfoldable mutual
+  pub treeLeaves : {S : Type 0} → Tree S → List S
+  treeLeaves (scalar an s) = s ∷ []
+  treeLeaves (sequence an k vs) = membersLeaves vs
+  treeLeaves (struct an fs) = fieldsLeaves fs
+
+  pub membersLeaves : {S : Type 0} → Members S → List S
+  membersLeaves noMembers = []
+  membersLeaves (member v vs) = treeLeaves v ++ membersLeaves vs
+
+  pub fieldsLeaves : {S : Type 0} → Fields S → List S
+  fieldsLeaves noFields = []
+  fieldsLeaves (field n v fs) = treeLeaves v ++ fieldsLeaves fs
+
+unfoldable pub leaves : {S : Type 0} → List (Item S) → List S
+leaves [] = []
+leaves (marker ∷ is) = leaves is
+leaves (value v ∷ is) = treeLeaves v ++ leaves is

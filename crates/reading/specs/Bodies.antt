@@ -7,15 +7,17 @@ use mathlib.Core.List.{List, [], _∷_}
 use mathlib.Core.Option.{Option, none, some}
 use lib.Dec.{ltb, eqb}
 use lib.ListN.{length, getD}
-use Rattle.ion.specs.Value.{Signed, signed, Fraction, noFraction, fraction}
+use Rattle.ion.specs.Value.{Signed, signed, Fraction, noFraction, fraction, Scalar}
 use Rattle.ion.specs.Fields.{uint, intField, varUInts, varInt}
-use Rattle.ion.specs.Scalars.{areFields, fractionOf}
+use Rattle.ion.specs.Scalars.{areFields, fractionOf, timestampOf}
+use Rattle.ion.specs.OutOfCalendar.{isMarked}
 use Rattle.reading.specs.declared.Refusal.{Refusal}
 use Rattle.reading.specs.declared.Refusal.the-variants.{NotIon}
 use Rattle.reading.specs.declared.Decimal.{Decimal}
 use Rattle.reading.specs.declared.Decimal.the-variants as D
 use Rattle.reading.specs.declared.Timestamp.{Timestamp}
 use Rattle.reading.specs.declared.Timestamp.the-variants as T
+use Rattle.reading.specs.declared.Shown.{Shown}
 use Rattle.reading.specs.declared.Symbol.{Symbol}
 use Rattle.reading.specs.declared.Symbol.the-variants as S
 
@@ -71,6 +73,15 @@ offsetFrom size (some o) = fieldsFrom size (o .0) (varUInts 6 (o .1))
 
 unfoldable pub timestampIn : List ℕ → Timestamp
 timestampIn b = offsetFrom (length b) (varInt b)
+
+-- the mark of a body that reads
+abbrev pub markIn : Option Scalar → Bool
+markIn none = false
+markIn (some x) = isMarked x
+
+-- what the reader shows: the mark beside the timestamp
+unfoldable pub shownIn : List ℕ → Shown
+shownIn b = record { timestamp = timestampIn b; out-of-calendar = markIn (timestampOf b) }
 
 -- ---- "7: symbol": a UInt of 64 bits at most
 
