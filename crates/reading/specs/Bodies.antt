@@ -81,7 +81,7 @@ markIn (some x) = isMarked x
 
 -- what the reader shows: the mark beside the timestamp
 unfoldable pub shownIn : List ℕ → Shown
-shownIn b = record { timestamp = timestampIn b; out-of-calendar = markIn (timestampOf b) }
+shownIn b = record { timestamp = timestampIn b; marked = markIn (timestampOf b) }
 
 -- ---- "7: symbol": a UInt of 64 bits at most
 

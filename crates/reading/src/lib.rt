@@ -92,7 +92,7 @@ pub enum Timestamp {
 // What the reader shows of a timestamp's body: the timestamp, and beside it the out-of-calendar mark (document 02, Item 2), false where there is none.
 pub struct Shown {
     pub timestamp: Timestamp,
-    pub out_of_calendar: bool,
+    pub marked: bool,
 }
 
 // A symbol's body: its sid.
