@@ -156,6 +156,8 @@ pub fn order_of_refusals() -> Vec<String> {
         "(ts ? 2000 13)",
         "(ann (\"go\") (ts ? 2000 13))",
         "(ts ? 2000 1 1 0 0 0 0 0)",
+        "(ts 60 1 1 1 0 30)",
+        "(ann (\"go\") (ts -60 9999 12 31 23 30))",
         "(dec ffffffffffffffffffffffffffffffffffffffffffffffffffffffffffffff 0)",
         "(ann (\"go\") (dec ffffffffffffffffffffffffffffffffffffffffffffffffffffffffffffff 0))",
         "(bool 2)",
