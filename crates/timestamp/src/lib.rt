@@ -12,7 +12,7 @@ ghost use Rattle.buffer.specs.Laid.{placed};
 ghost use Rattle.encoding.specs.Fields.{varUIntBytes, varUIntsBytes};
 ghost use Rattle.encoding.specs.Argument.{checkedBytes};
 ghost use Rattle.encoding.specs.Timestamp.{offsetBytes, fractionBytes, dayBefore, dayAfter, utcMinutes, utcDay, utcFields, utc};
-ghost use Rattle.encoding.specs.Timestamp.{yearRule, monthRule, dayRule, offsetRules, fractionRules, firstBad, isNone, isTimestamp};
+ghost use Rattle.encoding.specs.Timestamp.{yearRule, monthRule, dayRule, offsetRules, fractionRules, firstBad, isNone, isLocalTimestamp, isTimestamp};
 ghost use Rattle.timestamp.specs.Arguments.{offsetMinutes, fractionDigits, fieldsBy, fieldsOf, argumentOf};
 ghost use Rattle.timestamp.specs.Utc.{dateOf, withFields, utcOf};
 ghost use Rattle.timestamp.specs.Small.{SmallOffset, SmallFields, SmallFraction, Small, bodyOf, valueOf};
@@ -173,9 +173,9 @@ fn fraction_fits(fraction: Fraction, fields: u32) -> bool
     }
 }
 
-// Year 1 to 9999, a day of the calendar, hour 0 to 23, minute and second 0 to 59, as far as the precision goes; then offset and fraction.
-pub fn is_valid(t: Timestamp) -> bool
-    ensures { λ r. ⌜ r ≡ isTimestamp (offsetMinutes (t .offset)) (fieldsOf t) (fractionDigits (t .fraction)) ⌝ }
+// The local fields, year 1 to 9999, a day of the calendar, hour 0 to 23, minute and second 0 to 59, as far as the precision goes; then offset and fraction.
+fn is_local(t: Timestamp) -> bool
+    ensures { λ r. ⌜ r ≡ isLocalTimestamp (offsetMinutes (t .offset)) (fieldsOf t) (fractionDigits (t .fraction)) ⌝ }
 {
     let precision = t.precision;
     let offset = t.offset;
@@ -272,9 +272,9 @@ fn at_minute(t: Timestamp, minutes: u32) -> Timestamp
     }
 }
 
-// Given that check 7 is passed. With no offset known the fields stay.
-fn utc_of_valid(t: Timestamp) -> Timestamp
-    requires { ⌜ isTimestamp (offsetMinutes (t .offset)) (fieldsOf t) (fractionDigits (t .fraction)) ≡ true ⌝ }
+// Given that the local rules are kept. With no offset known the fields stay.
+fn utc_of_local(t: Timestamp) -> Timestamp
+    requires { ⌜ isLocalTimestamp (offsetMinutes (t .offset)) (fieldsOf t) (fractionDigits (t .fraction)) ≡ true ⌝ }
     ensures { λ r. ⌜ r ≡ withFields t (utc (offsetMinutes (t .offset)) (fieldsOf t)) ⌝ }
 {
     let offset = t.offset;
@@ -284,9 +284,9 @@ fn utc_of_valid(t: Timestamp) -> Timestamp
     }
 }
 
-// The year of `utc_of_valid`.
+// The year of `utc_of_local`.
 fn utc_year(t: Timestamp) -> u32
-    requires { ⌜ isTimestamp (offsetMinutes (t .offset)) (fieldsOf t) (fractionDigits (t .fraction)) ≡ true ⌝ }
+    requires { ⌜ isLocalTimestamp (offsetMinutes (t .offset)) (fieldsOf t) (fractionDigits (t .fraction)) ≡ true ⌝ }
     ensures { λ r. ⌜ r ≡ withFields t (utc (offsetMinutes (t .offset)) (fieldsOf t)) .year ⌝ }
 {
     let offset = t.offset;
@@ -304,14 +304,28 @@ fn utc_year(t: Timestamp) -> u32
     }
 }
 
+// Check 7: the local rules, then the UTC year, which is 1 to 9999 too.
+pub fn is_valid(t: Timestamp) -> bool
+    ensures { λ r. ⌜ r ≡ isTimestamp (offsetMinutes (t .offset)) (fieldsOf t) (fractionDigits (t .fraction)) ⌝ }
+{
+    if !is_local(t) {
+        return false;
+    }
+    is_year(utc_year(t))
+}
+
 // The UTC fields in the place of the local ones, and the offset kept. A timestamp that does not pass check 7 stays as it is.
 pub fn to_utc(t: Timestamp) -> Timestamp
     ensures { λ r. ⌜ r ≡ utcOf t ⌝ }
 {
-    if !is_valid(t) {
+    if !is_local(t) {
         return t;
     }
-    utc_of_valid(t)
+    let in_utc = utc_of_local(t);
+    if !is_year(in_utc.year) {
+        return t;
+    }
+    in_utc
 }
 
 // ---- the bytes
@@ -469,11 +483,15 @@ fn put_value(buf: &mut [u8], at: usize, t: Timestamp) -> usize
 pub fn size(t: Timestamp) -> usize
     ensures { λ r. ⌜ r ≡ length (checkedBytes (argumentOf t)) ⌝ }
 {
-    if !is_valid(t) {
+    if !is_local(t) {
+        return 0;
+    }
+    let year = utc_year(t);
+    if !is_year(year) {
         return 0;
     }
     let mut by_year = t;
-    by_year.year = utc_year(t);
+    by_year.year = year;
     value_size(by_year)
 }
 
@@ -482,8 +500,12 @@ pub fn size(t: Timestamp) -> usize
 pub fn write(buf: &mut [u8], at: usize, t: Timestamp) -> usize
     ensures { λ r. ⌜ _≡_ {A = ℕ × List ℕ} (r, now (buf .exit)) (placed (now (buf .entry)) at (checkedBytes (argumentOf t))) ⌝ }
 {
-    if !is_valid(t) {
+    if !is_local(t) {
         return 0;
     }
-    put_value(buf, at, utc_of_valid(t))
+    let in_utc = utc_of_local(t);
+    if !is_year(in_utc.year) {
+        return 0;
+    }
+    put_value(buf, at, in_utc)
 }
