@@ -22,7 +22,7 @@ use Rattle.timestamp.specs.declared.Timestamp.{Timestamp}
 use Rattle.timestamp.specs.Arguments.{offsetMinutes, fractionDigits, fieldsBy, fieldsOf}
 use Rattle.timestamp.specs.Utc.{withFields}
 use Rattle.timestamp.specs.Small.{SmallOffset, AllSmall, SmallFields, SmallFraction, Small, bodyOf}
-use Rattle.timestamp.proofs.Calendar.{days-most}
+use Rattle.calendar.proofs.Months.{days-most}
 use Rattle.timestamp.proofs.Fields.{fieldsBy-year}
 use Rattle.timestamp.proofs.Valid.{fieldCount, Valid, valid, offset-known}
 use Rattle.timestamp.proofs.Utc.{dayBefore-day, dayBefore-month, dayBefore-year, dayAfter-day, dayAfter-month, dayAfter-year}

@@ -7,7 +7,6 @@ ghost use Prim.Native.Nat.{ℕ, _+_, _%_, _^_, _≤_, _<_};
 ghost use lib.Dec.{ltb, leb};
 ghost use lib.ListN.{length};
 ghost use lib.IntN.{natAbs};
-ghost use Rattle.ion.specs.Calendar.{isLeapYear, daysInMonth};
 ghost use Rattle.buffer.specs.Laid.{placed};
 ghost use Rattle.encoding.specs.Fields.{varUIntBytes, varUIntsBytes};
 ghost use Rattle.encoding.specs.Argument.{checkedBytes};
@@ -51,30 +50,6 @@ pub struct Timestamp {
     pub fraction: Fraction,
 }
 
-// ---- the calendar
-
-// In a year that is no leap year.
-const DAYS_IN_MONTH: [u32; 13] = [0, 31, 28, 31, 30, 31, 30, 31, 31, 30, 31, 30, 31];
-
-fn is_leap_year(year: u32) -> bool
-    ensures { λ r. ⌜ r ≡ isLeapYear year ⌝ }
-{
-    (year % 4 == 0) & ((year % 100 != 0) | (year % 400 == 0))
-}
-
-// The days of a month of the Gregorian calendar; 0 for a month that is not.
-pub fn days_in_month(year: u32, month: u32) -> u32
-    ensures { λ r. ⌜ r ≡ daysInMonth year month ⌝ }
-{
-    if (month == 2) & is_leap_year(year) {
-        return 29;
-    }
-    if 12 < month {
-        return 0;
-    }
-    DAYS_IN_MONTH[month as usize]
-}
-
 // ---- check 7
 
 fn is_year(year: u32) -> bool
@@ -93,7 +68,7 @@ fn is_month(month: u32) -> bool
 fn is_day(year: u32, month: u32, day: u32) -> bool
     ensures { λ r. ⌜ r ≡ dayRule year month day .holds ⌝ }
 {
-    (1 <= day) & (day <= days_in_month(year, month))
+    (1 <= day) & (day <= calendar::days_in_month(year, month))
 }
 
 // How many fields count, from the year down.
@@ -205,7 +180,7 @@ fn day_before(year: u32, month: u32, day: u32) -> Date
         return Date(year, month, day - 1);
     }
     if 1 < month {
-        return Date(year, month - 1, days_in_month(year, month - 1));
+        return Date(year, month - 1, calendar::days_in_month(year, month - 1));
     }
     Date(year - 1, 12, 31)
 }
@@ -214,7 +189,7 @@ fn day_after(year: u32, month: u32, day: u32) -> Date
     requires { ⌜ year ≤ 9999 ⌝ }
     ensures { λ r. ⌜ dateOf r ≡ dayAfter year month day ⌝ }
 {
-    if day < days_in_month(year, month) {
+    if day < calendar::days_in_month(year, month) {
         return Date(year, month, day + 1);
     }
     if month < 12 {
