@@ -96,9 +96,7 @@ fn event(item: &goatminute::Item) -> Result<Event, Odd> {
             coefficient: Signed { negative: decimal.negative, magnitude: bytes(decimal.coefficient) },
             exponent: decimal.exponent,
         }),
-        Value::Timestamp(read) => {
-            scalar(Scalar::Timestamp { value: timestamp(read), out_of_calendar: read.out_of_calendar })
-        }
+        Value::Timestamp(read) => scalar(Scalar::Timestamp { value: timestamp(read), out_of_calendar: read.out_of_calendar }),
         Value::Symbol(sid) => scalar(Scalar::Symbol(sid)),
         Value::String(text) => scalar(Scalar::String(text.as_bytes().to_vec())),
         Value::Clob(bytes) => scalar(Scalar::Clob(bytes.to_vec())),
