@@ -22,6 +22,7 @@ use Rattle.machine.proofs.Steps.{none-failing}
 use Rattle.reading.specs.Items.{mostOpen}
 use Rattle.reading.specs.Walk.{higher, treeDepth, membersDepth, fieldsDepth, streamDepth}
 use Rattle.reading_lists.specs.ReadBack.{SpelledDepth}
+use Rattle.reading_lists.proofs.Invariant.{list-keeps}
 
 -- ---- the higher of two
 
@@ -157,18 +158,6 @@ module _ {S : Type 0} (f : Argument → S) where
   accepted-shallow w x taking h n = h
   accepted-shallow w x emptying h n = h
 
-  call-shallow : (w : Config) (x : Model S) (c : Call) → ShallowOf w x → ShallowOf (after c w) (modelStep f c (isAccepted (verdict c w)) x)
-  call-shallow w x c h = by-verdict (verdict c w) refl
-    where
-      by-verdict : (v : Verdict) → verdict c w ≡ v → ShallowOf (ifAccepted v (effect c w) w) (modelStep f c (isAccepted v) x)
-      by-verdict accepted e = accepted-shallow w x c h (none-failing (checks c w) (unfold verdict in e))
-      by-verdict (refused n) e = h
-
-  list-shallow : (cs : List Call) (w : Config) (x : Model S) → ShallowOf w x → streamDepth (modelAfter f cs w x .items) ≤ mostOpen
-  unfolding modelAfter
-  list-shallow [] w x h = h .items
-  list-shallow (c ∷ cs) w x h = list-shallow cs (after c w) (modelStep f c (isAccepted (verdict c w)) x) (call-shallow w x c h)
-
 -- a refused start opens nothing either
 start-shallow : (b : List ℕ) → ShallowAt (started b .state .depth) (startedModel {S = Scalar} .items) []
 unfolding streamDepth
@@ -179,4 +168,4 @@ start-shallow b = record { items = omega arith; stack = tt; counted = none-open 
     none-open (refused n) = refl
 
 pub spelled-depth : SpelledDepth
-spelled-depth cs b = list-shallow meaning cs (started b) startedModel (start-shallow b)
+spelled-depth cs b = list-keeps meaning ShallowOf (accepted-shallow meaning) cs (started b) startedModel (start-shallow b) .1 .items
