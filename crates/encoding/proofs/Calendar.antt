@@ -12,10 +12,10 @@ use lib.ListN.{length, take, drop, getD}
 use lib.IntN.{ℤ, pos, negsuc, natAbs, _-ℤ_}
 use borrow.Author.Tests.{ltb-true, ltb-false, leb-true, le-ltb}
 use Rattle.ion.specs.Value.{Fraction}
-use Rattle.ion.specs.Calendar.{isLeapYear, daysInMonth, isMonth, isDay, daysBeforeMonth, daysBeforeYear, dayNumber, minuteNumber}
+use Rattle.ion.specs.Calendar.{isLeapYear, daysInMonth, isMonth, isDay, daysBeforeMonth, daysBeforeYear, dayNumber, minuteNumber, minuteOf}
 use Rattle.ion.specs.Scalars.{areFields}
 use Rattle.ion.proofs.Tests.{by-cases, both}
-use Rattle.encoding.specs.Timestamp.{Date, date, dayBefore, dayAfter, utcMinutes, utcDay, fieldsAt, utc, isTimestamp, minuteOf, UtcIsLocalMinusOffset, MinuteUnique}
+use Rattle.encoding.specs.Timestamp.{Date, date, dayBefore, dayAfter, utcMinutes, utcDay, fieldsAt, utc, isTimestamp, UtcIsLocalMinusOffset, MinuteUnique}
 use Rattle.encoding.proofs.Rules.{isLocalYear, offsetFits, passed}
 
 -- ---- real days
@@ -123,11 +123,11 @@ month-next : (y m : ℕ) → daysBeforeMonth y (m + 1) ≡ daysBeforeMonth y m +
 unfolding daysBeforeMonth
 month-next y m = rw (add-one m)
 
-month-first : (y : ℕ) → daysBeforeMonth y 1 ≡ 0
+pub month-first : (y : ℕ) → daysBeforeMonth y 1 ≡ 0
 unfolding daysBeforeMonth
 month-first y = refl
 
-year-next : (y : ℕ) → daysBeforeYear (y + 1) ≡ daysBeforeYear y + daysBeforeMonth y 13
+pub year-next : (y : ℕ) → daysBeforeYear (y + 1) ≡ daysBeforeYear y + daysBeforeMonth y 13
 unfolding daysBeforeYear
 year-next y = rw (add-one y)
 
@@ -265,7 +265,7 @@ unfolding daysBeforeMonth
 month-later y m zero = let e : m + 0 ≡ m = omega arith in rw e (omega arith)
 month-later y m (suc k) = let e : m + suc k ≡ suc (m + k) = omega arith in rw e (omega (arith, month-later y m k))
 
-year-later : (y k : ℕ) → daysBeforeYear y ≤ daysBeforeYear (y + k)
+pub year-later : (y k : ℕ) → daysBeforeYear y ≤ daysBeforeYear (y + k)
 unfolding daysBeforeYear
 year-later y zero = let e : y + 0 ≡ y = omega arith in rw e (omega arith)
 year-later y (suc k) = let e : y + suc k ≡ suc (y + k) = omega arith in rw e (omega (arith, year-later y k))
@@ -277,18 +277,18 @@ month-order y m d m′ d′ g g′ lt =
     let a : daysBeforeMonth y (m + 1) ≤ daysBeforeMonth y m′ = rw e at (month-later y (m + 1) (m′ - (m + 1))) in
     omega (arith, month-next y m, g .day-most, g′ .day-least)
 
-in-year : (y m d : ℕ) → RealDay y m d → daysBeforeMonth y m + d ≤ daysBeforeMonth y 13
-in-year y m d g =
-    let e : m + 1 + (12 - m) ≡ 13 = omega (arith, g .month-most) in
+pub in-year : (y m d : ℕ) → m ≤ 12 → d ≤ daysInMonth y m → daysBeforeMonth y m + d ≤ daysBeforeMonth y 13
+in-year y m d h k =
+    let e : m + 1 + (12 - m) ≡ 13 = omega arith in
     let a : daysBeforeMonth y (m + 1) ≤ daysBeforeMonth y 13 = rw e at (month-later y (m + 1) (12 - m)) in
-    omega (arith, month-next y m, g .day-most)
+    omega (arith, month-next y m)
 
 year-order : (y m d y′ m′ d′ : ℕ) → RealDay y m d → RealDay y′ m′ d′ → y < y′ → dayNumber y m d < dayNumber y′ m′ d′
 unfolding dayNumber
 year-order y m d y′ m′ d′ g g′ lt =
     let e : y + 1 + (y′ - (y + 1)) ≡ y′ = omega arith in
     let a : daysBeforeYear (y + 1) ≤ daysBeforeYear y′ = rw e at (year-later (y + 1) (y′ - (y + 1))) in
-    omega (arith, year-next y, in-year y m d g, g′ .day-least)
+    omega (arith, year-next y, in-year y m d (g .month-most) (g .day-most), g′ .day-least)
 
 -- two numbers that neither order
 same-number : (m n : ℕ) → (m < n → ⊥) → (n < m → ⊥) → m ≡ n
@@ -324,7 +324,7 @@ same-minute y m d h i y′ m′ d′ h′ i′ w w′ e =
     cc
 
 module _ (fs : List ℕ) (e : areFields fs ≡ true) (h : 5 ≤ length fs) where
-  minute-of : WithMinute (getD fs 0 0) (getD fs 1 0) (getD fs 2 0) (getD fs 3 0) (getD fs 4 0)
+  pub minute-of : WithMinute (getD fs 0 0) (getD fs 1 0) (getD fs 2 0) (getD fs 3 0) (getD fs 4 0)
   minute-of =
       let v = subst (λ (l : List ℕ). areFields l ≡ true) (front fs h) e in
       with-minute (getD fs 0 0) (getD fs 1 0) (getD fs 2 0) (getD fs 3 0) (getD fs 4 0) (drop 5 fs) v

@@ -15,7 +15,7 @@ use Rattle.ion.proofs.Readings.{bytesBefore, hex}
 use Rattle.encoding.specs.Digits.{lowDigits}
 use Rattle.encoding.specs.Fields.{fixedBytes}
 use Rattle.encoding.specs.Timestamp.{TimestampField, yearField, monthField, dayField, hourField, minuteField, secondField, offsetField}
-use Rattle.encoding.specs.Timestamp.{digitCountField, coefficientField, timestampRules, firstBad}
+use Rattle.encoding.specs.Timestamp.{digitCountField, coefficientField, utcYearField, dayBefore, dayAfter, timestampRules, firstBad}
 use Rattle.encoding.specs.Argument.{writeNull, writeF64, float32Bytes, narrows, float64Bytes, argumentBytes}
 
 abbrev types : List IonType
@@ -69,7 +69,14 @@ bad =
     -- no seconds that carry it
     ∷ (none, 2000 ∷ 1 ∷ 1 ∷ 0 ∷ 0 ∷ [], fraction 1 0, digitCountField, pos 1)
     ∷ (none, 2000 ∷ 1 ∷ 1 ∷ 0 ∷ 0 ∷ 0 ∷ [], fraction 2 100, coefficientField, pos 100)
+    -- the UTC year: the last minute of the year 0, and the first of the year 10000
+    ∷ (some (pos 1), 1 ∷ 1 ∷ 1 ∷ 0 ∷ 0 ∷ [], noFraction, utcYearField, pos 0)
+    ∷ (some (pos 1439), 1 ∷ 1 ∷ 1 ∷ 23 ∷ 58 ∷ 59 ∷ [], fraction 1 9, utcYearField, pos 0)
+    ∷ (some (negsuc 0), 9999 ∷ 12 ∷ 31 ∷ 23 ∷ 59 ∷ [], noFraction, utcYearField, pos 10000)
+    ∷ (some (negsuc 1438), 9999 ∷ 12 ∷ 31 ∷ 0 ∷ 1 ∷ 0 ∷ [], noFraction, utcYearField, pos 10000)
     -- of two or more, the first
+    ∷ (some (pos 1), 1 ∷ 1 ∷ 1 ∷ 0 ∷ 0 ∷ 0 ∷ [], fraction 2 100, coefficientField, pos 100)
+    ∷ (some (negsuc 0), 9999 ∷ 12 ∷ 31 ∷ 23 ∷ 59 ∷ 60 ∷ [], noFraction, secondField, pos 60)
     ∷ (some (pos 1440), 2000 ∷ 2 ∷ 30 ∷ 24 ∷ 0 ∷ [], noFraction, dayField, pos 30)
     ∷ (some (negsuc 1439), 2000 ∷ 1 ∷ 1 ∷ 0 ∷ 0 ∷ 0 ∷ [], fraction 19 0, offsetField, negsuc 1439)
     ∷ (none, 2000 ∷ 1 ∷ 1 ∷ 0 ∷ 0 ∷ [], fraction 1 10, digitCountField, pos 1)
@@ -77,6 +84,7 @@ bad =
 
 pub bad-answered : map (λ (c : Option ℤ × List ℕ × Fraction × TimestampField × ℤ). firstBad (timestampRules (c .0) (c .1) (c .2))) bad
     ≡ map (λ (c : Option ℤ × List ℕ × Fraction × TimestampField × ℤ). some (record { field = c .3; value = c .4; holds = false })) bad
+unfolding dayBefore dayAfter
 bad-answered = refl
 
 -- at the ends of each range, as far as the precision goes
@@ -88,6 +96,11 @@ good =
     ∷ (some (pos 1439), 9999 ∷ 12 ∷ 31 ∷ 23 ∷ 59 ∷ [], noFraction)
     ∷ (some (negsuc 1438), 1 ∷ 1 ∷ 1 ∷ 0 ∷ 0 ∷ 0 ∷ [], fraction 1 0)
     ∷ (none, 9999 ∷ 12 ∷ 31 ∷ 23 ∷ 59 ∷ 59 ∷ [], fraction 18 999999999999999999)
+    -- the first and the last minute of the UTC years 1 to 9999
+    ∷ (some (pos 0), 1 ∷ 1 ∷ 1 ∷ 0 ∷ 0 ∷ [], noFraction)
+    ∷ (some (pos 1439), 1 ∷ 1 ∷ 1 ∷ 23 ∷ 59 ∷ [], noFraction)
+    ∷ (some (pos 0), 9999 ∷ 12 ∷ 31 ∷ 23 ∷ 59 ∷ [], noFraction)
+    ∷ (some (negsuc 1438), 9999 ∷ 12 ∷ 31 ∷ 0 ∷ 0 ∷ [], noFraction)
     ∷ []
 
 pub good-answered : map (λ (c : Option ℤ × List ℕ × Fraction). firstBad (timestampRules (c .0) (c .1) (c .2))) good ≡ map (λ (c : Option ℤ × List ℕ × Fraction). none) good

@@ -10,6 +10,7 @@ pub mod Decimal
 pub mod Rules
 pub mod Calendar
 pub mod Timestamp
+pub mod OutOfCalendar
 pub mod Narrowing
 pub mod Argument
 pub mod Stream

@@ -28,7 +28,7 @@ use Rattle.encoding.proofs.Calendar.{RealDay, RealDate, real-of, month-
 
 -- ---- the UTC fields are fields of the grammar
 
-day-yes : (y m d : ℕ) → RealDay y m d → isDay y m d ≡ true
+pub day-yes : (y m d : ℕ) → RealDay y m d → isDay y m d ≡ true
 day-yes y m d g =
     and-true (and-true (le-leb 1 m (g .month-least)) (le-leb m 12 (g .month-most)))
     (and-true (le-leb 1 d (g .day-least)) (le-leb d (daysInMonth y m) (g .day-most)))

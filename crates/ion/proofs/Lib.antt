@@ -11,3 +11,4 @@ pub mod FieldExamples
 pub mod TextExamples
 pub mod ScalarExamples
 pub mod Examples
+pub mod CalendarExamples
