@@ -3,13 +3,13 @@
 -- Assumes nothing.
 use Prim.Native.Nat.{ℕ}
 use mathlib.Core.Path.{_≡_, refl, ap}
-use mathlib.Core.Bool.{Bool, true, false}
+use mathlib.Core.Bool.{Bool, true, false, not}
 use mathlib.Core.List.{List, [], _∷_, _++_, append-assoc, append-nil}
 use mathlib.Core.Option.{Option, none, some}
 use borrow.Author.Tests.{not-false}
 use Rattle.ion.specs.Value.{Scalar, Tree, scalar, Members, noMembers, member, Fields, noFields, field, Item, marker, value, treeLeaves, membersLeaves, fieldsLeaves, leaves}
 use Rattle.ion.specs.OutOfCalendar.{isMarked, noneMarked}
-use Rattle.ion.proofs.Tests.{both, and-true}
+use Rattle.ion.proofs.Tests.{both}
 use Rattle.encoding.specs.Timestamp.{isTimestamp}
 use Rattle.encoding.specs.Argument.{Argument, writeNull, writeBool, writeI64, writeInt, writeF32, writeF64, writeDecimal, writeTimestamp, writeSymbol}
 use Rattle.encoding.specs.Argument.{writeString, writeClob, writeBlob, meaning, argumentChecks}
@@ -47,7 +47,7 @@ module _ {S : Type 0} where
 
 unmarked-append : (xs ys : List Scalar) → noneMarked xs ≡ true → noneMarked ys ≡ true → noneMarked (xs ++ ys) ≡ true
 unmarked-append [] ys p q = q
-unmarked-append (x ∷ xs) ys p q = and-true (both p .0) (unmarked-append xs ys (both p .1) q)
+unmarked-append (x ∷ xs) ys p q = let s = both {a = not (isMarked x)} {b = noneMarked xs} p in rw (s .0) (unmarked-append xs ys (s .1) q)
 
 -- ---- the invariant: no leaf of the items is marked, nor of what the open containers hold
 
