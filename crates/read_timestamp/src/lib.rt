@@ -78,7 +78,7 @@ fn is_date(year: u64, month: u64, day: u64) -> bool
     if (10000 < year) | (12 < month) {
         return false;
     }
-    let days = timestamp::days_in_month(year as u32, month as u32);
+    let days = calendar::days_in_month(year as u32, month as u32);
     (1 <= month) & ((1 <= day) & (day <= days as u64))
 }
 

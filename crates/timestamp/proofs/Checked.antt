@@ -11,9 +11,10 @@ use mir.Val.{Fits}
 use lib.ListN.{length}
 use Rattle.ion.specs.Value.{timestampCode}
 use Rattle.encoding.specs.Headers.{typeByte, headerBytes, framedBytes}
-use Rattle.encoding.specs.Timestamp.{utc, isTimestamp, timestampBody}
+use Rattle.encoding.specs.Timestamp.{utc, isLocalTimestamp, isTimestamp, timestampBody}
 use Rattle.encoding.specs.Argument.{argumentBytes, checkedBytes}
 use Rattle.encoding.proofs.Headers.{header-most}
+use Rattle.encoding.proofs.Rules.{isTimestamp-parts}
 use Rattle.decimal.proofs.Values.{checkedBytes-refused, checkedBytes-accepted, length-framed}
 use Rattle.timestamp.specs.declared.Timestamp.{Timestamp}
 use Rattle.timestamp.specs.Arguments.{offsetMinutes, fractionDigits, fieldsOf, argumentOf}
@@ -49,8 +50,11 @@ module _ (t : Timestamp) where
   refused v = checkedBytes-refused (argumentOf t) (rw v)
 
   module _ (v : isValid ≡ true) where
+    keeps : isLocalTimestamp (offsetMinutes (t .offset)) (fieldsOf t) (fractionDigits (t .fraction)) ≡ true
+    keeps = isTimestamp-parts (offsetMinutes (t .offset)) (fieldsOf t) (fractionDigits (t .fraction)) v .0
+
     pub timestampBody-most : length bodyBytes ≤ 18
-    timestampBody-most = rw (← utc-body t) (body-most inUtc (utc-small t v))
+    timestampBody-most = rw (← utc-body t) (body-most inUtc (utc-small t keeps))
 
     pub accepted : (u : Timestamp) → u ≡ inUtc → valueOf u ≡ checkedBytes (argumentOf t)
     unfolding argumentBytes valueOf
@@ -62,7 +66,7 @@ module _ (t : Timestamp) where
     -- the fields below the year take one byte each, whether local or UTC
     byYear-body : length (bodyOf byYear) ≡ length (bodyOf inUtc)
     unfolding withFields
-    byYear-body = body-length byYear (utc-year-small t v) ∙ sym (body-length inUtc (utc-small t v))
+    byYear-body = body-length byYear (utc-year-small t keeps) ∙ sym (body-length inUtc (utc-small t keeps))
 
     pub accepted-size : length (valueOf byYear) ≡ length (checkedBytes (argumentOf t))
     unfolding valueOf

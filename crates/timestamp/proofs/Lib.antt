@@ -1,5 +1,4 @@
 pub mod Signed
-pub mod Calendar
 pub mod Valid
 pub mod Utc
 pub mod Fields

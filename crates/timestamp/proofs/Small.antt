@@ -1,4 +1,4 @@
--- The UTC fields of a timestamp that passed check 7 are small, and they are those that its body has.
+-- The UTC fields of a timestamp that keeps the local rules of check 7 are small, and they are those that its body has.
 -- By the cases of the precision and of the nearby day. Assumes nothing.
 use Prim.Native.Nat.{ℕ, _-_, _^_, _≤_, _<_}
 use native.Mathlib.Omega.{arith}
@@ -14,7 +14,7 @@ use lib.IntN.{ℤ}
 use Rattle.ion.specs.Value.{Fraction, noFraction, fraction}
 use Rattle.ion.specs.Calendar.{daysInMonth}
 use Rattle.ion.proofs.Tests.{by-cases, both}
-use Rattle.encoding.specs.Timestamp.{Date, date, dayBefore, dayAfter, utcMinutes, utcDay, fieldsAt, utc, isTimestamp, timestampBody}
+use Rattle.encoding.specs.Timestamp.{Date, date, dayBefore, dayAfter, utcMinutes, utcDay, fieldsAt, utc, isLocalTimestamp, timestampBody}
 use Rattle.encoding.proofs.Rules.{offsetFits, fractionFits}
 use Rattle.timestamp.specs.declared.Precision.{Precision}
 use Rattle.timestamp.specs.declared.Precision.the-variants.{Year, Month, Day, Minute, Second}
@@ -22,7 +22,7 @@ use Rattle.timestamp.specs.declared.Timestamp.{Timestamp}
 use Rattle.timestamp.specs.Arguments.{offsetMinutes, fractionDigits, fieldsBy, fieldsOf}
 use Rattle.timestamp.specs.Utc.{withFields}
 use Rattle.timestamp.specs.Small.{SmallOffset, AllSmall, SmallFields, SmallFraction, Small, bodyOf}
-use Rattle.timestamp.proofs.Calendar.{days-most}
+use Rattle.calendar.proofs.Months.{days-most}
 use Rattle.timestamp.proofs.Fields.{fieldsBy-year}
 use Rattle.timestamp.proofs.Valid.{fieldCount, Valid, valid, offset-known}
 use Rattle.timestamp.proofs.Utc.{dayBefore-day, dayBefore-month, dayBefore-year, dayAfter-day, dayAfter-month, dayAfter-year}
@@ -151,7 +151,7 @@ module _ (t : Timestamp) where
   fieldsWith-utc Minute (some z) = let n = utcMinutes z (t .hour) (t .minute) in minute-with (utcDay n (t .year) (t .month) (t .day)) n
   fieldsWith-utc Second (some z) = let n = utcMinutes z (t .hour) (t .minute) in second-with (utcDay n (t .year) (t .month) (t .day)) n (t .second)
 
-  pub utc-small : isTimestamp (offsetMinutes (t .offset)) (fieldsOf t) (fractionDigits (t .fraction)) ≡ true → Small (withFields t (utc (offsetMinutes (t .offset)) (fieldsOf t)))
+  pub utc-small : isLocalTimestamp (offsetMinutes (t .offset)) (fieldsOf t) (fractionDigits (t .fraction)) ≡ true → Small (withFields t (utc (offsetMinutes (t .offset)) (fieldsOf t)))
   unfolding withFields
   utc-small e =
       let o = offsetMinutes (t .offset) in
@@ -164,7 +164,7 @@ module _ (t : Timestamp) where
       }
 
   -- with the UTC year alone
-  pub utc-year-small : isTimestamp (offsetMinutes (t .offset)) (fieldsOf t) (fractionDigits (t .fraction)) ≡ true →
+  pub utc-year-small : isLocalTimestamp (offsetMinutes (t .offset)) (fieldsOf t) (fractionDigits (t .fraction)) ≡ true →
       Small (withFields t (withFields t (utc (offsetMinutes (t .offset)) (fieldsOf t)) .year ∷ []))
   unfolding withFields
   utc-year-small e =

@@ -4,17 +4,19 @@ use Prim.Native.Nat.{ℕ, _+_, _-_, _*_, _≤_, _<_}
 use native.Mathlib.Omega.{arith}
 use mathlib.Core.Path.{_≡_, refl, sym, _∙_, ap, subst}
 use mathlib.Core.Bool.{true, false, false≢true}
-use mathlib.Core.List.{[], _∷_}
-use mathlib.Core.Option.{some}
+use mathlib.Core.List.{List, [], _∷_}
+use mathlib.Core.Option.{Option, none, some}
 use borrow.Author.Tests.{ltb-true, lt-ltb, le-ltb}
+use lib.ListN.{getD}
 use lib.IntN.{ℤ, pos, negsuc, natAbs}
 use lib.Signed.{ltZ}
-use Rattle.ion.specs.Value.{signed}
-use Rattle.ion.specs.Calendar.{daysInMonth}
+use Rattle.ion.specs.Value.{signed, Fraction}
+use Rattle.ion.specs.Calendar.{daysInMonth, isCalendarYear}
 use Rattle.encoding.specs.Fields.{signedOf}
-use Rattle.encoding.specs.Timestamp.{Date, date, dayBefore, dayAfter, utcMinutes, utcDay, fieldsAt, utcFields, utc, isTimestamp}
+use Rattle.encoding.specs.Timestamp.{Date, date, dayBefore, dayAfter, utcMinutes, utcDay, fieldsAt, utcFields, utc, isLocalTimestamp, isTimestamp}
 use Rattle.sign.proofs.Signs.{below-zero}
 use Rattle.encoding.proofs.Signs.{signedOf-is}
+use Rattle.encoding.proofs.Rules.{isLocalYear, isUtcYear, isTimestamp-local, passed-local}
 use Rattle.timestamp.specs.declared.Precision.{Precision}
 use Rattle.timestamp.specs.declared.Precision.the-variants.{Year, Month, Day, Minute, Second}
 use Rattle.timestamp.specs.declared.Offset.{Offset}
@@ -91,15 +93,55 @@ withFields-same t Day = refl
 withFields-same t Minute = refl
 withFields-same t Second = refl
 
+-- the first field is there, so no other year stands in for it
+fieldsAt-first : (x : Date) (n : ℕ) (r : List ℕ) (k : ℕ) → getD (fieldsAt x n r) 0 k ≡ getD (fieldsAt x n r) 0 0
+fieldsAt-first (date y m d) n r k = refl
+
+utc-first : (p : Precision) (y m d h i s : ℕ) (z : ℤ) (k : ℕ) → getD (utc (some z) (fieldsBy p y m d h i s)) 0 k ≡ getD (utc (some z) (fieldsBy p y m d h i s)) 0 0
+utc-first Year y m d h i s z k = refl
+utc-first Month y m d h i s z k = refl
+utc-first Day y m d h i s z k = refl
+utc-first Minute y m d h i s z k = let n = utcMinutes z h i in fieldsAt-first (utcDay n y m d) n [] k
+utc-first Second y m d h i s z k = let n = utcMinutes z h i in fieldsAt-first (utcDay n y m d) n (s ∷ []) k
+
+fields-first : (p : Precision) (y m d h i s k : ℕ) → isLocalYear (fieldsBy p y m d h i s) ≡ true → isCalendarYear (getD (fieldsBy p y m d h i s) 0 k) ≡ true
+fields-first Year y m d h i s k e = e
+fields-first Month y m d h i s k e = e
+fields-first Day y m d h i s k e = e
+fields-first Minute y m d h i s k e = e
+fields-first Second y m d h i s k e = e
+
+first-year : (p : Precision) (y m d h i s : ℕ) (o : Option ℤ) (k : ℕ) → isLocalYear (fieldsBy p y m d h i s) ≡ true →
+    isCalendarYear (getD (utc o (fieldsBy p y m d h i s)) 0 k) ≡ isUtcYear o (fieldsBy p y m d h i s)
+first-year p y m d h i s none k e = fields-first p y m d h i s k e
+first-year p y m d h i s (some z) k e = ap isCalendarYear (utc-first p y m d h i s z k)
+
 module _ (t : Timestamp) where
-  valid-known : (z : ℤ) → t .offset ≡ Minutes z → isTimestamp (offsetMinutes (t .offset)) (fieldsOf t) (fractionDigits (t .fraction)) ≡ true →
+  abbrev offsetIs : Option ℤ
+  offsetIs = offsetMinutes (t .offset)
+
+  abbrev fractionIs : Fraction
+  fractionIs = fractionDigits (t .fraction)
+
+  -- of a timestamp that keeps the local rules the UTC year decides; check 7 refuses any other
+  pub by-utc-year : isLocalTimestamp offsetIs (fieldsOf t) fractionIs ≡ true →
+      isCalendarYear (withFields t (utc offsetIs (fieldsOf t)) .year) ≡ isTimestamp offsetIs (fieldsOf t) fractionIs
+  unfolding withFields
+  by-utc-year e =
+      first-year (t .precision) (t .year) (t .month) (t .day) (t .hour) (t .minute) (t .second) offsetIs (t .year) (passed-local offsetIs (fieldsOf t) fractionIs e .year)
+      ∙ sym (isTimestamp-local offsetIs (fieldsOf t) fractionIs ∙ rw e)
+
+  pub not-local : isLocalTimestamp offsetIs (fieldsOf t) fractionIs ≡ false → isTimestamp offsetIs (fieldsOf t) fractionIs ≡ false
+  not-local e = isTimestamp-local offsetIs (fieldsOf t) fractionIs ∙ rw e
+
+  valid-known : (z : ℤ) → t .offset ≡ Minutes z → isLocalTimestamp (offsetMinutes (t .offset)) (fieldsOf t) (fractionDigits (t .fraction)) ≡ true →
       Valid (t .precision) (t .year) (t .month) (t .day) (t .hour) (t .minute) (t .second) (some z) (fractionDigits (t .fraction))
   valid-known z e v =
       valid (t .precision) (t .year) (t .month) (t .day) (t .hour) (t .minute) (t .second) (some z) (fractionDigits (t .fraction))
-      (subst (λ (o : Offset). isTimestamp (offsetMinutes o) (fieldsOf t) (fractionDigits (t .fraction)) ≡ true) e v)
+      (subst (λ (o : Offset). isLocalTimestamp (offsetMinutes o) (fieldsOf t) (fractionDigits (t .fraction)) ≡ true) e v)
 
-  -- what check 7 tells where the offset is known
-  pub known : (z : ℤ) → t .offset ≡ Minutes z → isTimestamp (offsetMinutes (t .offset)) (fieldsOf t) (fractionDigits (t .fraction)) ≡ true →
+  -- what the local rules tell where the offset is known
+  pub known : (z : ℤ) → t .offset ≡ Minutes z → isLocalTimestamp (offsetMinutes (t .offset)) (fieldsOf t) (fractionDigits (t .fraction)) ≡ true →
       (5 ≤ fieldCount (t .precision)) × (natAbs z ≤ 1439) × (1 ≤ t .year) × (t .year ≤ 9999) × (t .hour < 24) × (t .minute < 60)
   known z e v =
       let w = valid-known z e v in

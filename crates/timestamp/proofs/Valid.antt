@@ -1,4 +1,4 @@
--- Check 7 from its tests in field order, and what each tells once it is passed.
+-- Check 7's local rules from their tests in field order, and what each tells once it is passed.
 -- By cases on the precision. Assumes nothing.
 use Prim.Native.Nat.{ℕ, zero, suc, _^_, _≤_, _<_}
 use native.Mathlib.Omega.{arith}
@@ -12,8 +12,8 @@ use lib.IntN.{ℤ, natAbs}
 use Rattle.ion.specs.Value.{Fraction}
 use Rattle.ion.specs.Calendar.{daysInMonth, isMonth}
 use Rattle.ion.proofs.Tests.{both}
-use Rattle.encoding.specs.Timestamp.{timestampRules, firstBad, isNone, isTimestamp}
-use Rattle.encoding.proofs.Rules.{offsetFits, fractionFits, isTimestamp-rules}
+use Rattle.encoding.specs.Timestamp.{timestampRules, firstBad, isNone, isLocalTimestamp, isTimestamp}
+use Rattle.encoding.proofs.Rules.{offsetFits, fractionFits, isLocalTimestamp-rules}
 use Rattle.timestamp.specs.declared.Precision.{Precision}
 use Rattle.timestamp.specs.declared.Precision.the-variants.{Year, Month, Day, Minute, Second}
 use Rattle.timestamp.specs.Arguments.{fieldsBy}
@@ -44,16 +44,16 @@ isTimestamp-firstBad Minute y m d h i s o x = refl
 isTimestamp-firstBad Second y m d h i s o x = refl
 
 -- the tests from the year down, each where the count of fields reaches it
-pub isTimestamp-tests : (p : Precision) (y m d h i s : ℕ) (o : Option ℤ) (x : Fraction) →
+pub isLocalTimestamp-tests : (p : Precision) (y m d h i s : ℕ) (o : Option ℤ) (x : Fraction) →
     ((leb 1 y && leb y 9999) && ((ltb (fieldCount p) 2 || isMonth m) && ((ltb (fieldCount p) 3 || (leb 1 d && leb d (daysInMonth y m))) && ((ltb (fieldCount p) 5 || (ltb h 24 && ltb i 60)) && ((ltb (fieldCount p) 6 || ltb s 60) && (offsetFits o (fieldsBy p y m d h i s) && fractionFits x (fieldsBy p y m d h i s)))))))
-    ≡ isTimestamp o (fieldsBy p y m d h i s) x
-isTimestamp-tests Year y m d h i s o x = sym (isTimestamp-rules o (fieldsBy Year y m d h i s) x ∙ simp (and-true, and-assoc))
-isTimestamp-tests Month y m d h i s o x = sym (isTimestamp-rules o (fieldsBy Month y m d h i s) x ∙ simp (and-true, and-assoc))
-isTimestamp-tests Day y m d h i s o x = sym (isTimestamp-rules o (fieldsBy Day y m d h i s) x ∙ simp (and-true, and-assoc))
-isTimestamp-tests Minute y m d h i s o x = sym (isTimestamp-rules o (fieldsBy Minute y m d h i s) x ∙ simp (and-true, and-assoc))
-isTimestamp-tests Second y m d h i s o x = sym (isTimestamp-rules o (fieldsBy Second y m d h i s) x ∙ simp (and-true, and-assoc))
+    ≡ isLocalTimestamp o (fieldsBy p y m d h i s) x
+isLocalTimestamp-tests Year y m d h i s o x = sym (isLocalTimestamp-rules o (fieldsBy Year y m d h i s) x ∙ simp (and-true, and-assoc))
+isLocalTimestamp-tests Month y m d h i s o x = sym (isLocalTimestamp-rules o (fieldsBy Month y m d h i s) x ∙ simp (and-true, and-assoc))
+isLocalTimestamp-tests Day y m d h i s o x = sym (isLocalTimestamp-rules o (fieldsBy Day y m d h i s) x ∙ simp (and-true, and-assoc))
+isLocalTimestamp-tests Minute y m d h i s o x = sym (isLocalTimestamp-rules o (fieldsBy Minute y m d h i s) x ∙ simp (and-true, and-assoc))
+isLocalTimestamp-tests Second y m d h i s o x = sym (isLocalTimestamp-rules o (fieldsBy Second y m d h i s) x ∙ simp (and-true, and-assoc))
 
--- what a timestamp that passes tells, as far as its fields go
+-- what a timestamp that keeps them tells, as far as its fields go
 pub record Valid (p : Precision) (y m d h i s : ℕ) (o : Option ℤ) (x : Fraction) : Type 0 where
   pub year : (1 ≤ y) × (y ≤ 9999)
   pub month : 2 ≤ fieldCount p → (1 ≤ m) × (m ≤ 12)
@@ -66,10 +66,10 @@ pub record Valid (p : Precision) (y m d h i s : ℕ) (o : Option ℤ) (x : Fract
 from-field : (k n : ℕ) (b : Bool) → (ltb n k || b) ≡ true → k ≤ n → b ≡ true
 from-field k n b e h = rw (le-ltb n k h) at e
 
-pub valid : (p : Precision) (y m d h i s : ℕ) (o : Option ℤ) (x : Fraction) → isTimestamp o (fieldsBy p y m d h i s) x ≡ true → Valid p y m d h i s o x
+pub valid : (p : Precision) (y m d h i s : ℕ) (o : Option ℤ) (x : Fraction) → isLocalTimestamp o (fieldsBy p y m d h i s) x ≡ true → Valid p y m d h i s o x
 valid p y m d h i s o x e =
     let n = fieldCount p in
-    let a = both {a = leb 1 y && leb y 9999} (isTimestamp-tests p y m d h i s o x ∙ e) in
+    let a = both {a = leb 1 y && leb y 9999} (isLocalTimestamp-tests p y m d h i s o x ∙ e) in
     let ys = both {a = leb 1 y} (a .0) in
     let b = both {a = ltb n 2 || isMonth m} (a .1) in
     let c = both {a = ltb n 3 || (leb 1 d && leb d (daysInMonth y m))} (b .1) in

@@ -7,12 +7,11 @@ ghost use Prim.Native.Nat.{ℕ, _+_, _%_, _^_, _≤_, _<_};
 ghost use lib.Dec.{ltb, leb};
 ghost use lib.ListN.{length};
 ghost use lib.IntN.{natAbs};
-ghost use Rattle.ion.specs.Calendar.{isLeapYear, daysInMonth};
 ghost use Rattle.buffer.specs.Laid.{placed};
 ghost use Rattle.encoding.specs.Fields.{varUIntBytes, varUIntsBytes};
 ghost use Rattle.encoding.specs.Argument.{checkedBytes};
 ghost use Rattle.encoding.specs.Timestamp.{offsetBytes, fractionBytes, dayBefore, dayAfter, utcMinutes, utcDay, utcFields, utc};
-ghost use Rattle.encoding.specs.Timestamp.{yearRule, monthRule, dayRule, offsetRules, fractionRules, firstBad, isNone, isTimestamp};
+ghost use Rattle.encoding.specs.Timestamp.{yearRule, monthRule, dayRule, offsetRules, fractionRules, firstBad, isNone, isLocalTimestamp, isTimestamp};
 ghost use Rattle.timestamp.specs.Arguments.{offsetMinutes, fractionDigits, fieldsBy, fieldsOf, argumentOf};
 ghost use Rattle.timestamp.specs.Utc.{dateOf, withFields, utcOf};
 ghost use Rattle.timestamp.specs.Small.{SmallOffset, SmallFields, SmallFraction, Small, bodyOf, valueOf};
@@ -51,30 +50,6 @@ pub struct Timestamp {
     pub fraction: Fraction,
 }
 
-// ---- the calendar
-
-// In a year that is no leap year.
-const DAYS_IN_MONTH: [u32; 13] = [0, 31, 28, 31, 30, 31, 30, 31, 31, 30, 31, 30, 31];
-
-fn is_leap_year(year: u32) -> bool
-    ensures { λ r. ⌜ r ≡ isLeapYear year ⌝ }
-{
-    (year % 4 == 0) & ((year % 100 != 0) | (year % 400 == 0))
-}
-
-// The days of a month of the Gregorian calendar; 0 for a month that is not.
-pub fn days_in_month(year: u32, month: u32) -> u32
-    ensures { λ r. ⌜ r ≡ daysInMonth year month ⌝ }
-{
-    if (month == 2) & is_leap_year(year) {
-        return 29;
-    }
-    if 12 < month {
-        return 0;
-    }
-    DAYS_IN_MONTH[month as usize]
-}
-
 // ---- check 7
 
 fn is_year(year: u32) -> bool
@@ -93,7 +68,7 @@ fn is_month(month: u32) -> bool
 fn is_day(year: u32, month: u32, day: u32) -> bool
     ensures { λ r. ⌜ r ≡ dayRule year month day .holds ⌝ }
 {
-    (1 <= day) & (day <= days_in_month(year, month))
+    (1 <= day) & (day <= calendar::days_in_month(year, month))
 }
 
 // How many fields count, from the year down.
@@ -173,9 +148,9 @@ fn fraction_fits(fraction: Fraction, fields: u32) -> bool
     }
 }
 
-// Year 1 to 9999, a day of the calendar, hour 0 to 23, minute and second 0 to 59, as far as the precision goes; then offset and fraction.
-pub fn is_valid(t: Timestamp) -> bool
-    ensures { λ r. ⌜ r ≡ isTimestamp (offsetMinutes (t .offset)) (fieldsOf t) (fractionDigits (t .fraction)) ⌝ }
+// The local fields, year 1 to 9999, a day of the calendar, hour 0 to 23, minute and second 0 to 59, as far as the precision goes; then offset and fraction.
+fn is_local(t: Timestamp) -> bool
+    ensures { λ r. ⌜ r ≡ isLocalTimestamp (offsetMinutes (t .offset)) (fieldsOf t) (fractionDigits (t .fraction)) ⌝ }
 {
     let precision = t.precision;
     let offset = t.offset;
@@ -205,7 +180,7 @@ fn day_before(year: u32, month: u32, day: u32) -> Date
         return Date(year, month, day - 1);
     }
     if 1 < month {
-        return Date(year, month - 1, days_in_month(year, month - 1));
+        return Date(year, month - 1, calendar::days_in_month(year, month - 1));
     }
     Date(year - 1, 12, 31)
 }
@@ -214,7 +189,7 @@ fn day_after(year: u32, month: u32, day: u32) -> Date
     requires { ⌜ year ≤ 9999 ⌝ }
     ensures { λ r. ⌜ dateOf r ≡ dayAfter year month day ⌝ }
 {
-    if day < days_in_month(year, month) {
+    if day < calendar::days_in_month(year, month) {
         return Date(year, month, day + 1);
     }
     if month < 12 {
@@ -272,9 +247,9 @@ fn at_minute(t: Timestamp, minutes: u32) -> Timestamp
     }
 }
 
-// Given that check 7 is passed. With no offset known the fields stay.
-fn utc_of_valid(t: Timestamp) -> Timestamp
-    requires { ⌜ isTimestamp (offsetMinutes (t .offset)) (fieldsOf t) (fractionDigits (t .fraction)) ≡ true ⌝ }
+// Given that the local rules are kept. With no offset known the fields stay.
+fn utc_of_local(t: Timestamp) -> Timestamp
+    requires { ⌜ isLocalTimestamp (offsetMinutes (t .offset)) (fieldsOf t) (fractionDigits (t .fraction)) ≡ true ⌝ }
     ensures { λ r. ⌜ r ≡ withFields t (utc (offsetMinutes (t .offset)) (fieldsOf t)) ⌝ }
 {
     let offset = t.offset;
@@ -284,9 +259,9 @@ fn utc_of_valid(t: Timestamp) -> Timestamp
     }
 }
 
-// The year of `utc_of_valid`.
+// The year of `utc_of_local`.
 fn utc_year(t: Timestamp) -> u32
-    requires { ⌜ isTimestamp (offsetMinutes (t .offset)) (fieldsOf t) (fractionDigits (t .fraction)) ≡ true ⌝ }
+    requires { ⌜ isLocalTimestamp (offsetMinutes (t .offset)) (fieldsOf t) (fractionDigits (t .fraction)) ≡ true ⌝ }
     ensures { λ r. ⌜ r ≡ withFields t (utc (offsetMinutes (t .offset)) (fieldsOf t)) .year ⌝ }
 {
     let offset = t.offset;
@@ -304,14 +279,28 @@ fn utc_year(t: Timestamp) -> u32
     }
 }
 
+// Check 7: the local rules, then the UTC year, which is 1 to 9999 too.
+pub fn is_valid(t: Timestamp) -> bool
+    ensures { λ r. ⌜ r ≡ isTimestamp (offsetMinutes (t .offset)) (fieldsOf t) (fractionDigits (t .fraction)) ⌝ }
+{
+    if !is_local(t) {
+        return false;
+    }
+    is_year(utc_year(t))
+}
+
 // The UTC fields in the place of the local ones, and the offset kept. A timestamp that does not pass check 7 stays as it is.
 pub fn to_utc(t: Timestamp) -> Timestamp
     ensures { λ r. ⌜ r ≡ utcOf t ⌝ }
 {
-    if !is_valid(t) {
+    if !is_local(t) {
         return t;
     }
-    utc_of_valid(t)
+    let in_utc = utc_of_local(t);
+    if !is_year(in_utc.year) {
+        return t;
+    }
+    in_utc
 }
 
 // ---- the bytes
@@ -469,11 +458,15 @@ fn put_value(buf: &mut [u8], at: usize, t: Timestamp) -> usize
 pub fn size(t: Timestamp) -> usize
     ensures { λ r. ⌜ r ≡ length (checkedBytes (argumentOf t)) ⌝ }
 {
-    if !is_valid(t) {
+    if !is_local(t) {
+        return 0;
+    }
+    let year = utc_year(t);
+    if !is_year(year) {
         return 0;
     }
     let mut by_year = t;
-    by_year.year = utc_year(t);
+    by_year.year = year;
     value_size(by_year)
 }
 
@@ -482,8 +475,12 @@ pub fn size(t: Timestamp) -> usize
 pub fn write(buf: &mut [u8], at: usize, t: Timestamp) -> usize
     ensures { λ r. ⌜ _≡_ {A = ℕ × List ℕ} (r, now (buf .exit)) (placed (now (buf .entry)) at (checkedBytes (argumentOf t))) ⌝ }
 {
-    if !is_valid(t) {
+    if !is_local(t) {
         return 0;
     }
-    put_value(buf, at, utc_of_valid(t))
+    let in_utc = utc_of_local(t);
+    if !is_year(in_utc.year) {
+        return 0;
+    }
+    put_value(buf, at, in_utc)
 }

@@ -1,51 +1,36 @@
--- `timestamp::is_valid` meets its contract: the tests in field order are the rules of check 7.
+-- `timestamp::is_valid` meets its contract: the local rules, then the UTC year.
 -- Assumes nothing.
-use mathlib.Core.Path.{_≡_, sym, _∙_}
-use Rattle.encoding.proofs.Rules.{offset-rules, fraction-rules}
+use mathlib.Core.Path.{_≡_, sym, _∙_, ap}
+use mathlib.Core.Bool.{true}
+use borrow.Author.Tests.{not-true, not-false}
+use Rattle.ion.specs.Calendar.{isCalendarYear}
+use Rattle.encoding.specs.Timestamp.{isLocalTimestamp}
 use Rattle.timestamp.specs.Arguments.{offsetMinutes, fractionDigits, fieldsOf}
-use Rattle.timestamp.proofs.Valid.{fieldCount, length-fieldsBy, isTimestamp-tests}
+use Rattle.timestamp.proofs.Utc.{by-utc-year, not-local}
 use borrow.Author.Needs.{needs}
 use Rattle.timestamp.proofs.is_valid.Statement.{statement}
 use Rattle.timestamp.proofs.is_valid.Tie as tie
 
-field-count-requires : tie.Need-field-count-requires
-field-count-requires c κs = search needs
+keeps : (c : tie.Else1) → let t = c .before .before .args .t in isLocalTimestamp (offsetMinutes (t .offset)) (fieldsOf t) (fractionDigits (t .fraction)) ≡ true
+keeps c = sym (c .before .is-local .ensures) ∙ not-false (c .before .is-local .result) (c .if1 .left)
+
+is-local-requires : tie.Need-is-local-requires
+is-local-requires c κs = search needs
+
+returns : tie.Need-returns
+returns c = sym (not-local (c .before .before .args .t) (sym (c .before .is-local .ensures) ∙ not-true (c .before .is-local .result) (c .if1 .taken)))
+
+utc-year-requires : tie.Need-utc-year-requires
+utc-year-requires c κs = keeps c
 
 is-year-requires : tie.Need-is-year-requires
 is-year-requires c κs = search needs
 
-is-month-requires : tie.Need-is-month-requires
-is-month-requires c κs = search needs
-
-is-day-requires : tie.Need-is-day-requires
-is-day-requires c κs = search needs
-
-offset-fits-requires : tie.Need-offset-fits-requires
-offset-fits-requires c κs = search needs
-
-fraction-fits-requires : tie.Need-fraction-fits-requires
-fraction-fits-requires c κs = search needs
-
-returns : tie.Need-returns
-returns c =
-    let d = c .before .before .before .before .before in
-    let y = d .before .before in
-    let t = y .before .before .args .t in
-    let l = sym (y .before .field-count .ensures (t .year) (t .month) (t .day) (t .hour) (t .minute) (t .second)) in
-    let n : y .before .field-count .result ≡ fieldCount (t .precision) = sym l ∙ length-fieldsBy (t .precision) (t .year) (t .month) (t .day) (t .hour) (t .minute) (t .second) in
-    let o = offsetMinutes (t .offset) in
-    let x = fractionDigits (t .fraction) in
-    rw (c .fraction-fits .ensures (fieldsOf t) l, fraction-rules x (fieldsOf t), c .before .offset-fits .ensures (fieldsOf t) l, offset-rules o (fieldsOf t), d .is-day .ensures, d .before .is-month .ensures, y .is-year .ensures, n)
-    (isTimestamp-tests (t .precision) (t .year) (t .month) (t .day) (t .hour) (t .minute) (t .second) o x)
+returns-2 : tie.Need-returns-2
+returns-2 c =
+    let l = c .before .before in
+    c .is-year .ensures ∙ ap isCalendarYear (c .before .utc-year .ensures) ∙ by-utc-year (l .before .before .args .t) (keeps l)
 
 pub is-valid-spec : {M : Type 1} → statement M
 is-valid-spec =
-    tie.close
-    (tie.spec
-    field-count-requires
-    is-year-requires
-    is-month-requires
-    is-day-requires
-    offset-fits-requires
-    fraction-fits-requires
-    returns)
+    tie.close (tie.spec is-local-requires returns utc-year-requires is-year-requires returns-2)

@@ -1,9 +1,9 @@
--- `timestamp::days_in_month` meets its contract: the table has the days of each month but for the leap day.
+-- `calendar::days_in_month` meets its contract: the table has the days of each month but for the leap day.
 -- Assumes nothing.
-use Rattle.timestamp.proofs.Calendar.{days-leap, days-plain, days-none}
+use Rattle.calendar.proofs.Months.{days-leap, days-plain, days-none}
 use borrow.Author.Needs.{needs}
-use Rattle.timestamp.proofs.days_in_month.Statement.{statement}
-use Rattle.timestamp.proofs.days_in_month.Tie as tie
+use Rattle.calendar.proofs.days_in_month.Statement.{statement}
+use Rattle.calendar.proofs.days_in_month.Tie as tie
 
 is-leap-year-requires : tie.Need-is-leap-year-requires
 is-leap-year-requires c κs = search needs

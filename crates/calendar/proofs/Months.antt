@@ -12,7 +12,7 @@ use Rattle.ion.specs.Calendar.{isLeapYear, daysInMonth}
 use Rattle.ion.proofs.Tests.{both}
 
 -- with so many days in February
-abbrev daysBy : ℕ → List ℕ
+abbrev pub daysBy : ℕ → List ℕ
 daysBy february = 0 ∷ 31 ∷ february ∷ 31 ∷ 30 ∷ 31 ∷ 30 ∷ 31 ∷ 31 ∷ 30 ∷ 31 ∷ 30 ∷ 31 ∷ []
 
 pub days-leap : (y m : ℕ) → (eqb m 2 && isLeapYear y) ≡ true → 29 ≡ daysInMonth y m

@@ -1,4 +1,4 @@
--- `timestamp::utc_of_valid` meets its contract: check 7 admits a known offset only with the minute given.
+-- `timestamp::utc_of_local` meets its contract: the local rules admit a known offset only with the minute given.
 -- Assumes nothing.
 use mathlib.Core.Path.{_≡_, _∙_}
 use Prim.Native.Nat.{_≤_, _<_}
@@ -8,8 +8,8 @@ use mir.Val.{ofZ, toZ}
 use Rattle.timestamp.proofs.Valid.{fieldCount}
 use Rattle.timestamp.proofs.Utc.{known, utc-known, utc-unknown}
 use borrow.Author.Needs.{needs}
-use Rattle.timestamp.proofs.utc_of_valid.Statement.{statement}
-use Rattle.timestamp.proofs.utc_of_valid.Tie as tie
+use Rattle.timestamp.proofs.utc_of_local.Statement.{statement}
+use Rattle.timestamp.proofs.utc_of_local.Tie as tie
 
 admitted : (c : tie.After-offset) → let t = c .before .before .args .t in (5 ≤ fieldCount (t .precision)) × (natAbs (c .offset .given .0 .0) ≤ 1439) × (1 ≤ t .year) × (t .year ≤ 9999) × (t .hour < 24) × (t .minute < 60)
 admitted c = known (c .before .before .args .t) (c .offset .given .0 .0) (c .offset .given .1) (c .before .before .pre)
@@ -38,8 +38,8 @@ returns-2 c =
     let t = o .before .before .args .t in
     c .at-minute .ensures ∙ rw (c .before .utc-minutes .ensures, kept (c .before .before)) (utc-known t (o .offset .given .0 .0) (o .offset .given .1) (admitted o .0))
 
-pub utc-of-valid-spec : {M : Type 1} → statement M
-utc-of-valid-spec =
+pub utc-of-local-spec : {M : Type 1} → statement M
+utc-of-local-spec =
     tie.close
     (tie.spec
     enum-told
