@@ -15,10 +15,8 @@ use Rattle.encoding.specs.Headers.{markerBytes}
 use Rattle.encoding.specs.Argument.{Argument, meaning}
 use Rattle.encoding.proofs.Writable.{NoneHolds}
 use Rattle.machine.specs.Call.{ContainerType, sequenceType, structType, Call, write, name, opening, closing, abandonment, versionMarker, taking, emptying}
-use Rattle.machine.specs.Machine.{Config, effect, checks, Verdict, accepted, refused, verdict, isAccepted, ifAccepted, after, emptyState, splice, startVerdict, started}
-use Rattle.machine.specs.Model.{Open, openSequence, openStruct, Model, opened, setAside, closed, addMember, addField, add, close, abandon, spell, modelStep, startedModel}
-use Rattle.machine.specs.Demands.{modelAfter}
-use Rattle.machine.proofs.Steps.{none-failing}
+use Rattle.machine.specs.Machine.{Config, effect, checks, Verdict, accepted, refused, ifAccepted, emptyState, splice, startVerdict, started}
+use Rattle.machine.specs.Model.{Open, openSequence, openStruct, Model, opened, setAside, closed, addMember, addField, add, close, abandon, spell, startedModel}
 use Rattle.reading.specs.Items.{mostOpen}
 use Rattle.reading.specs.Walk.{higher, treeDepth, membersDepth, fieldsDepth, streamDepth}
 use Rattle.reading_lists.specs.ReadBack.{SpelledDepth}

@@ -16,12 +16,9 @@ use Rattle.encoding.specs.Argument.{writeString, writeClob, writeBlob, meaning,
 use Rattle.encoding.proofs.Writable.{NoneHolds}
 use Rattle.encoding.proofs.OutOfCalendar.{never-marked}
 use Rattle.machine.specs.Call.{ContainerType, sequenceType, structType, Call, write, name, opening, closing, abandonment, versionMarker, taking, emptying}
-use Rattle.machine.specs.Machine.{Config, effect, checks, started}
+use Rattle.machine.specs.Machine.{Config, checks, started}
 use Rattle.machine.specs.Model.{Open, openSequence, openStruct, Model, opened, setAside, closed, addMember, addField, add, close, abandon, spell, startedModel}
-use Rattle.machine.specs.Demands.{spelled}
 use Rattle.machine.proofs.Demands.{demand3}
-use Rattle.entry_numbers.specs.EntryCall.{HostCall}
-use Rattle.entry_lists.specs.Demands.{lentSpelling, LentRun}
 use Rattle.entry_lists.proofs.Demands.{calls, spelling-is, entry-demand3}
 use Rattle.reading_lists.specs.Unmarked.{SpelledUnmarked, ReadUnmarked, HostReadUnmarked}
 use Rattle.reading_lists.proofs.Invariant.{list-keeps}
