@@ -1,4 +1,4 @@
-//! Trial lines and what document 01 says of them; streams and what document 02, Item 1, says of them.
+//! Trial lines and what document 01 says of them; streams and what document 02, Items 1 and 2, says of them.
 //!
 //! Written from the documents alone: nothing here is shared with the proved sources, so that a slip
 //! in one shows against the other.

@@ -183,6 +183,12 @@ fn timestamp(rng: &mut Rng) -> String {
     let month = rng.between(1, 12);
     let last_day = if rng.one_in(6) { 31 } else { 28 };
     let day = rng.between(1, last_day);
+    // Around the ends of the calendar's years.
+    let (year, month, day) = match rng.below(24) {
+        0 => (1, 1, 1),
+        1 => (9999, 12, 31),
+        _ => (year, month, day),
+    };
     let mut fields = [year, month, day, rng.between(0, 23), rng.between(0, 59), rng.between(0, 59)];
     let count = rng.pick(&[1, 2, 3, 5, 5, 6, 6, 6]);
     let mut known = count >= 5 && !rng.one_in(3);

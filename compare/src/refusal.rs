@@ -1,10 +1,10 @@
-//! The refusals of a trial line (document 01, "Checks by place" and "Trial program").
+//! The refusals of a trial line (document 01, "Checks by place" and "Trial program"; document 02, Item 2).
 //!
 //! 1, 2, 3 and 9 are out of a line's reach. So is 10: a line of 4,096 bytes spells less than 4,096
 //! bytes, reserves of open containers counted, and the buffer has 16,384.
 
 use crate::form;
-use crate::value::{Annotated, Signed, Symbol, Timestamp, Value};
+use crate::value::{Annotated, Fraction, Signed, Symbol, Timestamp, Value};
 
 pub const LINE_LIMIT: usize = 4096;
 pub const DEPTH_LIMIT: usize = 32;
@@ -26,8 +26,10 @@ pub enum Fault {
     NegativeZero,
     NotUtf8,
     Timestamp,
-    /// No fraction digits and a fraction of zero, all else in order.
+    /// No fraction digits and a fraction of zero, the local fields and the offset in order.
     NoFractionDigits,
+    /// A UTC year outside 1 to 9999, the local fields and the offset in order.
+    UtcYear,
     DecimalBody,
 }
 
@@ -38,7 +40,7 @@ impl Fault {
             Fault::Depth => 4,
             Fault::NegativeZero => 5,
             Fault::NotUtf8 => 6,
-            Fault::Timestamp | Fault::NoFractionDigits => 7,
+            Fault::Timestamp | Fault::NoFractionDigits | Fault::UtcYear => 7,
             Fault::DecimalBody => 8,
             Fault::Text => 11,
             Fault::Form | Fault::Length => 12,
@@ -95,6 +97,7 @@ impl Calls {
                 }
                 self.open -= 1;
             }
+            Value::Timestamp(timestamp) => self.faults.extend(timestamp_faults(timestamp)),
             scalar => self.faults.extend(scalar_fault(scalar)),
         }
     }
@@ -115,7 +118,6 @@ fn scalar_fault(value: &Value) -> Option<Fault> {
             let body = decimal_body_len(coefficient, *exponent);
             (body > DECIMAL_BODY_LIMIT).then_some(Fault::DecimalBody)
         }
-        Value::Timestamp(timestamp) => timestamp_fault(timestamp),
         _ => None,
     }
 }
@@ -142,7 +144,8 @@ fn var_int_len(value: i64) -> usize {
     len
 }
 
-fn timestamp_fault(timestamp: &Timestamp) -> Option<Fault> {
+/// In the order of document 02, Item 13: the fields from year to second, the offset, the fraction, the UTC year.
+fn timestamp_faults(timestamp: &Timestamp) -> Vec<Fault> {
     let Timestamp { offset, fields, fraction } = timestamp;
     let year = fields[0];
     let month = fields.get(1).copied().unwrap_or(1);
@@ -158,9 +161,17 @@ fn timestamp_fault(timestamp: &Timestamp) -> Option<Fault> {
         && (0..=59).contains(&second)
         && offset.is_none_or(|o| fields.len() >= 5 && (-1439..=1439).contains(&o));
     if !in_order {
-        return Some(Fault::Timestamp);
+        return vec![Fault::Timestamp];
     }
-    let fraction = (*fraction)?;
+    // An offset is below a day: the UTC year is another than the local one on the year's first and last day alone.
+    let utc_minute = 60 * hour + minute - offset.unwrap_or(0);
+    let in_year_0 = (year, month, day) == (1, 1, 1) && utc_minute < 0;
+    let in_year_10000 = (year, month, day) == (9999, 12, 31) && utc_minute >= 1440;
+    let utc_year = (in_year_0 || in_year_10000).then_some(Fault::UtcYear);
+    fraction.and_then(fraction_fault).into_iter().chain(utc_year).collect()
+}
+
+fn fraction_fault(fraction: Fraction) -> Option<Fault> {
     match (fraction.digits, fraction.coefficient) {
         (0, 0) => Some(Fault::NoFractionDigits),
         (digits @ 1..=18, coefficient) if coefficient < 10u64.pow(digits as u32) => None,

@@ -17,7 +17,7 @@ const DAMAGED: usize = 60;
 const SHORT: usize = 1000;
 const LONG_LINES: usize = 5;
 
-/// All lines of the documents and forms, lines of every other family for each answer that the family
+/// All lines of the documents, forms and timestamp years, lines of every other family for each answer that the family
 /// meets, and random lines. A line is never there twice, and none has a byte 0, so that the file
 /// counts as text.
 pub fn lines() -> Vec<Line> {
@@ -29,7 +29,7 @@ pub fn lines() -> Vec<Line> {
         }
     };
     for family in families::all() {
-        if matches!(family.name, "documents" | "forms") {
+        if matches!(family.name, "documents" | "forms" | "timestamp years") {
             family.lines.into_iter().for_each(&mut take);
             continue;
         }

@@ -1,4 +1,4 @@
-//! Our answer and the Rust's for one trial line, each held to document 01.
+//! Our answer and the Rust's for one trial line, each held to document 01 and to document 02, Item 2.
 
 use std::fmt;
 
@@ -10,6 +10,9 @@ pub enum Verdict {
     Equal,
     /// Bytes from the Rust, and a refusal from us that document 01 asks for.
     Parted(Intent),
+    /// A timestamp of the UTC year 0 or 10000 stands in the line (document 02, Item 2): our answer is as the documents ask, the
+    /// Rust's is not looked at.
+    LeftOut,
     Different,
 }
 
@@ -35,10 +38,11 @@ impl fmt::Display for Intent {
     }
 }
 
-/// What the Rust makes of a fault: the word after its `?`, or bytes by intent.
+/// What the Rust makes of a fault: the word after its `?`, or bytes by intent; or it is not asked.
 enum RustSide {
     Refusal(&'static str),
     Bytes(Intent),
+    LeftOut,
 }
 
 fn rust_side(fault: Fault) -> RustSide {
@@ -49,10 +53,11 @@ fn rust_side(fault: Fault) -> RustSide {
         Fault::Length => RustSide::Bytes(Intent::Length),
         Fault::Depth => RustSide::Bytes(Intent::Depth),
         Fault::NoFractionDigits => RustSide::Bytes(Intent::NoFractionDigits),
+        Fault::UtcYear => RustSide::LeftOut,
     }
 }
 
-/// Our refusals must have the number that document 01 gives; the Rust's must be of the class of one
+/// Our refusals must have the number that the documents give; the Rust's must be of the class of one
 /// of the line's faults, since it builds all values of a line before it writes the first.
 pub fn verdict(line: &[u8], ours: &[u8], rust: &[u8]) -> Verdict {
     let faults = refusal::faults(line);
@@ -61,11 +66,14 @@ pub fn verdict(line: &[u8], ours: &[u8], rust: &[u8]) -> Verdict {
             return Verdict::Different;
         }
     }
+    if faults.iter().any(|fault| matches!(rust_side(*fault), RustSide::LeftOut)) {
+        return Verdict::LeftOut;
+    }
     if let Some(refused) = rust.strip_prefix(b"?") {
         let class = refused.split(|b| *b == b' ').next().unwrap_or_default();
         let of_class = |fault: &Fault| match rust_side(*fault) {
             RustSide::Refusal(word) => word.as_bytes() == class,
-            RustSide::Bytes(_) => false,
+            RustSide::Bytes(_) | RustSide::LeftOut => false,
         };
         return match faults.iter().any(of_class) {
             true => Verdict::Equal,
@@ -85,7 +93,7 @@ pub fn verdict(line: &[u8], ours: &[u8], rust: &[u8]) -> Verdict {
     }
 }
 
-/// The answer to a line: the number by document 01, or else the Rust's bytes. `None` if the two do
+/// The answer to a line: the number by the documents, or else the Rust's bytes. `None` if the two do
 /// not go together.
 pub fn expected(line: &[u8], rust: &[u8]) -> Option<Vec<u8>> {
     let answer = match refusal::number(line) {
@@ -150,5 +158,25 @@ mod tests {
         let long = format!("(int {})", "0".repeat(4091));
         assert_eq!(judge(&long, "!12", "2100"), Verdict::Parted(Intent::Length));
         assert_eq!(judge(&long, "2100", "2100"), Verdict::Different);
+    }
+
+    #[test]
+    fn utc_years_outside_the_calendar_are_left_out() {
+        let early = "(ts 60 1 1 1 0 0)";
+        for rust in ["66bc808c9f9780", "?hold year", "66bc818c9f9780", ""] {
+            assert_eq!(judge(early, "!7", rust), Verdict::LeftOut);
+            assert_eq!(judge(early, "66bc808c9f9780", rust), Verdict::Different);
+            assert_eq!(judge(early, "!12", rust), Verdict::Different);
+        }
+        // the line's first refusal answers, before such a timestamp or behind it
+        let late = "(ts -1 9999 12 31 23 59)";
+        assert_eq!(judge(&format!("(list (bool 1) {late} (int -0))"), "!7", "?hold zero"), Verdict::LeftOut);
+        assert_eq!(judge(&format!("(list (int -0) {late})"), "!5", "?hold zero"), Verdict::LeftOut);
+        assert_eq!(judge(&format!("(list (int -0) {late})"), "!7", "?hold zero"), Verdict::Different);
+        assert_eq!(judge(&format!("(ann (\"go\") {late})"), "!11", "?err text"), Verdict::LeftOut);
+        // the UTC year 9999 is compared, and so is a local year that the Rust refuses too
+        assert_eq!(judge("(ts 0 9999 12 31 23 59)", "67800000", "67800000"), Verdict::Equal);
+        assert_eq!(judge("(ts ? 0)", "!7", "?hold year"), Verdict::Equal);
+        assert_eq!(judge("(ts ? 10000)", "!7", "62c080"), Verdict::Different);
     }
 }

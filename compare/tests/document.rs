@@ -137,7 +137,7 @@ fn timestamps() {
     refused(7, &["(ts ? 0)", "(ts ? 10000)", "(ts ? 70000)", "(ts ? 2000 0)", "(ts ? 2000 13)"]);
     refused(7, &["(ts ? 1900 2 29)", "(ts ? 2100 2 29)", "(ts ? 2001 2 29)", "(ts ? 2000 2 30)"]);
     refused(7, &["(ts ? 2000 4 31)", "(ts ? 2000 1 0)", "(ts ? 2000 1 32)"]);
-    accepted(&["(ts ? 2000 1 31 23 59 59)", "(ts -1439 9999 12 31 23 59)", "(ts 1439 1 1 1 0 0)"]);
+    accepted(&["(ts ? 2000 1 31 23 59 59)", "(ts 1439 9999 12 31 23 59)", "(ts -1439 1 1 1 0 0)"]);
     refused(7, &["(ts ? 2000 1 1 24 0)", "(ts ? 2000 1 1 0 60)", "(ts ? 2000 1 1 0 0 60)"]);
     refused(7, &["(ts 1440 2000 1 1 0 0)", "(ts -1440 2000 1 1 0 0)"]);
     accepted(&["(ts -0 2000 1 1 0 0)", "(ts 0 2000 1 1 0 0)"]);
@@ -150,6 +150,27 @@ fn timestamps() {
     assert_eq!(faults(b"(ts ? 2000 1 1 0 0 60 0 0)"), [Fault::Timestamp]);
 }
 
+/// Document 02, Item 2: 7 covers a UTC year outside 1 to 9999, after the local fields.
+#[test]
+fn utc_years() {
+    accepted(&["(ts ? 1 1 1 0 0)", "(ts 0 1 1 1 0 0)", "(ts -1 1 1 1 0 0)", "(ts -1439 1 1 1 0 0 0)"]);
+    refused(7, &["(ts 1 1 1 1 0 0)", "(ts 60 1 1 1 0 0)", "(ts 1439 1 1 1 0 0 0)"]);
+    accepted(&["(ts 60 1 1 1 1 0)", "(ts 1439 1 1 1 23 59)", "(ts 1439 1 1 2 0 0)"]);
+    refused(7, &["(ts 60 1 1 1 0 59)", "(ts 60 1 1 1 0 59 59)", "(ts 1439 1 1 1 23 58)"]);
+    accepted(&["(ts ? 9999 12 31 23 59)", "(ts 0 9999 12 31 23 59)", "(ts 1 9999 12 31 23 59)", "(ts 1439 9999 12 31 23 59 59)"]);
+    refused(7, &["(ts -1 9999 12 31 23 59)", "(ts -60 9999 12 31 23 30)", "(ts -1439 9999 12 31 23 59 59 18 0)"]);
+    accepted(&["(ts -60 9999 12 31 22 59)", "(ts -1439 9999 12 31 0 0)", "(ts -1439 9999 12 30 23 59)"]);
+    refused(7, &["(ts -60 9999 12 31 23 0)", "(ts -1439 9999 12 31 0 1)"]);
+    // A year of its own among the faults, the last of its timestamp's.
+    assert_eq!(faults(b"(ts 60 1 1 1 0 0)"), [Fault::UtcYear]);
+    assert_eq!(faults(b"(ts 60 1 1 1 0 0 0 0 0)"), [Fault::NoFractionDigits, Fault::UtcYear]);
+    assert_eq!(faults(b"(ts 60 1 1 1 0 0 0 19 0)"), [Fault::Timestamp, Fault::UtcYear]);
+    assert_eq!(faults(b"(ts 60 1 1 1 0 60)"), [Fault::Timestamp]);
+    assert_eq!(faults(b"(ts 60 1 1 1)"), [Fault::Timestamp]);
+    assert_eq!(faults(b"(ts 1440 1 1 1 0 0)"), [Fault::Timestamp]);
+    assert_eq!(faults(b"(ts ? 0 12 31 23 0)"), [Fault::Timestamp]);
+}
+
 #[test]
 fn the_first_refusal_answers() {
     // The form over the whole line first.
@@ -158,9 +179,10 @@ fn the_first_refusal_answers() {
     refused(5, &["(list (int -0) (symbol \"go\"))", "(struct (4 (int -0)) (\"go\" (string ff)))"]);
     refused(11, &["(list (symbol \"go\") (int -0))", "(struct (\"go\" (int -0)))"]);
     refused(6, &["(list (string ff) (ts ? 0))"]);
-    refused(7, &["(list (ts ? 0) (string ff))"]);
+    refused(7, &["(list (ts ? 0) (string ff))", "(list (ts 60 1 1 1 0 0) (string ff))"]);
+    refused(6, &["(list (string ff) (ts 60 1 1 1 0 0))"]);
     // A call that meets text is 11 before its other checks.
-    refused(11, &["(ann (\"go\") (int -0))", "(ann (10 \"go\") (string ff))", "(ann (\"go\") (ts ? 0))"]);
+    refused(11, &["(ann (\"go\") (int -0))", "(ann (10 \"go\") (string ff))", "(ann (\"go\") (ts 60 1 1 1 0 0))"]);
     refused(11, &[&nested(32, "(ann (\"go\") (list))"), &nested(32, "(symbol \"go\")")]);
     refused(4, &[&nested(32, "(struct (\"go\" (bool 1)))"), &nested(33, "(symbol \"go\")")]);
     refused(11, &["(ann (\"go\") (list (int -0)))"]);

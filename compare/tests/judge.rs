@@ -39,6 +39,24 @@ fn differences() {
 }
 
 #[test]
+fn left_out() {
+    let lines = format!("{LINES}(ts 60 1 1 1 0 0)\n(list (int -0) (ts -60 9999 12 31 23 30))\n(bool 0)\n");
+    let rust = format!("{RUST}66bc808c9f9780\n?hold zero\n10\n");
+    let (content, printed) = judge("left-out", &[&lines, &format!("{OURS}!7\n!5\n10\n"), &rust]);
+    assert!(content, "{printed}");
+    assert!(
+        printed.contains("\nleft out of the comparison, ours held to document 02, Item 2: 2 with a UTC year of 0 or 10000\n"),
+        "{printed}"
+    );
+    // They are not counted among the lines.
+    assert!(printed.ends_with("\n7 lines, 0 differences\n"), "{printed}");
+    for (at, ours) in ["66bc808c9f9780\n!5\n10\n", "!7\n!7\n10\n", "!7\n!5\n11\n"].iter().enumerate() {
+        let (content, printed) = judge(&format!("left-out-{at}"), &[&lines, &format!("{OURS}{ours}"), &rust]);
+        assert!(!content && printed.starts_with(&format!("line {}: ", at + 7)), "{printed}");
+    }
+}
+
+#[test]
 fn short_and_long_files() {
     let short = OURS.strip_suffix("!11\n").expect("six lines");
     assert!(!judge("short", &[LINES, short, RUST]).0);

@@ -1,8 +1,10 @@
-//! The model of the reader, held to answers that are written by hand: the Ion document's examples, and the rules of document 02, Item 1.
+//! The model of the reader, held to answers that are written by hand: the Ion document's examples, and the rules of document 02, Items 1
+//! and 2.
 //! `compare::reading::text` says how an answer is written.
 
-use compare::reading::vectors::{bytes, headed};
-use compare::reading::{text, walk};
+use compare::reading::vectors::{self, bytes, headed};
+use compare::reading::{streams, text, walk, Event, Scalar, Timestamp};
+use compare::rng::Rng;
 
 fn answer(hex: &str, position: usize) -> String {
     let (events, ending) = walk(&bytes(hex), position);
@@ -184,9 +186,9 @@ fn scalars() {
 #[test]
 fn timestamps() {
     reads(&[
-        ("63c04e90", "t?:10000: whole"),
+        ("63c04e90", "t?:10000: out-of-calendar whole"),
         ("63c04e91", "!13@0"),
-        ("62c080", "t?:0: whole"),
+        ("62c080", "t?:0: out-of-calendar whole"),
         ("65c00fd0829d", "t?:2000,2,29: whole"),
         ("65c00fd1829d", "!13@0"),
         ("66c00fd0818180", "!13@0"),
@@ -197,6 +199,94 @@ fn timestamps() {
         ("6c410000000000000000800fd0", "t-9223372036854775808:2000: whole"),
         ("6c410000000000000000810fd0", "!13@0"),
     ]);
+}
+
+fn is_marked(offset: Option<i64>, fields: &[u64]) -> bool {
+    let (events, _) = walk(&vectors::timestamp(offset, fields), 0);
+    match &events[..] {
+        [Event::Scalar { value: Scalar::Timestamp { value, out_of_calendar }, .. }] => {
+            assert_eq!(*value, Timestamp { offset, fields: fields.to_vec(), fraction: None });
+            *out_of_calendar
+        }
+        other => panic!("{other:?}"),
+    }
+}
+
+#[test]
+fn out_of_calendar_by_the_utc_year() {
+    for (year, marked) in [(0, true), (1, false), (2000, false), (9999, false), (10_000, true)] {
+        for fields in [&[year][..], &[year, 6], &[year, 6, 15], &[year, 6, 15, 12, 30], &[year, 6, 15, 12, 30, 59]] {
+            for offset in [None, Some(0), Some(60), Some(-60), Some(1439), Some(-1439)] {
+                assert_eq!(is_marked(offset, fields), marked, "{offset:?} {fields:?}");
+            }
+        }
+    }
+    // a local year inside does not help, and 29 February is a day of the year 0
+    assert!(is_marked(Some(60), &[0, 12, 31, 23, 30]));
+    assert!(is_marked(Some(-60), &[10_000, 1, 1, 0, 30, 0]));
+    assert!(is_marked(Some(1_000_000_000), &[0, 2, 29, 0, 0]));
+    assert!(is_marked(None, &[0, 2, 29]));
+}
+
+#[test]
+fn out_of_calendar_by_the_local_year() {
+    // the first minute of the year 1, and the last of 9999
+    for (offset, first, last) in [
+        (None, false, false),
+        (Some(0), false, false),
+        (Some(1), false, true),
+        (Some(-1), true, false),
+        (Some(1439), false, true),
+        (Some(-1439), true, false),
+        (Some(5_258_964_959), false, true),
+        (Some(5_258_964_960), true, true),
+        (Some(-5_258_964_959), true, false),
+        (Some(-5_258_964_960), true, true),
+        (Some(i64::MAX), true, true),
+        (Some(i64::MIN), true, true),
+    ] {
+        for second in [&[][..], &[59]] {
+            assert_eq!(is_marked(offset, &[&[1, 1, 1, 0, 0], second].concat()), first, "{offset:?}");
+            assert_eq!(is_marked(offset, &[&[9999, 12, 31, 23, 59], second].concat()), last, "{offset:?}");
+        }
+        // the other ends lie a year away
+        let year = 525_600;
+        assert_eq!(is_marked(offset, &[1, 12, 31, 23, 59]), offset.is_some_and(|o| o < 1 - year || o > 5_258_964_960 - year));
+        assert_eq!(is_marked(offset, &[9999, 1, 1, 0, 0]), offset.is_some_and(|o| o > year - 1 || o < year - 5_258_964_960));
+    }
+    // a date alone is not judged by its offset
+    for offset in [None, Some(0), Some(1), Some(-1), Some(1440), Some(-1440), Some(i64::MAX), Some(i64::MIN)] {
+        for date in [&[1][..], &[1, 1], &[1, 1, 1], &[9999], &[9999, 12], &[9999, 12, 31]] {
+            assert!(!is_marked(offset, date), "{offset:?} {date:?}");
+        }
+    }
+}
+
+/// What the random streams and those of `years` have of timestamps.
+#[test]
+fn timestamps_in_the_calendar_and_out_of_it_are_many() {
+    let mut rng = Rng::new(1);
+    let random: Vec<Vec<u8>> = (0..100_000).map(|_| streams::stream(&mut rng).0).collect();
+    for streams in [random, streams::years()] {
+        let mut counts = [0; 5];
+        for stream in &streams {
+            for event in walk(stream, 0).0 {
+                let Event::Scalar { value: Scalar::Timestamp { value, out_of_calendar }, .. } = event else {
+                    continue;
+                };
+                let at_an_end = matches!(value.fields[0], 1 | 9999);
+                let kind = match (out_of_calendar, at_an_end) {
+                    (true, true) => 0,
+                    (true, false) if matches!(value.fields[0], 0 | 10_000) => 1,
+                    (true, false) => 2,
+                    (false, true) if value.fields.len() < 5 && value.offset.is_some() => 3,
+                    (false, _) => 4,
+                };
+                counts[kind] += 1;
+            }
+        }
+        assert!(counts.iter().all(|count| *count >= 1000), "{counts:?} of {}", streams.len());
+    }
 }
 
 #[test]

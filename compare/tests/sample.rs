@@ -2,8 +2,9 @@
 
 use std::collections::BTreeSet;
 
-use compare::refusal::number;
-use compare::{families, sample};
+use compare::reading::{written, Event, Scalar};
+use compare::refusal::{faults, number, Fault};
+use compare::{families, form, sample};
 
 #[test]
 fn families_meet_every_refusal_of_a_line() {
@@ -15,6 +16,26 @@ fn families_meet_every_refusal_of_a_line() {
     for family in &families {
         assert!(family.lines.iter().any(|line| number(line).is_none()), "{}: no line is accepted", family.name);
     }
+}
+
+/// The UTC years by the order of the fields against those that are counted through the calendar.
+#[test]
+fn accepted_lines_have_no_timestamp_out_of_calendar() {
+    let outside = |event: &Event| matches!(event, Event::Scalar { value: Scalar::Timestamp { value, .. }, .. } if value.is_out_of_calendar());
+    let (mut accepted, mut refused) = (0, 0);
+    for line in families::all().iter().flat_map(|family| &family.lines) {
+        let faults = faults(line);
+        if faults.iter().any(|fault| *fault != Fault::UtcYear) {
+            continue;
+        }
+        let value = form::parse(line).expect("of the form");
+        assert_eq!(written::events(&value).iter().any(outside), !faults.is_empty(), "{}", line.escape_ascii());
+        match faults.is_empty() {
+            true => accepted += 1,
+            false => refused += 1,
+        }
+    }
+    assert!(accepted > 10_000 && refused > 1000, "{accepted} accepted, {refused} refused");
 }
 
 #[test]

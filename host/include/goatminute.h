@@ -31,7 +31,7 @@ enum gm_answer {
     GM_TOO_DEEP = 4,           /* GM_MOST_OPEN containers are open */
     GM_NEGATIVE_ZERO = 5,      /* an int of negative sign and magnitude zero */
     GM_NOT_UTF8 = 6,           /* a string that is not UTF-8 */
-    GM_BAD_TIMESTAMP = 7,      /* a field of a timestamp is out of its range */
+    GM_BAD_TIMESTAMP = 7,      /* a field of a timestamp is out of its range, or its UTC year outside 1 to 9999 */
     GM_DECIMAL_TOO_LONG = 8,   /* a decimal's body is over 32 bytes */
     GM_TIMESTAMP_TOO_LONG = 9, /* a timestamp's body is over 32 bytes: no call meets it */
     GM_NO_ROOM = 10,           /* the used length on return would pass the buffer */
@@ -95,7 +95,8 @@ uint8_t gm_write_decimal(uint8_t *state, size_t state_len, uint8_t *buf, size_t 
                          const uint8_t *coefficient, size_t coefficient_len, int64_t exponent);
 
 /* A timestamp by its local fields. Precision 0 year, 1 month, 2 day, 3 minute, 4 second; offset in minutes if known,
- * fraction of `digits` digits if given. Fields past the precision mean nothing. Refusals 1, 2, 3, 7, 10. */
+ * fraction of `digits` digits if given. Fields past the precision mean nothing. The local year is 1 to 9999, and so is the UTC year,
+ * local minus offset. Refusals 1, 2, 3, 7, 10. */
 uint8_t gm_write_timestamp(uint8_t *state, size_t state_len, uint8_t *buf, size_t buf_len,
                            const uint8_t *annotations, size_t annotations_len, uint8_t precision, uint32_t year,
                            uint32_t month, uint32_t day, uint32_t hour, uint32_t minute, uint32_t second,
@@ -205,14 +206,16 @@ uint8_t gm_read_sid(const uint8_t *part, size_t part_len, size_t position, uint6
  * The coefficient is an Int: the top bit of its first byte is its sign, the rest its magnitude, and no bytes are zero. Refusal 13. */
 uint8_t gm_read_decimal(const uint8_t *body, size_t body_len, uint64_t *decimal, size_t decimal_len);
 
-/* A timestamp's body, by twelve numbers:
+/* A timestamp's body, by thirteen numbers:
  *   0  1 if the offset is known, else 0
  *   1  1 if it is negative, else 0
  *   2  its minutes
  *   3  how many fields there are: year 1, month 2, day 3, hour and minute 5, second 6
- *   4  year, month, day, hour, minute and second of UTC, 0 where there is none
+ *   4  year (0 to 10000), month, day, hour, minute and second of UTC, 0 where there is none
  *  10  how many digits the fraction of the second has; 0 is none
  *  11  where in the body their number starts, an Int that is not negative or is negative zero
+ *  12  the out-of-calendar mark: 1 if its UTC year, or its local year where it has a time (5 or 6 fields), is outside 1 to 9999,
+ *      else 0. Local is UTC plus offset; an unknown offset shifts nothing, a known one on a date alone does not count
  * Refusal 13. */
 uint8_t gm_read_timestamp(const uint8_t *body, size_t body_len, uint64_t *timestamp, size_t timestamp_len);
 

@@ -162,9 +162,13 @@ pub struct ReadTimestamp<'a> {
     pub precision: Precision,
     /// Minutes east of UTC; `None` is the unknown offset.
     pub offset: Option<i64>,
-    /// The fields of UTC.
+    /// The fields of UTC. The year is 0 to 10000.
     pub utc: Fields,
     pub fraction: Option<Fraction<'a>>,
+    /// The out-of-calendar mark of document 02, Item 2: the UTC year, or the local year where there is a time of day (minute or second
+    /// precision), is outside 1 to 9999. An unknown offset shifts nothing; a known one on a date alone does not count. The mark follows
+    /// from the other fields and is no part of the value. What a [`Writer`](crate::Writer) wrote never has it.
+    pub out_of_calendar: bool,
 }
 
 /// A date and a time of day, of the Gregorian calendar in both directions. Fields past a timestamp's precision are 1 or 0, the least.

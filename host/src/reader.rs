@@ -282,7 +282,7 @@ fn decimal(body: &[u8]) -> Result<ReadDecimal<'_>, Refusal> {
 }
 
 fn timestamp(body: &[u8]) -> Result<ReadTimestamp<'_>, Refusal> {
-    let [known, west, minutes, count, year, month, day, hour, minute, second, digits, start] = sys::read_timestamp(body)?;
+    let [known, west, minutes, count, year, month, day, hour, minute, second, digits, start, mark] = sys::read_timestamp(body)?;
     let precision = match count {
         1 => Precision::Year,
         2 => Precision::Month,
@@ -310,5 +310,6 @@ fn timestamp(body: &[u8]) -> Result<ReadTimestamp<'_>, Refusal> {
             second: second as u32,
         },
         fraction,
+        out_of_calendar: mark != 0,
     })
 }

@@ -11,6 +11,7 @@ pub enum Refusal {
     TooDeep,
     NegativeZero,
     NotUtf8,
+    /// A field out of its range, or else a UTC year outside 1 to 9999.
     BadTimestamp,
     DecimalTooLong,
     /// No call meets it: a timestamp that 7 does not refuse has a body of at most 18 bytes.
@@ -86,7 +87,7 @@ impl fmt::Display for Refusal {
             Refusal::TooDeep => "32 containers are open",
             Refusal::NegativeZero => "an int with a negative sign has magnitude zero",
             Refusal::NotUtf8 => "the string is not UTF-8",
-            Refusal::BadTimestamp => "a field of the timestamp is out of its range",
+            Refusal::BadTimestamp => "a field of the timestamp is out of its range, or its UTC year outside 1 to 9999",
             Refusal::DecimalTooLong => "the decimal's body is over 32 bytes",
             Refusal::TimestampTooLong => "the timestamp's body is over 32 bytes",
             Refusal::NoRoom => "the buffer has no room",

@@ -486,10 +486,11 @@ pub fn read_decimal(body: &[u8]) -> Result<[u64; 3], Refusal> {
 }
 
 /// A timestamp's body: whether its offset is known, whether that is negative, and its minutes; how many fields there are; year, month,
-/// day, hour, minute and second of UTC; how many digits the fraction has, and where in the body their coefficient starts, an Int.
+/// day, hour, minute and second of UTC; how many digits the fraction has, and where in the body their coefficient starts, an Int; whether
+/// it is out of the calendar, as [`ReadTimestamp`](crate::ReadTimestamp) says.
 #[inline(always)]
-pub fn read_timestamp(body: &[u8]) -> Result<[u64; 12], Refusal> {
-    let mut timestamp = [0; 12];
+pub fn read_timestamp(body: &[u8]) -> Result<[u64; 13], Refusal> {
+    let mut timestamp = [0; 13];
     let (body, body_len) = lend(body);
     answer(unsafe { gm_read_timestamp(body, body_len, timestamp.as_mut_ptr(), timestamp.len()) })?;
     Ok(timestamp)

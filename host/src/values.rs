@@ -84,7 +84,9 @@ pub enum Precision {
     Second = 4,
 }
 
-/// A timestamp by its local fields. Nothing is checked before the call that writes it. Fields past the precision mean nothing.
+/// A timestamp by its local fields. Nothing is checked before the call that writes it, which refuses by 7 what is out of its range: a local
+/// year outside 1 to 9999, a day that no month has, and also a UTC year outside 1 to 9999, as of 0001-01-01T00:30+01:00. Fields past the
+/// precision mean nothing.
 #[derive(Clone, Copy, Debug, PartialEq, Eq, Hash)]
 pub struct Timestamp {
     pub precision: Precision,
@@ -94,7 +96,7 @@ pub struct Timestamp {
     pub hour: u32,
     pub minute: u32,
     pub second: u32,
-    /// Minutes east of UTC; `None` is the unknown offset.
+    /// Minutes east of UTC, -1439 to 1439; `None` is the unknown offset.
     pub offset: Option<i32>,
     /// Count of digits, 1 to 18, and the coefficient: (3, 7) is .007.
     pub fraction: Option<(u32, u64)>,

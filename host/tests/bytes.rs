@@ -205,23 +205,23 @@ fn timestamps() {
         timestamp(Timestamp::second(2000, 1, 1, 0, 0, 0).with_fraction(3, 128)),
         "6B C0 0F D0 81 81 80 80 80 C3 00 80"
     );
-    // the written year may be 0 or 10000
+    // the first UTC minute that is written, and the last
     assert_eq!(
-        timestamp(Timestamp::minute(1, 1, 1, 0, 30).with_offset(60)),
-        "66 BC 80 8C 9F 97 9E"
+        timestamp(Timestamp::minute(1, 1, 1, 1, 0).with_offset(60)),
+        "66 BC 81 81 81 80 80"
     );
     assert_eq!(
-        timestamp(Timestamp::minute(9999, 12, 31, 23, 30).with_offset(-60)),
-        "67 FC 4E 90 81 81 80 9E"
+        timestamp(Timestamp::minute(9999, 12, 31, 22, 59).with_offset(-60)),
+        "67 FC 4E 8F 8C 9F 97 BB"
     );
     // the longest body
     assert_eq!(
         timestamp(
             Timestamp::second(9999, 12, 31, 23, 59, 59)
                 .with_fraction(18, 999_999_999_999_999_999)
-                .with_offset(-1439)
+                .with_offset(1439)
         ),
-        "6E 92 4B 9F 4E 90 81 81 97 BA BB D2 0D E0 B6 B3 A7 63 FF FF"
+        "6E 92 0B 9F 4E 8F 8C 9F 80 80 BB D2 0D E0 B6 B3 A7 63 FF FF"
     );
 }
 

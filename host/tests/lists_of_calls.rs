@@ -109,10 +109,6 @@ fn timestamp_body(t: &Timestamp) -> Result<Vec<u8>, Refusal> {
     if wrong {
         return Err(Refusal::BadTimestamp);
     }
-    let mut body = match t.offset {
-        None => vec![0xC0],
-        Some(offset) => var_int(offset < 0, offset.unsigned_abs() as u64),
-    };
     // UTC is local minus offset: a minute at a time carried into hours and days
     let minutes = hour * 60 + minute - t.offset.unwrap_or(0) as i64;
     if fields >= 5 {
@@ -135,6 +131,13 @@ fn timestamp_body(t: &Timestamp) -> Result<Vec<u8>, Refusal> {
             }
         }
     }
+    if !(1..=9999).contains(&year) {
+        return Err(Refusal::BadTimestamp);
+    }
+    let mut body = match t.offset {
+        None => vec![0xC0],
+        Some(offset) => var_int(offset < 0, offset.unsigned_abs() as u64),
+    };
     for field in &[year, month, day, hour, minute, second][..fields] {
         body.extend(var_uint(*field as u64));
     }
@@ -540,6 +543,12 @@ impl Random {
             0 => 1,
             1 => 28 + self.below(5) as u32,
             _ => 1 + self.below(28) as u32,
+        };
+        // around the ends of the calendar's years
+        let (year, month, day) = match self.below(12) {
+            0 => (1, 1, 1),
+            1 => (9999, 12, 31),
+            _ => (year, month, day),
         };
         let hour = self.mostly_below(24, 26, 12) as u32;
         let minute = self.mostly_below(60, 62, 12) as u32;

@@ -130,6 +130,137 @@ fn offsets_to_the_ends_of_64_bits_have_a_local_time() {
     }
 }
 
+fn var_uint(number: u64) -> Vec<u8> {
+    let groups = (64 - number.leading_zeros()).div_ceil(7).max(1);
+    let mut bytes: Vec<u8> = (0..groups).rev().map(|group| (number >> (7 * group)) as u8 & 0x7F).collect();
+    *bytes.last_mut().unwrap() |= 0x80;
+    bytes
+}
+
+/// A timestamp of any offset and these UTC fields.
+fn timestamp_stream(offset: Option<i64>, fields: &[u64]) -> Vec<u8> {
+    let mut body = var_uint(offset.map_or(0, i64::unsigned_abs));
+    if body[0] & 0x40 != 0 {
+        body.insert(0, 0);
+    }
+    if offset.is_none_or(|minutes| minutes < 0) {
+        body[0] |= 0x40;
+    }
+    body.extend(fields.iter().flat_map(|field| var_uint(*field)));
+    [&[0x6E], &var_uint(body.len() as u64)[..], &body].concat()
+}
+
+/// The mark is what the library answers; the years are those of the fields, counted by this crate.
+#[test]
+fn timestamps_out_of_calendar_are_marked() {
+    let is_year = |year: i64| (1..=9999).contains(&year);
+    let mut offsets = vec![None, Some(i64::MAX), Some(i64::MIN), Some(-i64::MAX)];
+    for minutes in (0..=62).map(|bits| 1 << bits).chain([0, 59, 60, 720, 1439, 1440, 1441]) {
+        offsets.extend([Some(minutes), Some(-minutes)]);
+    }
+    // from 2000-01-01T00:00 to the year 1 and to the year 10000
+    for minutes in [-1_051_371_360, 4_207_593_600] {
+        offsets.extend([Some(minutes - 1), Some(minutes), Some(minutes + 1)]);
+    }
+    let (mut marked, mut unmarked) = (0, 0);
+    for year in [0, 1, 2, 4, 400, 1999, 2000, 9998, 9999, 10_000] {
+        for (month, day) in [(1, 1), (2, 28), (6, 15), (12, 31)] {
+            for (hour, minute) in [(0, 0), (0, 1), (12, 30), (23, 58), (23, 59)] {
+                let fields = [year, month, day, hour, minute, 59];
+                for count in [1, 2, 3, 5, 6] {
+                    for offset in &offsets {
+                        let stream = timestamp_stream(*offset, &fields[..count]);
+                        let Value::Timestamp(read) = only(&stream).value else {
+                            panic!("no timestamp")
+                        };
+                        assert_eq!((read.offset, read.utc.year), (*offset, year as i64));
+                        let outside = !is_year(read.utc.year) || (count >= 5 && !is_year(read.local().year));
+                        assert_eq!(read.out_of_calendar, outside, "{read:?}");
+                        match outside {
+                            true => marked += 1,
+                            false => unmarked += 1,
+                        }
+                    }
+                }
+            }
+        }
+    }
+    assert!(marked > 20_000 && unmarked > 20_000, "{marked} marked, {unmarked} not");
+}
+
+#[test]
+fn the_ends_of_the_calendar() {
+    let marked = |offset, fields: &[u64]| {
+        let stream = timestamp_stream(offset, fields);
+        match only(&stream).value {
+            Value::Timestamp(read) => read.out_of_calendar,
+            other => panic!("{other:?}"),
+        }
+    };
+    for (offset, first, last) in [
+        (None, false, false),
+        (Some(0), false, false),
+        (Some(1), false, true),
+        (Some(-1), true, false),
+        (Some(1439), false, true),
+        (Some(-1439), true, false),
+        (Some(i64::MAX), true, true),
+        (Some(i64::MIN), true, true),
+    ] {
+        assert_eq!(marked(offset, &[1, 1, 1, 0, 0]), first, "{offset:?}");
+        assert_eq!(marked(offset, &[9999, 12, 31, 23, 59, 59]), last, "{offset:?}");
+        assert!(marked(offset, &[0, 2, 29]));
+        assert!(marked(offset, &[0, 12, 31, 23, 59]));
+        assert!(marked(offset, &[10_000]));
+        assert!(!marked(offset, &[1, 1, 1]));
+        assert!(!marked(offset, &[9999, 12, 31]));
+    }
+    // what is outside the grammar stays so
+    for fields in [&[10_001][..], &[10_001, 1, 1, 0, 0], &[0, 2, 30], &[1, 2, 29]] {
+        assert_eq!(
+            items(&timestamp_stream(Some(-60), fields)),
+            (0, Some(refused(Refusal::NotIon, 0)))
+        );
+    }
+}
+
+/// The first and the last minute of the years 1 and 9999 with every offset: refused, or read back in the calendar.
+#[test]
+fn what_is_written_is_never_out_of_calendar() {
+    let mut buf = [0; 64];
+    let mut refused = 0;
+    for offset in [None].into_iter().chain((-1439..=1439).map(Some)) {
+        for (year, month, day, hour, minute) in [
+            (1, 1, 1, 0, 0),
+            (1, 12, 31, 23, 59),
+            (9999, 1, 1, 0, 0),
+            (9999, 12, 31, 23, 59),
+        ] {
+            let mut value = Timestamp::minute(year, month, day, hour, minute);
+            value.offset = offset;
+            let mut writer = Writer::new(&mut buf).unwrap();
+            match writer.write_timestamp(value) {
+                Ok(()) => {
+                    let Value::Timestamp(read) = only(&writer.finished()[4..]).value else {
+                        panic!("no timestamp")
+                    };
+                    assert_eq!(
+                        (read.out_of_calendar, read.local().year),
+                        (false, i64::from(year)),
+                        "{value:?}"
+                    );
+                }
+                Err(refusal) => {
+                    assert_eq!(refusal, Refusal::BadTimestamp, "{value:?}");
+                    assert_eq!(writer.finished().len(), 4);
+                    refused += 1;
+                }
+            }
+        }
+    }
+    assert_eq!(refused, 2 * 1439);
+}
+
 #[test]
 fn names_annotations_and_places() {
     // 20 ::{10: 1, pad, 11: $3::[]} behind a marker and a pad
@@ -322,4 +453,6 @@ fn entries_answer_by_places() {
     assert_eq!(sys::read_symbol(&[1; 9]), Err(Refusal::NotIon));
     assert_eq!(sys::read_decimal(b""), Ok([0, 0, 0]));
     assert_eq!(sys::read_timestamp(b"\xC0"), Err(Refusal::NotIon));
+    let early = sys::read_timestamp(b"\xBC\x80\x8C\x9F\x97\x9E").unwrap();
+    assert_eq!((&early[..11], early[12]), (&[1, 0, 60, 5, 0, 12, 31, 23, 30, 0, 0][..], 1));
 }

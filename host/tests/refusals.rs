@@ -334,6 +334,15 @@ fn timestamps_out_of_range_are_7() {
         second.with_fraction(u32::MAX, u64::MAX),
         Timestamp::minute(2000, 1, 1, 0, 0).with_fraction(3, 0),
         Timestamp::day(2000, 1, 1).with_fraction(3, 0),
+        // the UTC years 0 and 10000, whatever the local year
+        Timestamp::minute(1, 1, 1, 0, 0).with_offset(1),
+        Timestamp::minute(1, 1, 1, 0, 30).with_offset(60),
+        Timestamp::second(1, 1, 1, 23, 58, 59).with_offset(1439),
+        Timestamp::minute(9999, 12, 31, 23, 59).with_offset(-1),
+        Timestamp::minute(9999, 12, 31, 23, 30).with_offset(-60),
+        Timestamp::second(9999, 12, 31, 0, 1, 0)
+            .with_offset(-1439)
+            .with_fraction(3, 7),
     ];
     for room in [4, 64] {
         let (mut state, mut buf) = started(room);
@@ -438,6 +447,8 @@ fn writer_refuses_as_the_entries_do() {
     assert_eq!(writer.write_int(true, &[]), Err(Refusal::NegativeZero));
     assert_eq!(writer.write_string_bytes(b"\xFF"), Err(Refusal::NotUtf8));
     assert_eq!(writer.write_timestamp(Timestamp::year(0)), Err(Refusal::BadTimestamp));
+    let early = Timestamp::minute(1, 1, 1, 0, 30).with_offset(60);
+    assert_eq!(writer.write_timestamp(early), Err(Refusal::BadTimestamp));
     assert_eq!(
         writer.write_decimal(Decimal::from_bytes(false, &[1; 40], 0)),
         Err(Refusal::DecimalTooLong)

@@ -70,25 +70,81 @@ fn timestamps() {
         ),
         // what the text has no form for
         (b"\x63\x80\x0F\xD0", "2000T /* offset 0 minutes */"),
-        (b"\x63\xC0\x4E\x90", "10000T /* UTC year 10000 */"),
+        (b"\x63\xC0\x4E\x90", "10000T /* out of calendar: UTC year 10000 */"),
         (
             b"\x68\x0B\xA0\x0F\xD0\x81\x81\x80\x80",
             "2000-01-01T00:00Z /* offset 1440 minutes */",
         ),
         (
             b"\x6E\x90\x41\0\0\0\0\0\0\0\0\x80\x0F\xD0\x81\x81\x80\x80",
-            "2000-01-01T00:00Z /* offset -9223372036854775808 minutes */",
+            "2000-01-01T00:00Z /* offset -9223372036854775808 minutes */ /* out of calendar: local year -17536621475616 */",
         ),
         (
             b"\x6E\x90\x00\x7F\x7F\x7F\x7F\x7F\x7F\x7F\x7F\xFF\x0F\xD0\x81\x81\x80\x80",
-            "2000-01-01T00:00Z /* offset 9223372036854775807 minutes */",
+            "2000-01-01T00:00Z /* offset 9223372036854775807 minutes */ /* out of calendar: local year 17536621479615 */",
         ),
-        (b"\x66\xFC\x81\x81\x81\x80\x80", "0001-01-01T00:00Z /* offset -60 minutes */"),
-        (b"\x66\xBC\x80\x8C\x9F\x97\xBB", "0001-01-01T00:59+01:00 /* UTC year 0 */"),
+        (
+            b"\x66\xFC\x81\x81\x81\x80\x80",
+            "0001-01-01T00:00Z /* offset -60 minutes */ /* out of calendar: local year 0 */",
+        ),
+        (
+            b"\x66\xBC\x80\x8C\x9F\x97\xBB",
+            "0001-01-01T00:59+01:00 /* out of calendar: UTC year 0 */",
+        ),
         (
             b"\x6E\x93\x80\x0F\xD0\x81\x81\x80\x80\x80\x41\0\0\0\0\0\0\0\0\x80\x07",
             "2000-01-01T00:00:00Z /* fraction 7d-9223372036854775808 */",
         ),
+    ] {
+        assert_eq!(line(stream), text);
+    }
+}
+
+/// Exactly what is out of the calendar has the comment.
+#[test]
+fn years_outside_the_calendar() {
+    for (stream, text) in [
+        // the first minute and the last of the calendar, and those beyond
+        (&b"\x66\x80\x81\x81\x81\x80\x80"[..], "0001-01-01T00:00Z"),
+        (b"\x67\x80\x4E\x8F\x8C\x9F\x97\xBB", "9999-12-31T23:59Z"),
+        (b"\x67\xC1\x4E\x8F\x8C\x9F\x97\xBB", "9999-12-31T23:58-00:01"),
+        (
+            b"\x67\x81\x4E\x8F\x8C\x9F\x97\xBB",
+            "9999-12-31T23:59Z /* offset 1 minutes */ /* out of calendar: local year 10000 */",
+        ),
+        (
+            b"\x68\x0B\xA0\x4E\x90\x81\x81\x80\x80",
+            "10000-01-01T00:00Z /* offset 1440 minutes */ /* out of calendar: UTC year 10000, local year 10000 */",
+        ),
+        (
+            b"\x68\x4B\xA0\x4E\x90\x81\x81\x80\x80",
+            "10000-01-01T00:00Z /* offset -1440 minutes */ /* out of calendar: UTC year 10000 */",
+        ),
+        (
+            b"\x68\xFC\x80\x81\x81\x80\x80\xBB\xC1",
+            "0000-01-01T00:00:59.0Z /* offset -60 minutes */ /* out of calendar: UTC year 0, local year -1 */",
+        ),
+        // no offset: the local year is that of UTC
+        (
+            b"\x66\xC0\x80\x82\x9D\x80\x80",
+            "0000-02-29T00:00-00:00 /* out of calendar: UTC year 0 */",
+        ),
+        (
+            b"\x66\x80\x80\x82\x9D\x80\x80",
+            "0000-02-29T00:00Z /* out of calendar: UTC year 0 */",
+        ),
+        // a date alone is not judged by its offset
+        (b"\x64\xC1\x81\x81\x81", "0001-01-01 /* offset -1 minutes */"),
+        (
+            b"\x6E\x8E\x00\x7F\x7F\x7F\x7F\x7F\x7F\x7F\x7F\xFF\x4E\x8F\x8C\x9F",
+            "9999-12-31 /* offset 9223372036854775807 minutes */",
+        ),
+        (
+            b"\x64\x81\x80\x82\x9D",
+            "0000-02-29 /* offset 1 minutes */ /* out of calendar: UTC year 0 */",
+        ),
+        // in a container
+        (b"\xB5\x62\xC0\x80\x21\x05", "[0000T /* out of calendar: UTC year 0 */, 5]"),
     ] {
         assert_eq!(line(stream), text);
     }

@@ -3,7 +3,7 @@
 use std::fmt::Debug;
 
 use compare::reading::text::{self, Hex};
-use compare::reading::{self, fields::Bytes, scalar, Place};
+use compare::reading::{self, fields::Bytes, scalar, Ending, Event, Place, Scalar};
 use compare::rng::Rng;
 
 /// Differences beyond these are counted only.
@@ -15,14 +15,36 @@ pub struct Tally {
     pub differences: u64,
     /// Walks that ended whole, and by refusal's number.
     pub endings: [u64; 15],
+    /// Timestamps that the walks showed, and those of them that are out of the calendar.
+    pub timestamps: u64,
+    pub out_of_calendar: u64,
 }
 
 impl Tally {
     /// Judges a walk from a position, and counts the stream.
     pub fn walk(&mut self, stream: &[u8], position: usize) {
         self.streams += 1;
-        let judged = walk(stream, position, &mut self.endings);
+        let judged = self.judge(stream, position);
         self.count(stream, position, judged);
+    }
+
+    /// The walk by the host crate's reader, the same with containers passed over, and all places of it by the entry points.
+    fn judge(&mut self, stream: &[u8], position: usize) -> Result<(), String> {
+        let (events, ending) = reading::walk(stream, position);
+        self.endings[match ending {
+            Ending::Whole => 0,
+            Ending::Refused { refusal, .. } => usize::from(refusal.number()),
+        }] += 1;
+        for event in &events {
+            if let Event::Scalar { value: Scalar::Timestamp { out_of_calendar, .. }, .. } = event {
+                self.timestamps += 1;
+                self.out_of_calendar += u64::from(*out_of_calendar);
+            }
+        }
+        let ours = crate::walk(stream, position).map(|(events, ending)| text::line(&events, ending));
+        same("walk", ours, text::line(&events, ending))?;
+        same("walk past containers", crate::pass_over(stream, position), ending)?;
+        at_place(stream, Place::in_stream(stream, position))
     }
 
     /// The stream lent at an odd place, and as the body of scalars. It is counted with its walk.
@@ -56,6 +78,7 @@ impl Tally {
         let endings = [(0, "whole"), (2, "of 2"), (4, "of 4"), (13, "of 13"), (14, "of 14")];
         let endings: Vec<String> = endings.iter().map(|(at, name)| format!("{} {name}", self.endings[*at])).collect();
         println!("ends: {}", endings.join(", "));
+        println!("timestamps: {}, {} of them out of calendar", self.timestamps, self.out_of_calendar);
         println!("{} streams, {} differences", self.streams, self.differences);
     }
 }
@@ -66,19 +89,6 @@ fn same<T: PartialEq + Debug>(what: &str, ours: Result<T, crate::Odd>, model: T)
         Ok(ours) => Err(format!("{what}\n  ours  {ours:?}\n  model {model:?}")),
         Err(odd) => Err(format!("{what}\n  ours  {odd}\n  model {model:?}")),
     }
-}
-
-/// The walk by the host crate's reader, the same with containers passed over, and all places of it by the entry points.
-fn walk(stream: &[u8], position: usize, endings: &mut [u64; 15]) -> Result<(), String> {
-    let (events, ending) = reading::walk(stream, position);
-    endings[match ending {
-        reading::Ending::Whole => 0,
-        reading::Ending::Refused { refusal, .. } => usize::from(refusal.number()),
-    }] += 1;
-    let ours = crate::walk(stream, position).map(|(events, ending)| text::line(&events, ending));
-    same("walk", ours, text::line(&events, ending))?;
-    same("walk past containers", crate::pass_over(stream, position), ending)?;
-    at_place(stream, Place::in_stream(stream, position))
 }
 
 /// The items from a place on, by their parts, and the rest from there.

@@ -96,7 +96,7 @@ fn event(item: &goatminute::Item) -> Result<Event, Odd> {
             coefficient: Signed { negative: decimal.negative, magnitude: bytes(decimal.coefficient) },
             exponent: decimal.exponent,
         }),
-        Value::Timestamp(read) => scalar(Scalar::Timestamp(timestamp(read))),
+        Value::Timestamp(read) => scalar(Scalar::Timestamp { value: timestamp(read), out_of_calendar: read.out_of_calendar }),
         Value::Symbol(sid) => scalar(Scalar::Symbol(sid)),
         Value::String(text) => scalar(Scalar::String(text.as_bytes().to_vec())),
         Value::Clob(bytes) => scalar(Scalar::Clob(bytes.to_vec())),
@@ -167,7 +167,8 @@ pub fn timestamp_body(body: &[u8]) -> Result<Result<Scalar, Refusal>, Odd> {
     };
     let [known, negative, minutes, count] = [numbers[0], numbers[1], numbers[2], numbers[3]];
     let (fields, absent) = numbers[4..10].split_at(count.min(6) as usize);
-    if absent.iter().any(|field| *field != 0) || known > 1 || negative > 1 {
+    let mark = numbers[12];
+    if absent.iter().any(|field| *field != 0) || known > 1 || negative > 1 || mark > 1 {
         return Err(format!("{numbers:?}"));
     }
     let fraction = match numbers[10] {
@@ -178,7 +179,8 @@ pub fn timestamp_body(body: &[u8]) -> Result<Result<Scalar, Refusal>, Odd> {
         }
     };
     let offset = (known == 1).then(|| signed(negative, minutes));
-    Ok(Ok(Scalar::Timestamp(reading::Timestamp { offset, fields: fields.to_vec(), fraction })))
+    let value = reading::Timestamp { offset, fields: fields.to_vec(), fraction };
+    Ok(Ok(Scalar::Timestamp { value, out_of_calendar: mark == 1 }))
 }
 
 pub fn symbol(body: &[u8]) -> Result<Result<Scalar, Refusal>, Odd> {

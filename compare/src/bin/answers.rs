@@ -1,4 +1,4 @@
-//! answers LINES RUST: for each line the refusal of document 01, or else the bytes of the Rust.
+//! answers LINES RUST: for each line the refusal of document 01 and of document 02, Item 2, or else the bytes of the Rust.
 //! Stops with exit status 1 where the two do not go together.
 
 use std::io::{self, BufWriter, Write};

@@ -1,6 +1,7 @@
 //! judge LINES OURS RUST [STREAM OURS RUST]
 //!
-//! Holds our answers to the Rust's and to document 01, line by line. Of a stream, STREAM has one
+//! Holds our answers to the Rust's and to document 01, line by line; lines with a UTC year of 0 or 10000 (document 02, Item 2) to
+//! the documents alone. Of a stream, STREAM has one
 //! item a line, OURS the hex of one item a line after that of the start, RUST the hex of all on one
 //! line. The exit status is 1 if there is a difference or a file is short.
 
@@ -42,7 +43,9 @@ fn main() -> ExitCode {
 
 #[derive(Default)]
 struct Tally {
+    /// All lines but those that are left out.
     lines: u64,
+    left_out: u64,
     items: u64,
     same_bytes: u64,
     /// Refusals of both, by number.
@@ -64,7 +67,7 @@ impl Tally {
             println!("{place}: {}", cut(line));
             println!("  ours {}", cut(ours));
             println!("  Rust {}", cut(rust));
-            println!("  document 01 {wanted}");
+            println!("  the documents {wanted}");
         }
     }
 
@@ -92,6 +95,7 @@ impl Tally {
             refusals.join(", "),
         );
         println!("{} stream items", self.items);
+        println!("left out of the comparison, ours held to document 02, Item 2: {} with a UTC year of 0 or 10000", self.left_out);
         let parted: Vec<String> =
             Intent::ALL.iter().zip(self.parted).map(|(intent, count)| format!("{count} {intent}")).collect();
         println!("parted by intent: {}", parted.join(", "));
@@ -103,22 +107,26 @@ fn judge_lines(tally: &mut Tally, lines: &str, ours: &str, rust: &str) -> io::Re
     let mut lines = Lines::open(lines)?;
     let mut ours = Lines::open(ours)?;
     let mut rust = Lines::open(rust)?;
+    let mut number = 0;
     while lines.next()? {
+        number += 1;
         for answers in [&mut ours, &mut rust] {
             if !answers.next()? {
                 tally.wrong_length(&answers.name);
                 return Ok(());
             }
         }
-        tally.lines += 1;
-        match verdict(&lines.line, &ours.line, &rust.line) {
+        let verdict = verdict(&lines.line, &ours.line, &rust.line);
+        tally.lines += u64::from(verdict != Verdict::LeftOut);
+        match verdict {
             Verdict::Equal => match refusal_number(&ours.line) {
                 Some(number) => tally.refusals[number] += 1,
                 None => tally.same_bytes += 1,
             },
             Verdict::Parted(intent) => tally.parted[intent as usize] += 1,
+            Verdict::LeftOut => tally.left_out += 1,
             Verdict::Different => {
-                let place = format!("line {}", tally.lines);
+                let place = format!("line {number}");
                 tally.difference(&place, &lines.line, &ours.line, &rust.line);
             }
         }

@@ -93,9 +93,11 @@ pub fn documents() -> Vec<String> {
 (ts ? 2000 1 1 0 0 0 18 18446744073709551616)
 (ts 0 2000)
 (ts 60 2000 1 1)
+(ts 60 1 1 1 0 0)
 (ts 60 1 1 1 0 30)
 (ts 1439 1 1 1 0 0 0)
 (ts -60 9999 12 31 23 30)
+(ts -1 9999 12 31 23 59)
 (ts -1439 9999 12 31 23 59 59 18 999999999999999999)
 (ts ? 0)
 (ts ? 10000)
@@ -156,6 +158,8 @@ pub fn order_of_refusals() -> Vec<String> {
         "(ts ? 2000 13)",
         "(ann (\"go\") (ts ? 2000 13))",
         "(ts ? 2000 1 1 0 0 0 0 0)",
+        "(ts 60 1 1 1 0 30)",
+        "(ann (\"go\") (ts -60 9999 12 31 23 30))",
         "(dec ffffffffffffffffffffffffffffffffffffffffffffffffffffffffffffff 0)",
         "(ann (\"go\") (dec ffffffffffffffffffffffffffffffffffffffffffffffffffffffffffffff 0))",
         "(bool 2)",

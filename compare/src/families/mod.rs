@@ -1,4 +1,4 @@
-//! The families of trial lines: for each rule of document 01, the lines around its edges.
+//! The families of trial lines: for each rule of document 01 and of document 02, Item 2, the lines around its edges.
 
 mod containers;
 mod lines;
@@ -10,7 +10,9 @@ use containers::{annotation_counts, container_bodies, member_counts, nesting};
 use lines::{damaged, documents, forms, line_lengths, order_of_refusals};
 use numbers::{decimal_coefficients, decimal_exponents, f32s, f64s, i64s, ints, nulls_and_bools};
 use texts::{strings_and_lobs, symbols_and_names, utf8};
-use timestamps::{timestamp_fractions, timestamp_months, timestamp_offsets, timestamp_precisions, timestamp_times};
+use timestamps::{
+    timestamp_fractions, timestamp_months, timestamp_offsets, timestamp_precisions, timestamp_times, timestamp_years,
+};
 
 pub type Line = Vec<u8>;
 
@@ -34,6 +36,7 @@ pub fn all() -> Vec<Family> {
         text("timestamp precisions", timestamp_precisions()),
         text("timestamp months", timestamp_months()),
         text("timestamp times", timestamp_times()),
+        text("timestamp years", timestamp_years()),
         text("timestamp offsets", timestamp_offsets()),
         text("timestamp fractions", timestamp_fractions()),
         text("symbols and names", symbols_and_names()),

@@ -1,4 +1,4 @@
-//! Timestamps: precisions, calendar, offsets, fractions.
+//! Timestamps: precisions, calendar, the ends of its years, offsets, fractions.
 
 const OFFSETS: [&str; 26] = [
     "?", "0", "-0", "00", "1", "-1", "59", "60", "-60", "63", "-63", "64", "-64", "1439", "-1439", "1440", "-1440", "32768",
@@ -77,6 +77,39 @@ pub fn timestamp_times() -> Vec<String> {
                 lines.push(format!("(ts {offset} {year} {fields})"));
             }
         }
+    }
+    lines
+}
+
+/// The first and the last minute of the years 1 and 9999 with each kind of offset, in local time and in UTC.
+pub fn timestamp_years() -> Vec<String> {
+    let mut lines = Vec::new();
+    for offset in ["?", "0", "-0", "1", "-1", "60", "-60", "720", "-720", "1439", "-1439", "1440", "-1440"] {
+        for minute in ["1 1 1 0 0", "1 12 31 23 59", "9999 1 1 0 0", "9999 12 31 23 59"] {
+            for second in ["", " 0", " 59 18 999999999999999999"] {
+                lines.push(format!("(ts {offset} {minute}{second})"));
+            }
+        }
+    }
+    // The local minute that lies there in UTC, and the one beyond.
+    for offset in [1, 59, 60, 61, 720, 1438, 1439] {
+        for minute in [offset - 1, offset] {
+            let (hour, minute) = (minute / 60, minute % 60);
+            lines.push(format!("(ts {offset} 1 1 1 {hour} {minute})"));
+            lines.push(format!("(ts {offset} 1 1 1 {hour} {minute} 59 1 9)"));
+            let (hour, minute) = (23 - hour, 59 - minute);
+            lines.push(format!("(ts -{offset} 9999 12 31 {hour} {minute})"));
+            lines.push(format!("(ts -{offset} 9999 12 31 {hour} {minute} 0 1 0)"));
+        }
+    }
+    for outside in ["(ts 60 1 1 1 0 30)", "(ts -60 9999 12 31 23 30)"] {
+        for around in ["(ann (10) *)", "(list *)", "(sexp (bool 1) * (bool 0))", "(struct (4 (i64 5)) (5 (ann (10) *)))"] {
+            lines.push(around.replace('*', outside));
+        }
+    }
+    for wrong_fraction in ["0 0", "0 1", "19 0", "1 10"] {
+        lines.push(format!("(ts 60 1 1 1 0 30 0 {wrong_fraction})"));
+        lines.push(format!("(ts -60 9999 12 31 23 30 0 {wrong_fraction})"));
     }
     lines
 }

@@ -1,6 +1,6 @@
-//! A model of the reader: what document 02, Item 1, and the Ion 1.0 binary encoding say of a stream from a position on.
+//! A model of the reader: what document 02, Items 1 and 2, and the Ion 1.0 binary encoding say of a stream from a position on.
 //!
-//! Written from these two alone: nothing here is shared with the proved sources, so that a slip in one shows against the other.
+//! Written from these alone: nothing here is shared with the proved sources, so that a slip in one shows against the other.
 
 pub mod fields;
 pub mod item;

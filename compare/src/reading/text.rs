@@ -3,7 +3,7 @@
 //! `m` is a marker; `[`, `(` and `{` begin a list, an s-expression and a struct, and `.` ends one. A scalar is a letter and what
 //! it holds: `n` null, by its type code; `b` bool; `i` int, sign and magnitude in hex; `f` float, its bytes in hex; `d` decimal,
 //! sign and coefficient in hex, `:`, exponent; `t` timestamp, offset or `?`, `:`, UTC fields, `:`, digits of the fraction and
-//! their number in hex, or nothing; `s` symbol; `u` string, `c` clob and `o` blob, their bytes in hex. Magnitudes and coefficients
+//! their number in hex, or nothing, and the word `out-of-calendar` behind one that is; `s` symbol; `u` string, `c` clob and `o` blob, their bytes in hex. Magnitudes and coefficients
 //! are without leading zero bytes. A name stands before its value with `=`, each annotation with `::`. The last word is how the walk
 //! ended: `whole`, or `!`, the number, `@` and the place.
 
@@ -68,7 +68,9 @@ impl Display for Scalar {
             Scalar::Float(Float::Binary32(bits)) => write!(f, "f{bits:08x}"),
             Scalar::Float(Float::Binary64(bits)) => write!(f, "f{bits:016x}"),
             Scalar::Decimal { coefficient, exponent } => write!(f, "d{}:{exponent}", SignedHex(coefficient)),
-            Scalar::Timestamp(timestamp) => write!(f, "t{timestamp}"),
+            Scalar::Timestamp { value, out_of_calendar } => {
+                write!(f, "t{value}{}", if *out_of_calendar { " out-of-calendar" } else { "" })
+            }
             Scalar::Symbol(sid) => write!(f, "s{sid}"),
             Scalar::String(bytes) => write!(f, "u{}", Hex(bytes)),
             Scalar::Clob(bytes) => write!(f, "c{}", Hex(bytes)),

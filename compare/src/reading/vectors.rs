@@ -40,6 +40,7 @@ const RULES: &[Rule] = &[
         "6e91800fd08181808080d20de0b6b3a763ffff", "6e91800fd08181808080d20de0b6b3a7640000", "6e92800fd08181808080d300000000000000000a",
         "6e93800fd0818180808040010000000000000000ff", "6e94800fd081818080804001000000000000000080 01",
         "6e94800fd081818080800001000000000000000080 00", "6e93800fd08181808080de02000000000000000000", "6e95800fd08181808080de327cb2734119d3b7a9000000", "6e95800fd08181808080dc204fce5e3e25026110000000", "6e95800fd08181808080dc204fce5e3e2502610fffffff"] },
+    Rule { says: "out of calendar: in containers and behind annotations", streams: &["b762c08063c00fd0", "c763c00fd062c080", "d48a62c080", "e5818a62c080", "d66fc062c080", "b7e6818a63c04e90", "62c08062c081"] },
     Rule { says: "Ion document: symbols", streams: &["70", "710a", "7100", "720100", "78ffffffffffffffff", "79000000000000000001", "79010000000000000000", "7e8900ffffffffffffffff", "7e8901ffffffffffffffff"] },
     Rule { says: "Ion document: strings and lobs", streams: &["80", "826f6b", "8e826f6b", "8e8e6162636465666768696a6b6c6d6e", "90", "92ff00", "9e80", "a0", "a2ff00", "ae81ff"] },
     Rule { says: "a string that is not UTF-8 is outside", streams: &["82c3a9", "81ff", "82c080", "83eda080", "83ed9fbf", "84f48fbfbf", "84f4908080", "82e282", "83e282ac"] },
@@ -80,7 +81,32 @@ const RULES: &[Rule] = &[
     Rule { says: "a position at the end reads as nothing, one past it is 2", streams: &["@1", "20@1", "20@2", "e00100ea@4", "e00100ea@5", "21@1", "ff@2", "20@18446744073709551615", "20@4294967296"] },
 ];
 
-/// Streams that are too long to write out: depth, and lengths of more than a byte.
+/// Document 02, Item 2: a rule, offsets, and UTC fields that have each of them.
+type YearRule = (&'static str, &'static [Option<i64>], &'static [&'static [u64]]);
+
+#[rustfmt::skip]
+const CALENDAR: &[YearRule] = &[
+    ("out of calendar: the first and the last minute of the years 1 and 9999, with each kind of offset",
+        &[None, Some(0), Some(1), Some(-1), Some(60), Some(-60), Some(1439), Some(-1439), Some(5_000_000_000), Some(-5_000_000_000), Some(i64::MAX), Some(i64::MIN)],
+        &[&[1, 1, 1, 0, 0], &[1, 12, 31, 23, 59], &[9999, 1, 1, 0, 0], &[9999, 12, 31, 23, 59], &[9999, 12, 31, 23, 59, 59]]),
+    ("out of calendar: the last minute of a local year, and the first of the next",
+        &[Some(59), Some(60), Some(1440), Some(1441)], &[&[9999, 12, 31, 23, 0], &[9999, 12, 30, 23, 59, 0], &[9999, 12, 31, 0, 0]]),
+    ("out of calendar: the first minute of a local year, and the last before it",
+        &[Some(-59), Some(-60), Some(-1440), Some(-1441)], &[&[1, 1, 1, 0, 59], &[1, 1, 2, 0, 0, 59], &[1, 1, 1, 23, 59]]),
+    // From 2000-01-01T00:00 it is 1,051,371,360 minutes back to the first of the year 1, and 4,207,593,600 on to the first of the year 10000.
+    ("out of calendar: offsets of many years, around the ends",
+        &[Some(-1_051_371_359), Some(-1_051_371_360), Some(-1_051_371_361), Some(4_207_593_599), Some(4_207_593_600), Some(4_207_593_601)], &[&[2000, 1, 1, 0, 0], &[2000, 1, 1, 0, 0, 0]]),
+    ("out of calendar: the UTC years 0 and 10000 at every precision, whatever the offset; the year 0 is a leap year",
+        &[None, Some(0), Some(1440), Some(-1440), Some(i64::MAX), Some(i64::MIN)],
+        &[&[0], &[0, 2], &[0, 2, 29], &[0, 2, 29, 0, 0], &[0, 12, 31, 23, 59], &[0, 12, 31, 23, 59, 59], &[10_000], &[10_000, 1], &[10_000, 1, 1], &[10_000, 1, 1, 0, 0], &[10_000, 12, 31, 23, 59, 59]]),
+    ("out of calendar: a known offset on a date alone does not count",
+        &[None, Some(0), Some(1), Some(-1), Some(1440), Some(-1440), Some(i64::MAX), Some(i64::MIN)],
+        &[&[1], &[1, 1], &[1, 1, 1], &[9999], &[9999, 12], &[9999, 12, 31]]),
+    ("a UTC year above 10000 is outside the grammar, whatever the offset",
+        &[None, Some(0), Some(-1), Some(i64::MIN)], &[&[10_001], &[10_001, 1, 1], &[10_001, 1, 1, 0, 0], &[0, 2, 30], &[1, 2, 29, 0, 0]]),
+];
+
+/// Streams that are made: depth, lengths of more than a byte, and timestamps by their offsets and fields.
 fn made() -> Vec<(&'static str, Vec<u8>)> {
     let mut made = Vec::new();
     let depth = "32 containers may be open: lists, s-expressions and structs count, wrappers and nulls do not";
@@ -117,6 +143,9 @@ fn made() -> Vec<(&'static str, Vec<u8>)> {
         cut.pop();
         made.push((long, cut));
     }
+    for (says, offsets, fields) in CALENDAR {
+        made.extend(fields.iter().flat_map(|fields| offsets.iter().map(|offset| (*says, timestamp(*offset, fields)))));
+    }
     let longest = "a fraction's coefficient has at most 4,096 bytes, leading zeros aside";
     for (digits, coefficient) in [
         (9864, [&[0x00, 0x7f][..], &[0xff; 4095]].concat()),
@@ -146,6 +175,16 @@ fn annotated(value: Vec<u8>) -> Vec<u8> {
     headed(0xe0, [&[0x81, 0x8a], &value[..]].concat())
 }
 
+/// A timestamp by its offset and its UTC fields. The unknown offset is negative zero.
+pub fn timestamp(offset: Option<i64>, fields: &[u64]) -> Vec<u8> {
+    let mut body = match offset {
+        Some(minutes) => var_int(minutes < 0, minutes.unsigned_abs()),
+        None => var_int(true, 0),
+    };
+    body.extend(fields.iter().flat_map(|field| var_uint(*field)));
+    headed(0x60, body)
+}
+
 /// A timestamp whose seconds have a fraction of so many digits, over 8,191.
 fn fractioned(digits: u16, coefficient: Vec<u8>) -> Vec<u8> {
     let exponent = [0x40 | (digits >> 14) as u8, (digits >> 7) as u8 & 0x7f, digits as u8 | 0x80];
@@ -159,6 +198,16 @@ pub fn var_uint(number: u64) -> Vec<u8> {
         bytes.insert(0, rest as u8 & 0x7f);
         rest >>= 7;
     }
+    bytes
+}
+
+/// The first byte has six bits of the magnitude, below the sign.
+pub fn var_int(negative: bool, magnitude: u64) -> Vec<u8> {
+    let mut bytes = var_uint(magnitude);
+    if bytes[0] & 0x40 != 0 {
+        bytes.insert(0, 0);
+    }
+    bytes[0] |= if negative { 0x40 } else { 0 };
     bytes
 }
 

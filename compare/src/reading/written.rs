@@ -53,7 +53,8 @@ fn scalar(value: &Value) -> Scalar {
         Value::F32(bits) => Scalar::Float(Float::Binary64(Float::Binary32(*bits).value())),
         Value::F64(bits) => Scalar::Float(Float::Binary64(Float::Binary64(*bits).value())),
         Value::Decimal { coefficient, exponent } => Scalar::Decimal { coefficient: coefficient.clone(), exponent: *exponent },
-        Value::Timestamp(local) => Scalar::Timestamp(utc(local)),
+        // What document 01 accepts is never out of the calendar.
+        Value::Timestamp(local) => Scalar::Timestamp { value: utc(local), out_of_calendar: false },
         Value::Symbol(symbol) => Scalar::Symbol(sid(symbol)),
         Value::String(bytes) => Scalar::String(bytes.clone()),
         Value::Clob(bytes) => Scalar::Clob(bytes.clone()),
@@ -124,7 +125,7 @@ mod tests {
     fn fields(line: &str) -> Vec<u64> {
         let parsed = form::parse(line.as_bytes()).expect("of the form");
         match &events(&parsed)[..] {
-            [Event::Scalar { value: Scalar::Timestamp(read), .. }] => read.fields.clone(),
+            [Event::Scalar { value: Scalar::Timestamp { value, .. }, .. }] => value.fields.clone(),
             other => panic!("{other:?}"),
         }
     }

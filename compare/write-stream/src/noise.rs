@@ -71,10 +71,12 @@ impl Noise {
     }
 
     fn refused(&mut self, values: &mut dyn WriteValues) {
-        let (answer, want) = match self.rng.below(4) {
+        let (answer, want) = match self.rng.below(5) {
             0 => (values.write_int(true, &[0, 0]), Refusal::NegativeZero),
             1 => (values.write_string_bytes(b"go\xff"), Refusal::NotUtf8),
             2 => (values.write_timestamp(Timestamp::day(1900, 2, 29)), Refusal::BadTimestamp),
+            // in the UTC year 0
+            3 => (values.write_timestamp(Timestamp::minute(1, 1, 1, 0, 30).with_offset(31)), Refusal::BadTimestamp),
             _ => (values.write_decimal(Decimal::from_bytes(false, &[0xff; 31], 0)), Refusal::DecimalTooLong),
         };
         expect(answer, Err(want));

@@ -95,8 +95,14 @@ fn print_fraction(digits: u64, coefficient: &[u8]) {
     print_int_magnitude(coefficient);
 }
 
+fn print_mark(out_of_calendar: bool) {
+    if out_of_calendar {
+        print(b" out-of-calendar");
+    }
+}
+
 fn print_timestamp(body: &[u8]) {
-    let mut timestamp = [0u64; 12];
+    let mut timestamp = [0u64; 13];
     let refusal = gm_read_timestamp(body, &mut timestamp);
     if refusal != 0 {
         return print_refusal(refusal);
@@ -106,6 +112,7 @@ fn print_timestamp(body: &[u8]) {
     let count = timestamp[3];
     print_fields(&timestamp[4..10], count);
     print_fraction(timestamp[10], behind(body, timestamp[11] as usize));
+    print_mark(timestamp[12] != 0);
 }
 
 fn print_symbol(body: &[u8]) {

@@ -44,8 +44,9 @@ static void read_back(const uint8_t *stream, size_t length) {
     static const uint8_t wrong[] = {0x20, 0xB2, 0x20, 0x12};
     static const uint8_t decimal[] = {0xC1, 0x1F, 0xBD};
     static const uint8_t timestamp[] = {0xBC, 0x0F, 0xEA, 0x83, 0x8E, 0x93, 0x9E, 0x80, 0xC3, 0x07};
-    static const uint64_t fields[] = {1, 0, 60, 6, 2026, 3, 14, 19, 30, 0, 3, 9};
-    uint64_t numbers[13];
+    static const uint64_t fields[] = {1, 0, 60, 6, 2026, 3, 14, 19, 30, 0, 3, 9, 0};
+    static const uint8_t early[] = {0xBC, 0x80, 0x8C, 0x9F, 0x97, 0x9E};
+    uint64_t numbers[14];
     int items = 0;
 
     CHECK(count_items(stream, length, length, 0, 0, 0, &items) == GM_ACCEPTED);
@@ -84,9 +85,14 @@ static void read_back(const uint8_t *stream, size_t length) {
 
     CHECK(gm_read_decimal(decimal, sizeof decimal, numbers, 3) == GM_ACCEPTED);
     CHECK(numbers[0] == 1 && numbers[1] == 1 && numbers[2] == 1);
-    CHECK(gm_read_timestamp(timestamp, sizeof timestamp, numbers, 12) == GM_ACCEPTED);
-    CHECK(memcmp(numbers, fields, sizeof fields) == 0);
-    CHECK(gm_read_timestamp(timestamp, 1, numbers, 12) == GM_NOT_ION);
+    memset(numbers, 0xEE, sizeof numbers);
+    CHECK(gm_read_timestamp(timestamp, sizeof timestamp, numbers, 14) == GM_ACCEPTED);
+    CHECK(memcmp(numbers, fields, sizeof fields) == 0 && numbers[13] == UINT64_C(0xEEEEEEEEEEEEEEEE));
+    CHECK(gm_read_timestamp(early, sizeof early, numbers, 12) == GM_ACCEPTED);
+    CHECK(numbers[4] == 0 && numbers[12] == 0);
+    CHECK(gm_read_timestamp(early, sizeof early, numbers, 13) == GM_ACCEPTED);
+    CHECK(numbers[4] == 0 && numbers[12] == 1);
+    CHECK(gm_read_timestamp(timestamp, 1, numbers, 13) == GM_NOT_ION);
     CHECK(gm_read_symbol(symbol, sizeof symbol, numbers, 1) == GM_ACCEPTED);
     CHECK(numbers[0] == 256);
 }
@@ -117,6 +123,8 @@ int main(void) {
     CHECK(gm_write_bool(state, sizeof state, buf, sizeof buf, none, 0, 1) == GM_ACCEPTED);
     CHECK(gm_field_name(state, sizeof state, buf, sizeof buf, 12) == GM_ACCEPTED);
     CHECK(gm_write_timestamp(state, sizeof state, buf, sizeof buf, none, 0, 4, 2026, 2, 30, 20, 0, 0, 1, 60, 1, 3, 7) ==
+          GM_BAD_TIMESTAMP);
+    CHECK(gm_write_timestamp(state, sizeof state, buf, sizeof buf, none, 0, 3, 1, 1, 1, 0, 30, 0, 1, 60, 0, 0, 0) ==
           GM_BAD_TIMESTAMP);
     CHECK(gm_write_timestamp(state, sizeof state, buf, sizeof buf, none, 0, 4, 2026, 3, 14, 20, 30, 0, 1, 60, 1, 3, 7) ==
           GM_ACCEPTED);

@@ -1,5 +1,6 @@
 //! read-back LINES OURS [STREAM OURS]: reads back what the trial program and the host crate wrote, each trial line's bytes and each item's
-//! of a stream, and then the stream whole, and compares with the values that were to be written (the files are those of `judge`).
+//! of a stream, and then the stream whole, and compares with the values that were to be written (the files are those of `judge`). None of
+//! their timestamps is out of the calendar.
 //! The last line is 'N read back, D differences'.
 
 use std::fs;

@@ -1,6 +1,6 @@
 //! read-streams SEED COUNT: streams through the reader and the model. First those that are always the same: every byte string of up to
-//! two bytes from every position, the vectors, fractions around one, and a log of a few records cut at every byte and with every byte
-//! changed; then COUNT random ones. The last line is 'N streams, D differences'.
+//! two bytes from every position, the vectors, timestamps around the ends of years, fractions around one, and a log of a few records cut at
+//! every byte and with every byte changed; then COUNT random ones. The last line is 'N streams, D differences'.
 
 use std::process::ExitCode;
 
@@ -21,7 +21,7 @@ fn main() -> ExitCode {
     for (stream, position) in vectors::streams() {
         tally.walk(&stream, position);
     }
-    for stream in streams::fractions() {
+    for stream in streams::years().into_iter().chain(streams::fractions()) {
         tally.walk(&stream, 0);
     }
     match log() {
