@@ -9,7 +9,7 @@ use mathlib.Core.List.{List, [], _∷_}
 use borrow.Author.Tests.{eqb-true, eqb-false, ltb-true, ltb-false, leb-true}
 use lib.Dec.{eqb, ltb, leb}
 use lib.ListN.{getD, List·getD-eq-default}
-use Rattle.ion.specs.Calendar.{isLeapYear, daysInMonth, daysBeforeMonth, daysBeforeYear, minuteNumber}
+use Rattle.ion.specs.Calendar.{isLeapYear, daysInMonth, daysBeforeMonth, daysBeforeYear}
 use Rattle.ion.proofs.Tests.{by-cases, both}
 use Rattle.calendar.proofs.Months.{daysBy}
 
@@ -81,17 +81,25 @@ before-plain y m h e =
     (λ q. rw (before-by y m, p) (omega (arith, rw q at (by-leap m h)))))
     (λ p. rw (before-by y m, p) (by-plain m h))
 
--- at most a leap year's
-by-most : (m : ℕ) → m ≤ 13 → (beforeBy 28 m ≤ 366) × (beforeBy 29 m ≤ 366)
+-- at most all of the year's
+by-most : (m : ℕ) → m ≤ 13 → (beforeBy 28 m ≤ 365) × (beforeBy 29 m ≤ 366)
 by-most m h =
-    let b = both {a = leb (beforeBy 28 m) 366} (holds-below (λ m. leb (beforeBy 28 m) 366 && leb (beforeBy 29 m) 366) 14 m refl (omega arith)) in
-    (leb-true (beforeBy 28 m) 366 (b .0), leb-true (beforeBy 29 m) 366 (b .1))
+    let b = both {a = leb (beforeBy 28 m) 365} (holds-below (λ m. leb (beforeBy 28 m) 365 && leb (beforeBy 29 m) 366) 14 m refl (omega arith)) in
+    (leb-true (beforeBy 28 m) 365 (b .0), leb-true (beforeBy 29 m) 366 (b .1))
+
+pub before-within : (y m : ℕ) → daysBeforeMonth y m ≤ daysBeforeMonth y 13
+before-within y m =
+    by-cases (ltb 12 m)
+    (λ p. omega (arith, before-past y m (ltb-true 12 m p)))
+    (λ p.
+    let h : m ≤ 13 = omega (arith, ltb-false 12 m p) in
+    rw (before-by y m, before-by y 13) (by-cases (isLeapYear y) (λ q. rw q (by-most m h .1)) (λ q. rw q (by-most m h .0))))
 
 pub before-most : (y m : ℕ) → daysBeforeMonth y m ≤ 366
-before-most y m = by-cases (ltb 12 m) (λ p. rw (← before-past y m (ltb-true 12 m p)) (upTo 13 (omega arith))) (λ p. upTo m (omega (arith, ltb-false 12 m p)))
-  where
-    upTo : (m : ℕ) → m ≤ 13 → daysBeforeMonth y m ≤ 366
-    upTo m h = rw (before-by y m) (by-cases (isLeapYear y) (λ p. rw p (by-most m h .1)) (λ p. rw p (by-most m h .0)))
+before-most y m =
+    by-cases (isLeapYear y)
+    (λ p. omega (arith, before-within y m, year-leap y p))
+    (λ p. omega (arith, before-within y m, year-plain y p))
 
 -- ---- days before a year
 
@@ -136,3 +144,8 @@ years-counted (suc y) = rw (rounded-next 3 y, rounded-next 99 y, rounded-next 39
 
 pub years-most : (y : ℕ) → daysBeforeYear y ≤ 366 * y
 years-most y = omega (arith, years-counted y)
+
+pub year-later : (y k : ℕ) → daysBeforeYear y ≤ daysBeforeYear (y + k)
+unfolding daysBeforeYear
+year-later y zero = let e : y + 0 ≡ y = omega arith in rw e (omega arith)
+year-later y (suc k) = let e : y + suc k ≡ suc (y + k) = omega arith in rw e (omega (arith, year-later y k))

@@ -1,3 +1,5 @@
+pub mod Invariant
 pub mod Depth
 pub mod ReadBack
+pub mod Unmarked
 pub mod Instances

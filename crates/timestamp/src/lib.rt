@@ -478,9 +478,9 @@ pub fn write(buf: &mut [u8], at: usize, t: Timestamp) -> usize
     if !is_local(t) {
         return 0;
     }
-    let in_utc = utc_of_local(t);
-    if !is_year(in_utc.year) {
+    let value = utc_of_local(t);
+    if !is_year(value.year) {
         return 0;
     }
-    put_value(buf, at, in_utc)
+    put_value(buf, at, value)
 }
