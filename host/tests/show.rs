@@ -124,14 +124,14 @@ fn years_outside_the_calendar() {
             b"\x68\xFC\x80\x81\x81\x80\x80\xBB\xC1",
             "0000-01-01T00:00:59.0Z /* offset -60 minutes */ /* out of calendar: UTC year 0, local year -1 */",
         ),
-        // no offset: the local year is that of UTC
+        // the local year is that of UTC
         (
             b"\x66\xC0\x80\x82\x9D\x80\x80",
             "0000-02-29T00:00-00:00 /* out of calendar: UTC year 0 */",
         ),
         (
             b"\x66\x80\x80\x82\x9D\x80\x80",
-            "0000-02-29T00:00Z /* out of calendar: UTC year 0 */",
+            "0000-02-29T00:00Z /* offset 0 minutes */ /* out of calendar: UTC year 0 */",
         ),
         // a date alone is not judged by its offset
         (b"\x64\xC1\x81\x81\x81", "0001-01-01 /* offset -1 minutes */"),
