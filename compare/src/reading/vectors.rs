@@ -102,7 +102,7 @@ const CALENDAR: &[YearRule] = &[
     ("out of calendar: a known offset on a date alone does not count",
         &[None, Some(0), Some(1), Some(-1), Some(1440), Some(-1440), Some(i64::MAX), Some(i64::MIN)],
         &[&[1], &[1, 1], &[1, 1, 1], &[9999], &[9999, 12], &[9999, 12, 31]]),
-    ("a UTC year above 10000 is outside the grammar, whatever the offset",
+    ("a UTC year above 10000, or a day that is none, is outside the grammar, whatever the offset",
         &[None, Some(0), Some(-1), Some(i64::MIN)], &[&[10_001], &[10_001, 1, 1], &[10_001, 1, 1, 0, 0], &[0, 2, 30], &[1, 2, 29, 0, 0]]),
 ];
 
