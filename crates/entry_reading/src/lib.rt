@@ -3,7 +3,7 @@
 ghost use mathlib.Core.Path.{_≡_};
 ghost use Rattle.reading.specs.declared.Refusal.the-variants.{NotIon};
 ghost use Rattle.reading.specs.Headers.{varUIntAt};
-ghost use Rattle.reading.specs.Bodies.{decimalIn, timestampIn, symbolIn};
+ghost use Rattle.reading.specs.Bodies.{decimalIn, shownIn, symbolIn};
 ghost use Rattle.reading.specs.Walk.{walkIn};
 ghost use Rattle.reader.specs.Values.{nextIn};
 ghost use Rattle.read_answers.specs.Answers.{Answered, itemAnswer, readingAnswer, numberAnswer, decimalAnswer, timestampAnswer, symbolAnswer};
@@ -69,12 +69,12 @@ pub extern "C" fn gm_read_decimal(body: &[u8], decimal: &mut [u64]) -> u8
 }
 
 // A timestamp's body: whether its offset is known, the offset's sign and minutes; how many fields there are, and six of them, in UTC; how many digits
-// the fraction has, and where its coefficient starts, an Int.
+// the fraction has, and where its coefficient starts, an Int; whether it is marked as out of the calendar.
 #[no_mangle]
 pub extern "C" fn gm_read_timestamp(body: &[u8], timestamp: &mut [u64]) -> u8
-    ensures { λ r. ⌜ _≡_ {A = Answered} (r, now (timestamp .exit)) (timestampAnswer (timestampIn (now (body .entry))) (now (timestamp .entry))) ⌝ }
+    ensures { λ r. ⌜ _≡_ {A = Answered} (r, now (timestamp .exit)) (timestampAnswer (shownIn (now (body .entry))) (now (timestamp .entry))) ⌝ }
 {
-    read_answers::answer_timestamp(read_timestamp::timestamp(body), timestamp)
+    read_answers::answer_timestamp(read_mark::timestamp(body), timestamp)
 }
 
 // A symbol's body: its sid.

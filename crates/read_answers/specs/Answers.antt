@@ -17,6 +17,7 @@ use Rattle.reading.specs.declared.Decimal.{Decimal}
 use Rattle.reading.specs.declared.Decimal.the-variants as D
 use Rattle.reading.specs.declared.Timestamp.{Timestamp}
 use Rattle.reading.specs.declared.Timestamp.the-variants as T
+use Rattle.reading.specs.declared.Shown.{Shown}
 use Rattle.reading.specs.declared.Symbol.{Symbol}
 use Rattle.reading.specs.declared.Symbol.the-variants as S
 
@@ -66,11 +67,14 @@ abbrev pub decimalAnswer : Decimal → List ℕ → Answered
 decimalAnswer (D.No r) lent = refuses r lent
 decimalAnswer (D.Is negative exponent coefficient) lent = accepts (bit negative ∷ exponent ∷ coefficient ∷ []) lent
 
--- whether the offset is known, its sign and minutes; the count of fields, and six fields; the fraction's digits, and its coefficient's place
-abbrev pub timestampAnswer : Timestamp → List ℕ → Answered
-timestampAnswer (T.No r) lent = refuses r lent
-timestampAnswer (T.Is known negative offset count year month day hour minute second digits coefficient) lent =
-    accepts (bit known ∷ bit negative ∷ offset ∷ count ∷ year ∷ month ∷ day ∷ hour ∷ minute ∷ second ∷ digits ∷ coefficient ∷ []) lent
+abbrev pub stampAnswer : Timestamp → Bool → List ℕ → Answered
+stampAnswer (T.No r) marked lent = refuses r lent
+stampAnswer (T.Is known negative offset count year month day hour minute second digits coefficient) marked lent =
+    accepts (bit known ∷ bit negative ∷ offset ∷ count ∷ year ∷ month ∷ day ∷ hour ∷ minute ∷ second ∷ digits ∷ coefficient ∷ bit marked ∷ []) lent
+
+-- whether the offset is known, its sign and minutes; the count of fields, and six fields; the fraction's digits, and its coefficient's place; the mark
+abbrev pub timestampAnswer : Shown → List ℕ → Answered
+timestampAnswer x lent = stampAnswer (x .timestamp) (x .marked) lent
 
 abbrev pub symbolAnswer : Symbol → List ℕ → Answered
 symbolAnswer (S.No r) lent = refuses r lent

@@ -9,6 +9,7 @@ use reading::Item;
 use reading::Number;
 use reading::Reading;
 use reading::Refusal;
+use reading::Shown;
 use reading::Symbol;
 use reading::Timestamp;
 
@@ -97,7 +98,7 @@ fn accept_six(lent: &mut [u64], a: u64, b: u64, c: u64, d: u64, e: u64, f: u64) 
     0
 }
 
-fn accept_twelve(
+fn accept_thirteen(
     lent: &mut [u64],
     a: u64,
     b: u64,
@@ -111,11 +112,13 @@ fn accept_twelve(
     j: u64,
     k: u64,
     l: u64,
+    m: u64,
 ) -> u8
-    ensures { λ r. ⌜ _≡_ {A = Answered} (r, now (lent .exit)) (accepts (a ∷ b ∷ c ∷ d ∷ e ∷ f ∷ g ∷ h ∷ i ∷ j ∷ k ∷ l ∷ []) (now (lent .entry))) ⌝ }
+    ensures { λ r. ⌜ _≡_ {A = Answered} (r, now (lent .exit)) (accepts (a ∷ b ∷ c ∷ d ∷ e ∷ f ∷ g ∷ h ∷ i ∷ j ∷ k ∷ l ∷ m ∷ []) (now (lent .entry))) ⌝ }
 {
     store_six(lent, a, b, c, d, e, f);
     store_next_six(lent, g, h, i, j, k, l);
+    store(lent, 12, m);
     0
 }
 
@@ -184,9 +187,10 @@ pub fn answer_decimal(decimal: Decimal, lent: &mut [u64]) -> u8
     }
 }
 
-pub fn answer_timestamp(timestamp: Timestamp, lent: &mut [u64]) -> u8
-    ensures { λ r. ⌜ _≡_ {A = Answered} (r, now (lent .exit)) (timestampAnswer timestamp (now (lent .entry))) ⌝ }
+pub fn answer_timestamp(shown: Shown, lent: &mut [u64]) -> u8
+    ensures { λ r. ⌜ _≡_ {A = Answered} (r, now (lent .exit)) (timestampAnswer shown (now (lent .entry))) ⌝ }
 {
+    let timestamp = shown.timestamp;
     match timestamp {
         Timestamp::No(refusal) => number_of(refusal),
         Timestamp::Is {
@@ -202,7 +206,7 @@ pub fn answer_timestamp(timestamp: Timestamp, lent: &mut [u64]) -> u8
             second,
             digits,
             coefficient,
-        } => accept_twelve(
+        } => accept_thirteen(
             lent,
             bit_of(known),
             bit_of(negative),
@@ -216,6 +220,7 @@ pub fn answer_timestamp(timestamp: Timestamp, lent: &mut [u64]) -> u8
             second,
             digits,
             coefficient as u64,
+            bit_of(shown.marked),
         ),
     }
 }

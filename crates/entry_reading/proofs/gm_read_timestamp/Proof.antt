@@ -7,7 +7,7 @@ use Rattle.entry_reading.proofs.gm_read_timestamp.Tie as tie
 use Rattle.entry_reading.proofs.gm_read_timestamp.Reads as reads
 use Rattle.entry_reading.proofs.gm_read_timestamp.Lts as lts
 use Rattle.read_answers.proofs.answer_timestamp.Reads as answer-timestamp-reads
-use Rattle.read_timestamp.proofs.timestamp.Reads as timestamp-reads
+use Rattle.read_mark.proofs.timestamp.Reads as timestamp-reads
 
 -- src/lib.rt:74:36
 timestamp-requires : tie.Need-timestamp-requires
