@@ -178,7 +178,7 @@ abbrev pub MinuteUnique : Type 0
 MinuteUnique =
     (fs gs : List ℕ) → areFields fs ≡ true → areFields gs ≡ true → 5 ≤ length fs → 5 ≤ length gs → minuteOf fs ≡ minuteOf gs → take 5 fs ≡ take 5 gs
 
--- ---- the calendar's years by their minutes, and what the writer takes of them: proofs/Calendar.antt
+-- ---- the calendar's years by their minutes, and what the writer takes of them: proofs/OutOfCalendar.antt
 
 -- Of every time of day in every year from 0 on: its minute is one of the calendar's exactly if its year is.
 abbrev pub YearByMinute : Type 0

@@ -11,7 +11,7 @@ use lib.IntN.{ℤ, pos, negsuc, _+ℤ_}
 use Rattle.ion.specs.Value.{Scalar, null, bool, int, float, decimal, timestamp, symbol, string, clob, blob}
 use Rattle.ion.specs.Calendar.{isCalendarYear, minuteNumber, minuteOf}
 
--- A minute of the years 1 to 9999, by its number. `YearByMinute` of encoding/specs/Timestamp.antt says so of every minute of every year.
+-- A minute of the years 1 to 9999, by its number. `YearByMinute` (encoding/specs/Timestamp.antt) says that this is the year's test.
 unfoldable pub isCalendarMinute : ℤ → Bool
 isCalendarMinute (pos n) = leb (minuteNumber 1 1 1 0 0) n && ltb n (minuteNumber 10000 1 1 0 0)
 isCalendarMinute (negsuc n) = false
