@@ -87,7 +87,7 @@ by-most m h =
     let b = both {a = leb (beforeBy 28 m) 365} (holds-below (λ m. leb (beforeBy 28 m) 365 && leb (beforeBy 29 m) 366) 14 m refl (omega arith)) in
     (leb-true (beforeBy 28 m) 365 (b .0), leb-true (beforeBy 29 m) 366 (b .1))
 
-pub before-within : (y m : ℕ) → daysBeforeMonth y m ≤ daysBeforeMonth y 13
+before-within : (y m : ℕ) → daysBeforeMonth y m ≤ daysBeforeMonth y 13
 before-within y m =
     by-cases (ltb 12 m)
     (λ p. omega (arith, before-past y m (ltb-true 12 m p)))
@@ -144,8 +144,3 @@ years-counted (suc y) = rw (rounded-next 3 y, rounded-next 99 y, rounded-next 39
 
 pub years-most : (y : ℕ) → daysBeforeYear y ≤ 366 * y
 years-most y = omega (arith, years-counted y)
-
-pub year-later : (y k : ℕ) → daysBeforeYear y ≤ daysBeforeYear (y + k)
-unfolding daysBeforeYear
-year-later y zero = let e : y + 0 ≡ y = omega arith in rw e (omega arith)
-year-later y (suc k) = let e : y + suc k ≡ suc (y + k) = omega arith in rw e (omega (arith, year-later y k))

@@ -15,6 +15,7 @@ use Rattle.ion.specs.Value.{Fraction}
 use Rattle.ion.specs.Calendar.{isLeapYear, daysInMonth, isMonth, isDay, daysBeforeMonth, daysBeforeYear, dayNumber, minuteNumber, minuteOf}
 use Rattle.ion.specs.Scalars.{areFields}
 use Rattle.ion.proofs.Tests.{by-cases, both}
+use Rattle.ion.proofs.Calendar.{month-next, month-first, year-next, month-later, year-later, in-year}
 use Rattle.encoding.specs.Timestamp.{Date, date, dayBefore, dayAfter, utcMinutes, utcDay, fieldsAt, utc, isTimestamp, UtcIsLocalMinusOffset, MinuteUnique}
 use Rattle.encoding.proofs.Rules.{isLocalYear, offsetFits, passed}
 
@@ -118,18 +119,6 @@ utcDay-real t y m d a b g =
 
 abbrev numberOf : Date → ℕ
 numberOf (date y m d) = dayNumber y m d
-
-month-next : (y m : ℕ) → daysBeforeMonth y (m + 1) ≡ daysBeforeMonth y m + daysInMonth y m
-unfolding daysBeforeMonth
-month-next y m = rw (add-one m)
-
-pub month-first : (y : ℕ) → daysBeforeMonth y 1 ≡ 0
-unfolding daysBeforeMonth
-month-first y = refl
-
-pub year-next : (y : ℕ) → daysBeforeYear (y + 1) ≡ daysBeforeYear y + daysBeforeMonth y 13
-unfolding daysBeforeYear
-year-next y = rw (add-one y)
 
 after-number : (y m d : ℕ) → RealDay y m d → numberOf (dayAfter y m d) ≡ suc (dayNumber y m d)
 unfolding dayAfter dayNumber
@@ -260,28 +249,12 @@ utc-is-local-minus-offset z fs x e =
 
 -- ---- no other minute of the calendar has the same number, so the theorem leaves `utc` no choice
 
-month-later : (y m k : ℕ) → daysBeforeMonth y m ≤ daysBeforeMonth y (m + k)
-unfolding daysBeforeMonth
-month-later y m zero = let e : m + 0 ≡ m = omega arith in rw e (omega arith)
-month-later y m (suc k) = let e : m + suc k ≡ suc (m + k) = omega arith in rw e (omega (arith, month-later y m k))
-
-pub year-later : (y k : ℕ) → daysBeforeYear y ≤ daysBeforeYear (y + k)
-unfolding daysBeforeYear
-year-later y zero = let e : y + 0 ≡ y = omega arith in rw e (omega arith)
-year-later y (suc k) = let e : y + suc k ≡ suc (y + k) = omega arith in rw e (omega (arith, year-later y k))
-
 month-order : (y m d m′ d′ : ℕ) → RealDay y m d → RealDay y m′ d′ → m < m′ → dayNumber y m d < dayNumber y m′ d′
 unfolding dayNumber
 month-order y m d m′ d′ g g′ lt =
     let e : m + 1 + (m′ - (m + 1)) ≡ m′ = omega arith in
     let a : daysBeforeMonth y (m + 1) ≤ daysBeforeMonth y m′ = rw e at (month-later y (m + 1) (m′ - (m + 1))) in
     omega (arith, month-next y m, g .day-most, g′ .day-least)
-
-pub in-year : (y m d : ℕ) → m ≤ 12 → d ≤ daysInMonth y m → daysBeforeMonth y m + d ≤ daysBeforeMonth y 13
-in-year y m d h k =
-    let e : m + 1 + (12 - m) ≡ 13 = omega arith in
-    let a : daysBeforeMonth y (m + 1) ≤ daysBeforeMonth y 13 = rw e at (month-later y (m + 1) (12 - m)) in
-    omega (arith, month-next y m)
 
 year-order : (y m d y′ m′ d′ : ℕ) → RealDay y m d → RealDay y′ m′ d′ → y < y′ → dayNumber y m d < dayNumber y′ m′ d′
 unfolding dayNumber

@@ -1,7 +1,7 @@
 -- A timestamp as the writer is given it, and its body: document 01's modules types/timestamp and binary/timestamp.
 -- The fields are local, from the year down: 1, 2, 3, 5 or 6 of them, by the precision.
 -- Assumes nothing.
-use Prim.Native.Nat.{ℕ, suc, _+_, _-_, _*_, _/_, _%_, _^_, _≤_, _<_}
+use Prim.Native.Nat.{ℕ, suc, _+_, _-_, _*_, _/_, _%_, _^_, _≤_}
 use mathlib.Core.Path.{_≡_}
 use mathlib.Core.Bool.{Bool, true, false, cond, _&&_, not}
 use mathlib.Core.List.{List, [], _∷_, _++_}
@@ -10,9 +10,9 @@ use lib.Dec.{ltb, leb, eqb}
 use lib.ListN.{length, take, drop, getD}
 use lib.IntN.{ℤ, pos, negsuc, natAbs, negℤ, _-ℤ_}
 use Rattle.ion.specs.Value.{signed, Fraction, noFraction, fraction}
-use Rattle.ion.specs.Calendar.{daysInMonth, isMonth, isDay, isCalendarYear, minuteNumber, minuteOf}
+use Rattle.ion.specs.Calendar.{daysInMonth, isMonth, isCalendarYear, minuteOf}
 use Rattle.ion.specs.Scalars.{areFields}
-use Rattle.ion.specs.OutOfCalendar.{isCalendarMinute, outOfCalendar}
+use Rattle.ion.specs.OutOfCalendar.{outOfCalendar}
 use Rattle.encoding.specs.Fields.{varUIntsBytes, varIntBytes, signedOf, uintBytes}
 use Rattle.encoding.specs.Decimal.{decimalBody}
 
@@ -178,13 +178,6 @@ abbrev pub MinuteUnique : Type 0
 MinuteUnique =
     (fs gs : List ℕ) → areFields fs ≡ true → areFields gs ≡ true → 5 ≤ length fs → 5 ≤ length gs → minuteOf fs ≡ minuteOf gs → take 5 fs ≡ take 5 gs
 
--- ---- the calendar's years by their minutes, and what the writer takes of them: proofs/OutOfCalendar.antt
-
--- Of every time of day in every year from 0 on: its minute is one of the calendar's exactly if its year is.
-abbrev pub YearByMinute : Type 0
-YearByMinute =
-    (y m d h i : ℕ) → isDay y m d ≡ true → h < 24 → i < 60 → isCalendarMinute (pos (minuteNumber y m d h i)) ≡ isCalendarYear y
-
--- What is written is never marked.
+-- What is written is never marked: proofs/OutOfCalendar.antt.
 abbrev pub NeverMarked : Type 0
 NeverMarked = (o : Option ℤ) (fs : List ℕ) (x : Fraction) → isTimestamp o fs x ≡ true → outOfCalendar o (utc o fs) ≡ false

@@ -6,6 +6,7 @@ pub mod Unique
 pub mod Exact
 pub mod Floats
 pub mod Coefficients
+pub mod Calendar
 pub mod Readings
 pub mod FieldExamples
 pub mod TextExamples

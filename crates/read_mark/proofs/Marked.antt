@@ -17,9 +17,8 @@ use Rattle.ion.specs.Calendar.{daysInMonth, isMonth, isDay, isCalendarYear, min
 use Rattle.ion.specs.Scalars.{isYear, offsetOf, areFields}
 use Rattle.ion.specs.OutOfCalendar.{isCalendarMinute, localMinute, outOfCalendar}
 use Rattle.ion.proofs.Tests.{by-cases, both}
+use Rattle.ion.proofs.Calendar.{year-by-minute}
 use Rattle.calendar.proofs.Months.{days-most}
-use Rattle.calendar.proofs.Minutes.{minute-within}
-use Rattle.read_mark.proofs.Shifted.{in-range}
 
 -- ---- the year
 
@@ -79,9 +78,8 @@ module _ (y m d h i s : ℕ) where
   -- ---- what the fields tell where there is a time
 
   pub record Time : Type 0 where
+    pub real : isDay y m d ≡ true
     pub month : m ≤ 12
-    pub day-least : 1 ≤ d
-    pub day-most : d ≤ daysInMonth y m
     pub day : d ≤ 31
     pub hour : h < 24
     pub minute : i < 60
@@ -90,12 +88,10 @@ module _ (y m d h i s : ℕ) where
   time-of e f g =
       let b = both {a = isMonth m} e in
       let c = both {a = leb 1 d} (b .1) in
-      let most : d ≤ daysInMonth y m = leb-true d (daysInMonth y m) (c .1) in
       record {
+        real = e;
         month = leb-true m 12 (both {a = leb 1 m} (b .0) .1);
-        day-least = leb-true 1 d (c .0);
-        day-most = most;
-        day = omega (arith, days-most y m);
+        day = omega (arith, leb-true d (daysInMonth y m) (c .1), days-most y m);
         hour = ltb-true h 24 f;
         minute = ltb-true i 60 g;
       }
@@ -120,7 +116,5 @@ module _ (y m d h i s : ℕ) where
 
   pub utc-inside : (n : ℕ) → areFields (take n six) ≡ true → (ltb y 1 || ltb 9999 y) ≡ false → 5 ≤ n → isCalendarMinute (pos (minuteNumber y m d h i)) ≡ true
   utc-inside n e f k =
-      let b = year-inside y f in
       let t = time n e k in
-      let w = minute-within y m d h i (b .0) (b .1) (t .day-least) (t .day-most) (t .hour) (t .minute) in
-      in-range (minuteNumber y m d h i) (w .0) (w .1)
+      year-by-minute y m d h i (t .real) (t .hour) (t .minute) ∙ inside f

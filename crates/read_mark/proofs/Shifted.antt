@@ -20,7 +20,7 @@ calendar-minute n = rw (first-minute, limit-minute)
 pub minute-range : (n : ℕ) → isCalendarMinute (pos n) ≡ true → (528480 ≤ n) × (n < 5259493440)
 minute-range n e = let b = both {a = leb 528480 n} (sym (calendar-minute n) ∙ e) in (leb-true 528480 n (b .0), ltb-true n 5259493440 (b .1))
 
-pub in-range : (n : ℕ) → 528480 ≤ n → n < 5259493440 → isCalendarMinute (pos n) ≡ true
+in-range : (n : ℕ) → 528480 ≤ n → n < 5259493440 → isCalendarMinute (pos n) ≡ true
 in-range n h k = rw (calendar-minute n, le-leb 528480 n h, lt-ltb n 5259493440 k)
 
 before-range : (n : ℕ) → n < 528480 → isCalendarMinute (pos n) ≡ false

@@ -24,8 +24,8 @@ use Rattle.reading.specs.declared.Timestamp.the-variants as T
 use Rattle.reading.specs.declared.Symbol.{Symbol}
 use Rattle.reading.specs.declared.Symbol.the-variants as S
 use Rattle.reading.specs.Scalars.{isSome}
-use Rattle.reading.specs.Told.{decimalTold, fractionIn, timestampTold, symbolTold, KnownTold, DecimalWhole, TimestampWhole, SymbolWhole}
-use Rattle.reading.specs.Bodies.{magnitude, decimalFrom, decimalIn, stamped, fractioned, exponentFrom, fractionFrom, fieldsFrom, offsetFrom, timestampIn, symbolIn}
+use Rattle.reading.specs.Told.{decimalTold, fractionIn, timestampTold, symbolTold, KnownTold, DecimalWhole, TimestampWhole, MarkWhole, SymbolWhole}
+use Rattle.reading.specs.Bodies.{magnitude, decimalFrom, decimalIn, stamped, fractioned, exponentFrom, fractionFrom, fieldsFrom, offsetFrom, timestampIn, markIn, shownIn, symbolIn}
 
 -- ---- the bytes behind a field end the body
 
@@ -184,6 +184,10 @@ timestamp-whole b = on (varInt b) (varInt-ends b)
         ≡ timestampTold b (offsetFrom (length b) x)
     on none h = refl
     on (some o) h = fields-whole b (o .0) (varUInts 6 (o .1)) (ends-behind b (h .0) (o .1) (varUInts 6 (o .1)) (h .1) (varUInts-ends 6 (o .1)))
+
+pub mark-whole : MarkWhole
+unfolding shownIn scalarOf
+mark-whole b = ap markIn (timestamp-whole b)
 
 -- the offset is said to be known exactly where there is one
 stamped-known : (o : Signed) (f : List ℕ) (k c : ℕ) → KnownTold (stamped o f k c)

@@ -17,7 +17,7 @@ use Rattle.reading.specs.declared.Timestamp.the-variants as T
 use Rattle.reading.specs.declared.Symbol.{Symbol}
 use Rattle.reading.specs.declared.Symbol.the-variants as S
 use Rattle.reading.specs.Scalars.{isSome}
-use Rattle.reading.specs.Bodies.{magnitude, decimalIn, timestampIn, symbolIn}
+use Rattle.reading.specs.Bodies.{magnitude, decimalIn, timestampIn, markIn, shownIn, symbolIn}
 
 -- ---- what an answer about the body b tells
 
@@ -53,6 +53,10 @@ DecimalWhole = (b : List ℕ) → scalarOf decimalCode b ≡ decimalTold b (deci
 
 abbrev pub TimestampWhole : Type 0
 TimestampWhole = (b : List ℕ) → scalarOf timestampCode b ≡ timestampTold b (timestampIn b)
+
+-- The mark beside it is that of the scalar; a body that is none has no mark.
+abbrev pub MarkWhole : Type 0
+MarkWhole = (b : List ℕ) → shownIn b .marked ≡ markIn (timestampTold b (shownIn b .timestamp))
 
 abbrev pub SymbolWhole : Type 0
 SymbolWhole = (b : List ℕ) → scalarOf symbolCode b ≡ symbolTold (symbolIn b)
