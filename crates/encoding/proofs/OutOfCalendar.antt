@@ -12,9 +12,9 @@ use lib.IntN.{ℤ, _+ℤ_, -ℤ-+ℤ-cancel}
 use borrow.Author.Tests.{leb-true}
 use Rattle.ion.specs.Calendar.{minuteOf, isCalendarYear}
 use Rattle.ion.specs.Scalars.{areFields}
-use Rattle.ion.specs.OutOfCalendar.{isCalendarMinute, localMinute, outOfCalendar}
+use Rattle.mark.specs.OutOfCalendar.{isCalendarMinute, localMinute, outOfCalendar}
 use Rattle.ion.proofs.Tests.{by-cases}
-use Rattle.ion.proofs.Calendar.{year-by-minute}
+use Rattle.mark.proofs.Years.{year-by-minute}
 use Rattle.encoding.specs.Timestamp.{utc, NeverMarked}
 use Rattle.encoding.proofs.Rules.{isLocalYear, isTimestamp-parts, passed}
 use Rattle.encoding.proofs.Calendar.{minute-of, utc-is-local-minus-offset}

@@ -12,7 +12,7 @@ use lib.IntN.{ℤ, pos, negsuc, natAbs, negℤ, _-ℤ_}
 use Rattle.ion.specs.Value.{signed, Fraction, noFraction, fraction}
 use Rattle.ion.specs.Calendar.{daysInMonth, isMonth, isCalendarYear, minuteOf}
 use Rattle.ion.specs.Scalars.{areFields}
-use Rattle.ion.specs.OutOfCalendar.{outOfCalendar}
+use Rattle.mark.specs.OutOfCalendar.{outOfCalendar}
 use Rattle.encoding.specs.Fields.{varUIntsBytes, varIntBytes, signedOf, uintBytes}
 use Rattle.encoding.specs.Decimal.{decimalBody}
 

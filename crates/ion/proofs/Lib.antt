@@ -12,4 +12,3 @@ pub mod FieldExamples
 pub mod TextExamples
 pub mod ScalarExamples
 pub mod Examples
-pub mod CalendarExamples

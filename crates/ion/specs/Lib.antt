@@ -4,6 +4,5 @@ pub mod Fields
 pub mod Text
 pub mod Calendar
 pub mod Scalars
-pub mod OutOfCalendar
 pub mod Grammar
 pub mod Ieee

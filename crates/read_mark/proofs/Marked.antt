@@ -15,9 +15,9 @@ use Rattle.ion.specs.Value.{Signed, signed}
 use Rattle.ion.specs.Fields.{number}
 use Rattle.ion.specs.Calendar.{daysInMonth, isMonth, isDay, isCalendarYear, minuteNumber}
 use Rattle.ion.specs.Scalars.{isYear, offsetOf, areFields}
-use Rattle.ion.specs.OutOfCalendar.{isCalendarMinute, localMinute, outOfCalendar}
+use Rattle.mark.specs.OutOfCalendar.{isCalendarMinute, localMinute, outOfCalendar}
 use Rattle.ion.proofs.Tests.{by-cases, both}
-use Rattle.ion.proofs.Calendar.{year-by-minute}
+use Rattle.mark.proofs.Years.{year-by-minute}
 use Rattle.calendar.proofs.Months.{days-most}
 
 -- ---- the year

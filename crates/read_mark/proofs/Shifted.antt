@@ -9,7 +9,7 @@ use lib.Dec.{ltb, leb}
 use lib.IntN.{pos, _+ℤ_}
 use Rattle.ion.specs.Value.{signed}
 use Rattle.ion.specs.Fields.{number}
-use Rattle.ion.specs.OutOfCalendar.{isCalendarMinute}
+use Rattle.mark.specs.OutOfCalendar.{isCalendarMinute}
 use Rattle.ion.proofs.Tests.{by-cases, both}
 use Rattle.calendar.proofs.Minutes.{first-minute, limit-minute}
 

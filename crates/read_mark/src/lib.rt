@@ -9,7 +9,7 @@ ghost use lib.IntN.{pos, _+ℤ_};
 ghost use Rattle.ion.specs.Value.{signed};
 ghost use Rattle.ion.specs.Fields.{number};
 ghost use Rattle.ion.specs.Scalars.{offsetOf, areFields};
-ghost use Rattle.ion.specs.OutOfCalendar.{isCalendarMinute, outOfCalendar};
+ghost use Rattle.mark.specs.OutOfCalendar.{isCalendarMinute, outOfCalendar};
 ghost use Rattle.reading.specs.Bodies.{shownIn};
 
 // The numbers of the first minute of the year 1 and of the year 10000.

@@ -10,7 +10,7 @@ use lib.ListN.{length, getD}
 use Rattle.ion.specs.Value.{Signed, signed, Fraction, noFraction, fraction, Scalar}
 use Rattle.ion.specs.Fields.{uint, intField, varUInts, varInt}
 use Rattle.ion.specs.Scalars.{areFields, fractionOf, timestampOf}
-use Rattle.ion.specs.OutOfCalendar.{isMarked}
+use Rattle.mark.specs.OutOfCalendar.{isMarked}
 use Rattle.reading.specs.declared.Refusal.{Refusal}
 use Rattle.reading.specs.declared.Refusal.the-variants.{NotIon}
 use Rattle.reading.specs.declared.Decimal.{Decimal}

@@ -8,7 +8,7 @@ use mathlib.Core.List.{List, [], _∷_, _++_, append-assoc, append-nil}
 use mathlib.Core.Option.{Option, none, some}
 use borrow.Author.Tests.{not-false}
 use Rattle.ion.specs.Value.{Scalar, Tree, scalar, Members, noMembers, member, Fields, noFields, field, Item, marker, value, treeLeaves, membersLeaves, fieldsLeaves, leaves}
-use Rattle.ion.specs.OutOfCalendar.{isMarked, noneMarked}
+use Rattle.mark.specs.OutOfCalendar.{isMarked, noneMarked}
 use Rattle.ion.proofs.Tests.{both}
 use Rattle.encoding.specs.Timestamp.{isTimestamp}
 use Rattle.encoding.specs.Argument.{Argument, writeNull, writeBool, writeI64, writeInt, writeF32, writeF64, writeDecimal, writeTimestamp, writeSymbol}

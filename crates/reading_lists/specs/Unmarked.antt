@@ -6,7 +6,7 @@ use mathlib.Core.Path.{_≡_}
 use mathlib.Core.Bool.{true}
 use mathlib.Core.List.{List}
 use Rattle.ion.specs.Value.{Scalar, Item, leaves}
-use Rattle.ion.specs.OutOfCalendar.{noneMarked}
+use Rattle.mark.specs.OutOfCalendar.{noneMarked}
 use Rattle.ion.specs.Grammar.{Reads}
 use Rattle.machine.specs.Call.{Call, AllTyped}
 use Rattle.machine.specs.Machine.{started}

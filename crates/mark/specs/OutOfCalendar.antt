@@ -9,15 +9,15 @@ use mathlib.Core.Option.{Option, none, some}
 use lib.Dec.{ltb, leb}
 use lib.ListN.{length, getD}
 use lib.IntN.{ℤ, pos, negsuc, _+ℤ_}
 use Rattle.ion.specs.Value.{Scalar, null, bool, int, float, decimal, timestamp, symbol, string, clob, blob}
 use Rattle.ion.specs.Calendar.{isDay, isCalendarYear, minuteNumber, minuteOf}
 
 -- A minute of the years 1 to 9999, by its number.
 unfoldable pub isCalendarMinute : ℤ → Bool
 isCalendarMinute (pos n) = leb (minuteNumber 1 1 1 0 0) n && ltb n (minuteNumber 10000 1 1 0 0)
 isCalendarMinute (negsuc n) = false
 
--- Of every time of day in every year from 0 on: its minute is one of these exactly if its year is. The proof is in proofs/Calendar.antt.
+-- Of every time of day in every year from 0 on: its minute is one of these exactly if its year is. The proof is in proofs/Years.antt.
 abbrev pub YearByMinute : Type 0
 YearByMinute =
     (y m d h i : ℕ) → isDay y m d ≡ true → h < 24 → i < 60 → isCalendarMinute (pos (minuteNumber y m d h i)) ≡ isCalendarYear y

@@ -5,8 +5,8 @@ use mathlib.Core.Bool.{Bool, true, false}
 use mathlib.Core.List.{List, [], _∷_, map}
 use mathlib.Core.Option.{Option, none, some}
 use lib.IntN.{ℤ, pos, negsuc}
 use Rattle.ion.specs.Calendar.{daysBeforeMonth, daysBeforeYear, dayNumber, minuteNumber}
-use Rattle.ion.specs.OutOfCalendar.{isCalendarMinute, outOfCalendar}
+use Rattle.mark.specs.OutOfCalendar.{isCalendarMinute, outOfCalendar}
 
 -- offset, UTC fields, and whether they are marked
 abbrev marks : List (Option ℤ × List ℕ × Bool)
