@@ -79,6 +79,79 @@ read-back-shown = subst₂ Shown joined-bytes spelled-items (read-back limits ni
 host-read-back-shown : walk bytes 0 ≡ shows events
 host-read-back-shown = subst₂ Shown (host .joined) (host .spelled) (host-read-back hostLimits sevens nines (host .run)) ∙ ap shows events-are
 
+-- the same by computing, without the theorem
+computed : walk bytes 0 ≡ shows events
+unfolding walkIn walkFrom itemAt wrappedAt sidsOf varUInts varUInt groups scalarIn bodyOf codeFrom headerAt topHeaderAt markerAt marked varUIntAt varUIntFrom scalarOf bigEndian utf8 utf8From begun floatOf ofBits decimalOf timestampOf areFields isCoefficient fractionOf fractionAt varInt intField
+computed = refl
+
+-- ---- 32 containers open at once: of 33 openings and 33 closings one each is refused
+
+abbrev deep : List Call
+deep = replicate 33 (opening [] (sequenceType list)) ++ replicate 33 closing
+
+abbrev deepEvents : List Event
+deepEvents = marker ∷ (replicate 32 (begins none [] ionList) ++ replicate 32 ends)
+
+-- what is computed of them
+record Deep : Type 0 where
+  depth : streamDepth (spelled deep nines) ≡ mostOpen
+  run : Run deep nines
+  events : streamEvents (spelled deep nines) ≡ deepEvents
+  shown : walk (joined deep (started nines)) 0 ≡ shows deepEvents
+
+deepest : Deep
+unfolding treeDepth streamDepth treeEvents streamEvents joined modelAfter verdict startVerdict finishedLength fits containerFits containersFit splice closedBytes framedBytes
+    headerBytes varUIntBytes digits digitCount countDigits lowDigits walkIn walkFrom itemAt wrappedAt sidsOf varUInts varUInt groups scalarIn bodyOf codeFrom headerAt
+    topHeaderAt markerAt marked varUIntAt varUIntFrom
+deepest = record { depth = refl; run = record { starts = refl; ends = refl }; events = refl; shown = refl }
+
+all-typed : (n m : ℕ) → AllTyped (replicate n (opening [] (sequenceType list)) ++ replicate m closing)
+all-typed zero zero = tt
+all-typed zero (suc m) = (tt, all-typed zero m)
+all-typed (suc n) m = (tt, all-typed n m)
+
+deep-read-back-shown : walk (joined deep (started nines)) 0 ≡ shows deepEvents
+deep-read-back-shown = read-back deep nines (deepest .run) (all-typed 33 33) ∙ ap shows (deepest .events)
+
+-- ---- no timestamp is marked
+
+-- of the calls above and of a host's, by the theorems
+limits-unmarked : noneMarked (leaves items) ≡ true
+limits-unmarked = read-unmarked limits nines run typed items (rw joined-bytes (instance3 .reading))
+
+host-limits-unmarked : noneMarked (leaves items) ≡ true
+host-limits-unmarked = host-read-unmarked hostLimits sevens nines (host .run) items (rw (host .joined) (instance3 .reading))
+
+abbrev lastMinute : List ℕ
+lastMinute = 9999 ∷ 12 ∷ 31 ∷ 23 ∷ 59 ∷ []
+
+-- the last local minute of the calendar at the offsets 0 and -1: the second is refused, since its UTC minute is the first of the year 10000
+abbrev lastMinutes : List Call
+lastMinutes = write [] (writeTimestamp (some (pos 0)) lastMinute noFraction) ∷ write [] (writeTimestamp (some (negsuc 0)) lastMinute noFraction) ∷ []
+
+-- a timestamp behind a marker
+abbrev oneTimestamp : ℤ → List ℕ → List (Item Scalar)
+oneTimestamp z fs = Ion.marker ∷ value (scalar [] (timestamp (some z) fs noFraction)) ∷ []
+
+abbrev lastItems : List (Item Scalar)
+lastItems = oneTimestamp (pos 0) lastMinute
+
+-- what is computed of them
+record LastMinutes : Type 0 where
+  answers : verdicts lastMinutes (started nines) ≡ accepted ∷ refused 7 ∷ []
+  run : Run lastMinutes nines
+  spelled : spelled lastMinutes nines ≡ lastItems
+
+lasts : LastMinutes
+unfolding verdicts modelAfter verdict startVerdict fits containerFits containersFit splice meaning argumentBytes annotatedBytes framedBytes headerBytes timestampBody isTimestamp
+    dayBefore dayAfter varIntBytes varIntGroups varUIntsBytes varUIntBytes digits digitCount countDigits lowDigits
+lasts = record { answers = refl; run = record { starts = refl; ends = refl }; spelled = refl }
+
+last-unmarked : noneMarked (leaves lastItems) ≡ true
+last-unmarked =
+    read-unmarked lastMinutes nines (lasts .run) (omega arith) lastItems
+    (subst (Reads (joined lastMinutes (started nines))) (lasts .spelled) (demand3 lastMinutes nines (lasts .run) (omega arith) .reading))
+
 -- the refused one has a reading, and its mark is seen: no run leaves its bytes
 abbrev markedBytes : List ℕ
 markedBytes = 0xE0 ∷ 0x01 ∷ 0x00 ∷ 0xEA ∷ 0x67 ∷ 0xC1 ∷ 0x4E ∷ 0x90 ∷ 0x81 ∷ 0x81 ∷ 0x80 ∷ 0x80 ∷ []
