@@ -5,8 +5,9 @@ use mathlib.Core.Bool.{Bool, true, false}
 use mathlib.Core.List.{List, [], _∷_, map}
 use mathlib.Core.Option.{Option, none, some}
 use lib.IntN.{ℤ, pos, negsuc}
+use Rattle.ion.specs.Value.{noFraction, timestamp}
 use Rattle.ion.specs.Calendar.{daysBeforeMonth, daysBeforeYear, dayNumber, minuteNumber}
-use Rattle.mark.specs.OutOfCalendar.{isCalendarMinute, outOfCalendar}
+use Rattle.mark.specs.OutOfCalendar.{isCalendarMinute, outOfCalendar, isMarked}
 
 -- offset, UTC fields, and whether they are marked
 abbrev marks : List (Option ℤ × List ℕ × Bool)
@@ -41,6 +42,6 @@ marks =
     ∷ (some (negsuc (2 ^ 63 - 1)), 2000 ∷ 1 ∷ 1 ∷ 0 ∷ 0 ∷ [], true)
     ∷ []
 
-pub marks-answered : map (λ (c : Option ℤ × List ℕ × Bool). outOfCalendar (c .0) (c .1)) marks ≡ map (λ (c : Option ℤ × List ℕ × Bool). c .2) marks
+pub marks-answered : map (λ (c : Option ℤ × List ℕ × Bool). isMarked (timestamp (c .0) (c .1) noFraction)) marks ≡ map (λ (c : Option ℤ × List ℕ × Bool). c .2) marks
 unfolding outOfCalendar isCalendarMinute minuteNumber dayNumber daysBeforeYear daysBeforeMonth
 marks-answered = refl
