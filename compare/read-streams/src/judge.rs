@@ -121,3 +121,17 @@ fn bodies(body: &[u8]) -> Result<(), String> {
     let model = sids.var_uint().map(|sid| (sid, sids.at));
     same("sid", crate::sid(body, 0), model)
 }
+
+#[cfg(test)]
+mod tests {
+    use super::*;
+
+    #[test]
+    fn what_differs_is_counted() {
+        let mut tally = Tally::default();
+        for (ours, model, differences) in [(Ok(1), 1, 0), (Ok(1), 2, 1), (Err("odd".into()), 1, 2)] {
+            tally.count(b"", 0, same("number", ours, model));
+            assert_eq!(tally.differences, differences);
+        }
+    }
+}
