@@ -227,9 +227,13 @@ fn opened(buf: &mut [u8], depth: usize) -> Result<[u8; STATE_SIZE], Refusal> {
     Ok(state)
 }
 
-/// Goes back to a state that has the same containers: used length, depth and waiting name.
+/// Goes back to a state that has the same containers: used length, depth, waiting name, and the members of the innermost container.
 fn go_back(state: &mut [u8; STATE_SIZE], kept: &[u8; STATE_SIZE]) {
     state[..6].copy_from_slice(&kept[..6]);
+    if let Some(innermost) = usize::from(kept[4]).checked_sub(1) {
+        let members = 8 + 13 * innermost + 9;
+        state[members..members + 4].copy_from_slice(&kept[members..members + 4]);
+    }
 }
 
 fn row(name: &str, buf: &mut [u8], call: impl Fn(&mut [u8], &mut [u8]) -> Result<(), Refusal>) -> Result<(), Refusal> {

@@ -5,7 +5,9 @@
  *   4     1  how many containers are open
  *   5     1  0 if no field name waits, else one does
  *   6     2  no meaning
- *   8   288  32 containers of nine bytes: start (4) and header (4), least significant byte first, type code (1)
+ *   8   416  32 containers of 13 bytes: start (4) and header (4), type code (1), number of members (4), all least
+ *            significant byte first
+ * A state of 296 bytes, kept by a version that counts no members, is refused by 2.
  *
  * A slice is a pointer and a length. A slice of length 0 may have any pointer but a null one. State, buffer, the
  * slice of gm_close and those that are read must not overlap. Annotations are eight bytes a sid, least significant byte
@@ -19,7 +21,7 @@
 #include <stddef.h>
 #include <stdint.h>
 
-#define GM_STATE_SIZE 296
+#define GM_STATE_SIZE 424
 #define GM_LONGEST_BUFFER 16777215
 #define GM_MOST_OPEN 32
 
@@ -141,10 +143,14 @@ uint8_t gm_open_sexp(uint8_t *state, size_t state_len, uint8_t *buf, size_t buf_
 uint8_t gm_open_struct(uint8_t *state, size_t state_len, uint8_t *buf, size_t buf_len,
                        const uint8_t *annotations, size_t annotations_len);
 
-/* The closing of the innermost container, which sets its lengths. What it answers of the container goes to `closed`:
- * numbers of four bytes, least significant byte first, one behind the other, as many as the slice holds whole.
+/* The closing of the innermost container, which sets its lengths and is then a member of the one around it. What it answers
+ * of the container goes to `closed`: numbers of four bytes, least significant byte first, one behind the other, as many as
+ * the slice holds whole.
  *   0     4  how many bytes the container takes, headers and annotations counted
- * Numbers that a later version adds stand behind these. Bytes of `closed` past the numbers stay as they were.
+ *   4     4  how many direct members it has, a struct its name and value pairs. A container that was closed in it counts
+ *            once; what was refused or abandoned in it does not count
+ * Numbers that a later version adds stand behind these. Bytes of `closed` past the numbers stay as they were, and a refused
+ * closing leaves all of them.
  * Refusals 1, 2, 3 (none open, or a name waits), 10. */
 uint8_t gm_close(uint8_t *state, size_t state_len, uint8_t *buf, size_t buf_len, uint8_t *closed, size_t closed_len);
 

@@ -12,7 +12,8 @@
 //! let mut record = writer.with_annotations(&[20]).struct_writer()?;
 //! record.field_name(10)?.write_decimal(Decimal::new(8125, -1))?;
 //! record.field_name(11)?.write_bool(true)?;
-//! assert_eq!(record.close()?.size, 11);
+//! let closed = record.close()?;
+//! assert_eq!((closed.size, closed.members), (11, 2));
 //! assert_eq!(writer.finished(), b"\xE0\x01\x00\xEA\xEA\x81\x94\xD7\x8A\x53\xC1\x1F\xBD\x8B\x11");
 //! writer.empty()?;
 //! # Ok(())
@@ -47,4 +48,4 @@ pub const LONGEST_BUFFER: usize = 16_777_215;
 pub const MOST_OPEN: usize = 32;
 
 /// The bytes of a state.
-pub const STATE_SIZE: usize = 296;
+pub const STATE_SIZE: usize = 424;

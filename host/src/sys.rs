@@ -293,14 +293,13 @@ pub fn open_struct(state: &mut [u8], buf: &mut [u8], annotations: &[u8]) -> Resu
     answer(unsafe { gm_open_struct(state, state_len, buf, buf_len, annotations, annotations_len) })
 }
 
-/// The closing of the innermost container.
+/// The closing of the innermost container, which becomes a member of the one around it.
 #[inline(always)]
 pub fn close(state: &mut [u8], buf: &mut [u8]) -> Result<Closed, Refusal> {
-    let mut size = [0; 4];
-    close_into(state, buf, &mut size)?;
-    Ok(Closed {
-        size: u32::from_le_bytes(size),
-    })
+    let mut closed = [[0; 4]; 2];
+    close_into(state, buf, closed.as_flattened_mut())?;
+    let [size, members] = closed.map(u32::from_le_bytes);
+    Ok(Closed { size, members })
 }
 
 /// The library puts as many of its numbers into `closed` as that holds whole, so one with more numbers than are asked for fits too.
@@ -512,17 +511,23 @@ mod tests {
 
     #[test]
     fn closing_puts_the_numbers_that_the_slice_holds_whole() {
-        for length in 0..=8 {
+        for length in 0..=12 {
             let mut state = [0; STATE_SIZE];
             let mut buf = [0xEE; 16];
             start(&mut state, &mut buf).unwrap();
             open_list(&mut state, &mut buf, sid_bytes(&[10])).unwrap();
-            let mut closed = [0xEE; 8];
+            write_bool(&mut state, &mut buf, &[], true).unwrap();
+            write_bool(&mut state, &mut buf, &[], false).unwrap();
+            let mut closed = [0xEE; 12];
             assert_eq!(close_into(&mut state, &mut buf, &mut closed[..length]), Ok(()));
-            assert_eq!(finished(&state, &buf)[4..], [0xE3, 0x81, 0x8A, 0xB0]);
-            let mut expected = [0xEE; 8];
+            assert_eq!(finished(&state, &buf)[4..], [0xE5, 0x81, 0x8A, 0xB2, 0x11, 0x10]);
+            // the size, and the number of members
+            let mut expected = [0xEE; 12];
             if length >= 4 {
-                expected[..4].copy_from_slice(&[4, 0, 0, 0]);
+                expected[..4].copy_from_slice(&[6, 0, 0, 0]);
+            }
+            if length >= 8 {
+                expected[4..8].copy_from_slice(&[2, 0, 0, 0]);
             }
             assert_eq!(closed, expected, "a slice of {length} bytes");
         }
@@ -531,10 +536,10 @@ mod tests {
     #[test]
     fn refused_closing_leaves_the_slice() {
         fn refused(state: &mut [u8], buf: &mut [u8], why: Refusal) {
-            for length in 0..=8 {
-                let mut closed = [0xEE; 8];
+            for length in 0..=12 {
+                let mut closed = [0xEE; 12];
                 assert_eq!(close_into(state, buf, &mut closed[..length]), Err(why));
-                assert_eq!(closed, [0xEE; 8], "a slice of {length} bytes");
+                assert_eq!(closed, [0xEE; 12], "a slice of {length} bytes");
             }
         }
         let mut state = [0; STATE_SIZE];

@@ -17,12 +17,15 @@ pub enum IonType {
     Struct = 13,
 }
 
-/// What a closing answers of the container that it closed.
+/// What a closing answers of the container that it closed. A refused one answers its [`Refusal`](crate::Refusal), and no numbers.
 #[derive(Clone, Copy, Debug, PartialEq, Eq, Hash)]
 #[non_exhaustive]
 pub struct Closed {
     /// How many bytes the container takes, its headers and annotations counted.
     pub size: u32,
+    /// How many direct members it has, a struct its name and value pairs. A closed container in it is one member, whatever that holds;
+    /// what was refused or abandoned in it is none.
+    pub members: u32,
 }
 
 /// The magnitude of a decimal's coefficient.

@@ -11,7 +11,8 @@ pub struct State {
 }
 
 impl State {
-    /// Any bytes make a state. One that does not fit the buffer is refused by each call (2).
+    /// Any bytes make a state. One that does not fit the buffer is refused by each call (2). A state of 296 bytes, kept by a version
+    /// that counts no members, is not read.
     pub const fn from_bytes(bytes: [u8; STATE_SIZE]) -> Self {
         State { bytes }
     }
@@ -39,8 +40,9 @@ impl<'b> Writer<'b> {
         Ok(Writer { state, buf })
     }
 
-    /// Goes on with a state kept from before, over the same buffer. Values go to the innermost container that is open in it;
-    /// `sys::close` and `sys::abandon` end one that was opened elsewhere.
+    /// Goes on with a state kept from before, over the same buffer. Values go to the innermost container that is open in it, and are
+    /// counted on from the number of members that it has there; `sys::close` and `sys::abandon` end one that was opened elsewhere.
+    /// A state of 296 bytes cannot be resumed: the version that kept it has to finish its stream.
     pub fn resume(state: State, buf: &'b mut [u8]) -> Self {
         Writer { state, buf }
     }
@@ -339,7 +341,7 @@ pub struct SexpWriter<'w>(Open<'w>);
 pub struct StructWriter<'w>(Open<'w>);
 
 impl ListWriter<'_> {
-    /// Closes the list. A refused close abandons it.
+    /// Closes the list, and answers its size and how many members it has. A refused close abandons it.
     #[inline]
     pub fn close(self) -> Result<Closed, Refusal> {
         self.0.close()
@@ -347,7 +349,7 @@ impl ListWriter<'_> {
 }
 
 impl SexpWriter<'_> {
-    /// Closes the s-expression. A refused close abandons it.
+    /// Closes the s-expression, and answers its size and how many members it has. A refused close abandons it.
     #[inline]
     pub fn close(self) -> Result<Closed, Refusal> {
         self.0.close()
@@ -362,7 +364,7 @@ impl StructWriter<'_> {
         Ok(self)
     }
 
-    /// Closes the struct. A refused close abandons it.
+    /// Closes the struct, and answers its size and how many members it has. A refused close abandons it.
     #[inline]
     pub fn close(self) -> Result<Closed, Refusal> {
         self.0.close()

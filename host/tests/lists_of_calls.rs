@@ -1,6 +1,7 @@
-//! Random lists of calls, held to a model written from document 01. After each call the answer, every byte of the state and every
-//! byte of the buffer are compared.
-use goatminute::{sys, Precision, Refusal, Timestamp, STATE_SIZE};
+//! Random lists of calls, held to a model written from document 01 and document 02, Item 3. After each call the answer, every byte of the
+//! state and every byte of the buffer are compared; after the last, the numbers of members that the closings answered are compared with
+//! what the reader counts in the bytes.
+use goatminute::{sys, Precision, Reader, Refusal, Timestamp, STATE_SIZE};
 
 // ---- what a scalar's bytes are
 
@@ -237,11 +238,18 @@ fn annotated(sids: &[u64], bytes: Vec<u8>) -> Vec<u8> {
     value(0xE0, &body)
 }
 
+/// A container's start, its header, its type code and how many members it has, in the state's bytes.
+const RECORD_SIZE: usize = 13;
+
 struct Container {
     annotations: Vec<u64>,
     code: u8,
     body: Vec<u8>,
+    members: u32,
 }
+
+/// What a close answers: how many bytes the container takes, and how many members it has.
+type Closed = (u32, u32);
 
 /// The state and the buffer as they have to be.
 struct Model {
@@ -282,6 +290,16 @@ impl Model {
         }
     }
 
+    /// A value at the end: a member of the innermost container.
+    fn put_value(&mut self, bytes: Vec<u8>) {
+        self.end().extend(bytes);
+        let record_end = 8 + RECORD_SIZE * self.open.len();
+        if let Some(container) = self.open.last_mut() {
+            container.members += 1;
+            self.state[record_end - 4..record_end].copy_from_slice(&container.members.to_le_bytes());
+        }
+    }
+
     fn in_struct(&self) -> bool {
         self.open.last().is_some_and(|container| container.code == 0xD0)
     }
@@ -299,8 +317,7 @@ impl Model {
         self.state[5] = self.waiting as u8;
     }
 
-    /// Answers what a close does: how many bytes the container takes.
-    fn call(&mut self, call: &Call) -> Result<Option<usize>, Refusal> {
+    fn call(&mut self, call: &Call) -> Result<Option<Closed>, Refusal> {
         let room = self.buf.len();
         let used = self.used().len();
         let fits = |more: usize| if used + more <= room { Ok(()) } else { Err(Refusal::NoRoom) };
@@ -310,7 +327,7 @@ impl Model {
                 placed(!self.in_struct() || self.waiting)?;
                 let bytes = annotated(sids, scalar(of)?);
                 fits(bytes.len())?;
-                self.end().extend(bytes);
+                self.put_value(bytes);
                 self.waiting = false;
                 self.settle(false);
             }
@@ -329,14 +346,16 @@ impl Model {
                 }
                 let reserve = reserve(sids).len();
                 fits(reserve)?;
-                let at = 8 + 9 * self.open.len();
+                let at = 8 + RECORD_SIZE * self.open.len();
                 self.state[at..at + 4].copy_from_slice(&(used as u32).to_le_bytes());
                 self.state[at + 4..at + 8].copy_from_slice(&((used + reserve - 2) as u32).to_le_bytes());
                 self.state[at + 8] = *code;
+                self.state[at + 9..at + RECORD_SIZE].fill(0);
                 self.open.push(Container {
                     annotations: sids.clone(),
                     code: *code,
                     body: Vec::new(),
+                    members: 0,
                 });
                 self.waiting = false;
                 self.settle(false);
@@ -349,11 +368,11 @@ impl Model {
                 if used - held + bytes.len() > room {
                     return Err(Refusal::NoRoom);
                 }
-                let size = bytes.len();
+                let closed = (bytes.len() as u32, last.members);
                 self.open.pop();
-                self.end().extend(bytes);
+                self.put_value(bytes);
                 self.settle(true);
-                return Ok(Some(size));
+                return Ok(Some(closed));
             }
             Call::Abandon => {
                 placed(!self.open.is_empty())?;
@@ -396,7 +415,7 @@ fn reserve(sids: &[u64]) -> Vec<u8> {
     bytes
 }
 
-fn enter(call: &Call, state: &mut [u8], buf: &mut [u8]) -> Result<Option<usize>, Refusal> {
+fn enter(call: &Call, state: &mut [u8], buf: &mut [u8]) -> Result<Option<Closed>, Refusal> {
     let answer = match call {
         Call::Write(sids, scalar) => {
             let sids = sys::sid_bytes(sids);
@@ -421,7 +440,7 @@ fn enter(call: &Call, state: &mut [u8], buf: &mut [u8]) -> Result<Option<usize>,
         Call::Open(sids, 0xB0) => sys::open_list(state, buf, sys::sid_bytes(sids)),
         Call::Open(sids, 0xC0) => sys::open_sexp(state, buf, sys::sid_bytes(sids)),
         Call::Open(sids, _) => sys::open_struct(state, buf, sys::sid_bytes(sids)),
-        Call::Close => return sys::close(state, buf).map(|closed| Some(closed.size as usize)),
+        Call::Close => return sys::close(state, buf).map(|closed| Some((closed.size, closed.members))),
         Call::Abandon => sys::abandon(state, buf),
         Call::Marker => sys::version_marker(state, buf),
         Call::Empty => sys::empty(state, buf),
@@ -623,28 +642,126 @@ impl Random {
     }
 }
 
-/// How often each answer was met: accepted, then the refusals by number.
-type Met = [usize; 11];
+// ---- the lists, run and read back
+
+/// How many items each container of a stream holds, in the order in which the containers end.
+fn members_read(stream: &[u8]) -> Vec<u32> {
+    fn walk(reader: &mut Reader, ended: &mut Vec<u32>) -> u32 {
+        let mut items = 0;
+        while let Some(item) = reader.next() {
+            items += 1;
+            if item.unwrap().value.is_container() {
+                reader.step_in().unwrap();
+                let members = walk(reader, ended);
+                ended.push(members);
+                reader.step_out().unwrap();
+            }
+        }
+        items
+    }
+    let mut ended = Vec::new();
+    walk(&mut Reader::new(stream), &mut ended);
+    ended
+}
+
+/// The numbers of members that closings answered, in their order: outside of all open containers, and in each of them, outermost first.
+#[derive(Default)]
+struct Answers {
+    outside: Vec<u32>,
+    inside: Vec<Vec<u32>>,
+}
+
+/// A list of calls as it runs. Its first failure says the seed and the call.
+struct List {
+    seed: u64,
+    model: Model,
+    state: [u8; STATE_SIZE],
+    buf: Vec<u8>,
+    calls: usize,
+    answers: Answers,
+    /// What was finished before each emptying.
+    emptied: Vec<u8>,
+}
+
+/// What was met in the lists.
+#[derive(Debug, Default)]
+struct Met {
+    /// How often each answer: accepted, then the refusals by number.
+    answers: [usize; 11],
+    /// The numbers of members that were compared with what the reader counts, and those that an abandonment took with it.
+    members: Vec<u32>,
+    abandoned: usize,
+}
+
+impl List {
+    fn start(seed: u64, room: usize) -> Self {
+        let mut state = [0; STATE_SIZE];
+        let mut buf = vec![0xEE; room];
+        sys::start(&mut state, &mut buf).unwrap();
+        List {
+            seed,
+            model: Model::start(room),
+            state,
+            buf,
+            calls: 0,
+            answers: Answers::default(),
+            emptied: Vec::new(),
+        }
+    }
+
+    /// Makes a call, held to the model. Answers whether it was accepted.
+    fn call(&mut self, call: &Call, met: &mut Met) -> bool {
+        let at = format!("seed {}, call {}: {call:?}", self.seed, self.calls);
+        let finished = self.model.finished().to_vec();
+        let expected = self.model.call(call);
+        let answer = enter(call, &mut self.state, &mut self.buf);
+        assert_eq!(answer, expected, "{at}");
+        assert!(self.state == self.model.state, "{at} leaves another state");
+        assert!(self.buf == self.model.buf, "{at} leaves other bytes");
+        assert_eq!(sys::finished(&self.state, &self.buf), self.model.finished(), "{at}");
+        self.calls += 1;
+        met.answers[answer.map_or_else(|why| why.number() as usize, |_| 0)] += 1;
+        let Ok(closed) = answer else {
+            return false;
+        };
+        let inside = &mut self.answers.inside;
+        match call {
+            Call::Open(..) => inside.push(Vec::new()),
+            Call::Close => {
+                let (_, members) = closed.unwrap();
+                let mut ended = inside.pop().unwrap();
+                ended.push(members);
+                inside.last_mut().unwrap_or(&mut self.answers.outside).extend(ended);
+            }
+            Call::Abandon => met.abandoned += inside.pop().unwrap().len(),
+            Call::Empty => self.emptied.extend(finished),
+            Call::Write(..) | Call::Name(_) | Call::Marker => (),
+        }
+        true
+    }
+
+    /// Ends what is open, and compares what the closings answered with what the reader counts in all that was finished.
+    fn end(mut self, met: &mut Met) {
+        while !self.model.open.is_empty() {
+            if !self.call(&Call::Close, met) {
+                self.call(&Call::Abandon, met);
+            }
+        }
+        let mut stream = self.emptied;
+        stream.extend(self.model.finished());
+        assert_eq!(self.answers.outside, members_read(&stream), "seed {}", self.seed);
+        met.members.extend(self.answers.outside);
+    }
+}
 
 fn run(seed: u64, room: usize, calls: usize, deep: bool, met: &mut Met) {
     let mut random = Random(seed);
-    let mut model = Model::start(room);
-    let mut state = [0; STATE_SIZE];
-    let mut buf = vec![0xEE; room];
-    sys::start(&mut state, &mut buf).unwrap();
-    for number in 0..calls {
-        let call = random.call(&model, deep);
-        let expected = model.call(&call);
-        let answer = enter(&call, &mut state, &mut buf);
-        assert_eq!(answer, expected, "seed {seed}, call {number}: {call:?}");
-        assert!(
-            state == model.state,
-            "seed {seed}, call {number}: {call:?} leaves another state"
-        );
-        assert!(buf == model.buf, "seed {seed}, call {number}: {call:?} leaves other bytes");
-        assert_eq!(sys::finished(&state, &buf), model.finished(), "seed {seed}, call {number}");
-        met[answer.map_or_else(|why| why.number() as usize, |_| 0)] += 1;
+    let mut list = List::start(seed, room);
+    for _ in 0..calls {
+        let call = random.call(&list.model, deep);
+        list.call(&call, met);
     }
+    list.end(met);
 }
 
 #[test]
@@ -659,8 +776,8 @@ fn random_lists_of_calls() {
     for seed in 600..800 {
         run(seed, 2_000, 200, true, &mut met);
     }
-    println!("accepted and refused by number: {met:?}");
-    for (number, &times) in met.iter().enumerate() {
+    println!("accepted and refused by number: {:?}", met.answers);
+    for (number, &times) in met.answers.iter().enumerate() {
         // 1 and 2 are not met by a state that the calls made, and 9 by no call
         assert_eq!(
             times == 0,
@@ -668,6 +785,16 @@ fn random_lists_of_calls() {
             "answer {number} was met {times} times"
         );
     }
+    println!(
+        "numbers of members: {} compared, up to {:?}; {} abandoned",
+        met.members.len(),
+        met.members.iter().max(),
+        met.abandoned
+    );
+    for members in 0..=3 {
+        assert!(met.members.contains(&members), "no container has {members} members");
+    }
+    assert!(met.abandoned > 0);
 }
 
 #[test]

@@ -113,7 +113,8 @@ fn refused_start_answers_the_empty_state() {
 #[test]
 fn state_of_another_length_is_2() {
     let (state, mut buf) = started(64);
-    for length in [0, 1, STATE_SIZE - 1, STATE_SIZE + 1, 2 * STATE_SIZE] {
+    // 296 bytes are a state without members
+    for length in [0, 1, 296, STATE_SIZE - 1, STATE_SIZE + 1, 2 * STATE_SIZE] {
         let mut other = state.to_vec();
         other.resize(length, 0);
         for (name, call) in every_call() {
@@ -124,17 +125,18 @@ fn state_of_another_length_is_2() {
     }
 }
 
-/// A state by its parts: used length, whether a name waits, and the open containers with start, header and type code.
-fn state_of(used: u32, waiting: u8, containers: &[(u32, u32, u8)]) -> [u8; STATE_SIZE] {
+/// A state by its parts: used length, whether a name waits, and the open containers with start, header, type code and members.
+fn state_of(used: u32, waiting: u8, containers: &[(u32, u32, u8, u32)]) -> [u8; STATE_SIZE] {
     let mut state = [0; STATE_SIZE];
     state[..4].copy_from_slice(&used.to_le_bytes());
     state[4] = containers.len() as u8;
     state[5] = waiting;
-    for (i, &(start, header, code)) in containers.iter().enumerate() {
-        let at = 8 + 9 * i;
+    for (i, &(start, header, code, members)) in containers.iter().enumerate() {
+        let at = 8 + 13 * i;
         state[at..at + 4].copy_from_slice(&start.to_le_bytes());
         state[at + 4..at + 8].copy_from_slice(&header.to_le_bytes());
         state[at + 8] = code;
+        state[at + 9..at + 13].copy_from_slice(&members.to_le_bytes());
     }
     state
 }
@@ -147,21 +149,50 @@ fn state_that_does_not_fit_is_2() {
         ("used past the buffer", state_of(65, 0, &[])),
         ("used of 32 bits", state_of(u32::MAX, 0, &[])),
         ("33 containers", depth_33),
-        ("type code 00", state_of(20, 0, &[(4, 4, 0)])),
-        ("type code E0", state_of(20, 0, &[(4, 4, 0xE0)])),
-        ("type code B1", state_of(20, 0, &[(4, 4, 0xB1)])),
-        ("header before start", state_of(20, 0, &[(4, 3, 0xB0)])),
-        ("header 1 beyond start", state_of(20, 0, &[(4, 5, 0xB0)])),
-        ("header 3 beyond start", state_of(20, 0, &[(4, 7, 0xB0)])),
-        ("header without its reserve", state_of(20, 0, &[(4, 19, 0xB0)])),
-        ("header past the next start", state_of(20, 0, &[(4, 8, 0xB0), (9, 9, 0xC0)])),
-        ("start of 32 bits", state_of(20, 0, &[(u32::MAX, u32::MAX, 0xB0)])),
-        ("outer container unfit", state_of(20, 0, &[(4, 4, 0x10), (6, 6, 0xB0)])),
+        ("type code 00", state_of(20, 0, &[(4, 4, 0, 0)])),
+        ("type code E0", state_of(20, 0, &[(4, 4, 0xE0, 0)])),
+        ("type code B1", state_of(20, 0, &[(4, 4, 0xB1, 0)])),
+        ("header before start", state_of(20, 0, &[(4, 3, 0xB0, 0)])),
+        ("header 1 beyond start", state_of(20, 0, &[(4, 5, 0xB0, 0)])),
+        ("header 3 beyond start", state_of(20, 0, &[(4, 7, 0xB0, 0)])),
+        ("header without its reserve", state_of(20, 0, &[(4, 19, 0xB0, 0)])),
+        (
+            "header past the next start",
+            state_of(20, 0, &[(4, 8, 0xB0, 0), (9, 9, 0xC0, 0)]),
+        ),
+        ("start of 32 bits", state_of(20, 0, &[(u32::MAX, u32::MAX, 0xB0, 0)])),
+        ("outer container unfit", state_of(20, 0, &[(4, 4, 0x10, 0), (6, 6, 0xB0, 0)])),
         ("name waits with none open", state_of(20, 1, &[])),
-        ("name waits in a list", state_of(20, 1, &[(4, 4, 0xB0)])),
+        ("name waits in a list", state_of(20, 1, &[(4, 4, 0xB0, 0)])),
+        // no more members than bytes: 14 here, none, 10 behind annotations
+        ("a member more than bytes", state_of(20, 0, &[(4, 4, 0xB0, 15)])),
+        ("a member in no bytes", state_of(6, 0, &[(4, 4, 0xC0, 1)])),
+        (
+            "a member more than bytes behind annotations",
+            state_of(20, 0, &[(4, 8, 0xD0, 11)]),
+        ),
+        ("a pair more than bytes, a name waits", state_of(20, 1, &[(4, 8, 0xD0, 11)])),
+        ("members of 32 bits", state_of(20, 0, &[(4, 4, 0xB0, u32::MAX)])),
+        (
+            "members that wrap the header around",
+            state_of(20, 0, &[(4, 4, 0xB0, u32::MAX - 5)]),
+        ),
+        // the bytes of an outer container end at the next start, not at the used length: 3 here
+        (
+            "a member more than bytes outside",
+            state_of(20, 0, &[(4, 4, 0xB0, 4), (9, 9, 0xB0, 0)]),
+        ),
+        (
+            "a member more than bytes in the middle",
+            state_of(20, 0, &[(0, 0, 0xB0, 0), (4, 4, 0xC0, 4), (9, 9, 0xB0, 0)]),
+        ),
+        (
+            "a member more than bytes inside",
+            state_of(20, 0, &[(4, 4, 0xB0, 3), (9, 9, 0xB0, 10)]),
+        ),
         (
             "name waits in a list in a struct",
-            state_of(20, 1, &[(4, 4, 0xD0), (7, 7, 0xB0)]),
+            state_of(20, 1, &[(4, 4, 0xD0, 0), (7, 7, 0xB0, 0)]),
         ),
     ];
     for (which, mut state) in unfit {
@@ -176,11 +207,15 @@ fn state_that_does_not_fit_is_2() {
 #[test]
 fn states_that_fit_are_taken() {
     let fit = [
-        state_of(64, 0, &[(62, 62, 0xB0)]),
-        state_of(20, 0, &[(4, 8, 0xB0)]),
-        state_of(20, 0, &[(4, 4, 0xC0), (6, 6, 0xC0)]),
-        state_of(20, 1, &[(4, 4, 0xC0), (6, 10, 0xD0)]),
-        state_of(20, 0xFF, &[(0, 0, 0xD0)]),
+        state_of(64, 0, &[(62, 62, 0xB0, 0)]),
+        state_of(20, 0, &[(4, 8, 0xB0, 0)]),
+        state_of(20, 0, &[(4, 4, 0xC0, 0), (6, 6, 0xC0, 0)]),
+        state_of(20, 1, &[(4, 4, 0xC0, 0), (6, 10, 0xD0, 0)]),
+        state_of(20, 0xFF, &[(0, 0, 0xD0, 0)]),
+        // as many members as bytes
+        state_of(20, 0, &[(4, 4, 0xB0, 14)]),
+        state_of(20, 1, &[(4, 8, 0xD0, 10)]),
+        state_of(20, 0, &[(4, 4, 0xB0, 3), (9, 9, 0xB0, 9)]),
     ];
     for mut state in fit {
         let mut buf = vec![0xEE; 64];

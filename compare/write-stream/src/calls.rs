@@ -1,7 +1,7 @@
 //! The calls that spell a value.
 
 use compare::value::{Annotated, Symbol, Timestamp, Type, Value};
-use goatminute::{Decimal, IonType, Precision, Refusal, WriteValues};
+use goatminute::{Closed, Decimal, IonType, Precision, Refusal, WriteValues};
 
 use crate::noise::Noise;
 
@@ -29,13 +29,13 @@ pub fn write(values: &mut dyn WriteValues, annotated: &Annotated, noise: &mut No
             let mut list = writer.list_writer()?;
             members.iter().try_for_each(|member| write(&mut list, member, noise))?;
             noise.make(&mut list);
-            list.close().map(drop)
+            closed(list.close(), members.len())
         }
         Value::Sexp(members) => {
             let mut sexp = writer.sexp_writer()?;
             members.iter().try_for_each(|member| write(&mut sexp, member, noise))?;
             noise.make(&mut sexp);
-            sexp.close().map(drop)
+            closed(sexp.close(), members.len())
         }
         Value::Struct(fields) => {
             let mut record = writer.struct_writer()?;
@@ -44,9 +44,15 @@ pub fn write(values: &mut dyn WriteValues, annotated: &Annotated, noise: &mut No
                 record.field_name(sid(name))?;
                 write(&mut record, member, noise)?;
             }
-            record.close().map(drop)
+            closed(record.close(), fields.len())
         }
     }
+}
+
+/// A closing, which answers as many members as the value has: noise is none.
+fn closed(answer: Result<Closed, Refusal>, members: usize) -> Result<(), Refusal> {
+    assert_eq!(answer?.members as usize, members, "members of a closed container");
+    Ok(())
 }
 
 /// Streams have no text: document 01 would not accept it.

@@ -2,9 +2,10 @@
 // says where it comes from, is one of these:
 //   fresh                                    a new list: every byte of the buffer is EE, the state is empty
 //   set USED DEPTH WAITING                   the next call is given these in its state
-//   record INDEX START HEADER CODE           the next call is given this record of an open container in its state
-//   ROOM ANSWER USED DEPTH WAITING CALL ..   a call that is lent ROOM bytes, its answer (0, or the refusal's number) and the state behind it
-//   open INDEX START HEADER CODE             the record of an open container
+//   record INDEX START HEADER CODE MEMBERS   the next call is given this record of an open container in its state
+//   ROOM ANSWER USED DEPTH WAITING CALL ..   a call that is lent ROOM bytes, its answer (0, or the refusal's number) and the state behind it;
+//                                            behind `close` stand the size and the members that it answers, 0 0 if it is refused
+//   open INDEX START HEADER CODE MEMBERS     the record of an open container
 //   take ROOM LENGTH                         how many finished bytes are handed back
 //   bytes FROM HEX                           the bytes from FROM on
 //   all FROM TO HEX                          the byte at each place from FROM to before TO
@@ -16,6 +17,7 @@ ghost use lib.ListN.{length};
 use libc::STDIN_FILENO;
 use libc::STDOUT_FILENO;
 use machine::Answer;
+use machine::Closed;
 use machine::Container;
 use machine::Refusal;
 use machine::State;
@@ -37,6 +39,7 @@ struct Numbers {
     second: usize,
     third: usize,
     fourth: usize,
+    fifth: usize,
 }
 
 fn size(word: &[u8]) -> usize {
@@ -49,6 +52,7 @@ fn read(line: &[u8]) -> Numbers {
         second: size(word(line, 2)),
         third: size(word(line, 3)),
         fourth: size(word(line, 4)),
+        fifth: size(word(line, 5)),
     }
 }
 
@@ -71,6 +75,7 @@ fn fresh(buf: &mut [u8]) -> State {
             start: 0,
             header: 0,
             code: 0,
+            members: 0,
         }; 32],
     }
 }
@@ -87,11 +92,13 @@ fn with_record(n: Numbers, code: u8, state: State) -> State {
     let i = n.first % 32;
     let start = n.second;
     let header = n.third;
+    let members = n.fifth;
     let mut next = state;
     next.containers[i] = Container {
         start,
         header,
         code,
+        members,
     };
     next
 }
@@ -99,7 +106,7 @@ fn with_record(n: Numbers, code: u8, state: State) -> State {
 fn is_open(n: Numbers, code: u8, state: State) -> bool {
     let i = n.first % 32;
     let c = state.containers[i];
-    (c.start == n.second) & (c.header == n.third) & (c.code == code)
+    (c.start == n.second) & (c.header == n.third) & (c.code == code) & (c.members == n.fifth)
 }
 
 fn takes(n: Numbers, state: State, buf: &[u8]) -> bool {
@@ -154,13 +161,17 @@ fn print_number(n: usize) {
     print(b" ");
 }
 
-// What a call answered.
-fn print_got(answer: usize, state: State) {
+// What a call answered and left, and what it answered of a container.
+fn print_got(got: Closed) {
+    let answer = got.answer;
+    let state = got.state;
     print(b"got ");
-    print_number(answer);
+    print_number(number(answer));
     print_number(state.used);
     print_number(state.depth);
     print_number(state.waiting as usize);
+    print_number(got.size);
+    print_number(got.members);
 }
 
 fn report(is_right: bool) {
@@ -171,24 +182,34 @@ fn report(is_right: bool) {
     print(b"differs\n");
 }
 
-fn compare_call(n: Numbers, answer: usize, state: State) {
-    let is_right = (answer == n.first)
+// Whether a closing answered the numbers of the container that stand behind its name.
+fn has_numbers(call: &[u8], got: Closed) -> bool {
+    if !check::same(word(call, 0), b"close") {
+        return true;
+    }
+    (got.size == size(word(call, 1))) & (got.members == size(word(call, 2)))
+}
+
+fn compare_call(line: &[u8], got: Closed) {
+    let n = read(line);
+    let answer = got.answer;
+    let state = got.state;
+    let is_right = (number(answer) == n.first)
         & (state.used == n.second)
         & (state.depth == n.third)
-        & (state.waiting == (n.fourth == 1));
+        & (state.waiting == (n.fourth == 1))
+        & has_numbers(words::from_word(line, 5), got);
     if !is_right {
-        print_got(answer, state);
+        print_got(got);
     }
     report(is_right);
 }
 
 fn call(line: &[u8], state: State, buf: &mut [u8]) -> State {
     let room = least(size(word(line, 0)), buf.len());
-    let written = writes::write(words::from_word(line, 5), state, &mut buf[0..room]);
-    let answer = written.answer;
-    let next = written.state;
-    compare_call(read(line), number(answer), next);
-    next
+    let got = writes::write(words::from_word(line, 5), state, &mut buf[0..room]);
+    compare_call(line, got);
+    got.state
 }
 
 // The lines that are no call, by the index of their first words, of which the first is that of an empty line.

@@ -4,6 +4,7 @@ ghost use mathlib.Core.Path.{_≡_};
 ghost use Prim.Native.Nat.{_≤_};
 ghost use lib.ListN.{length};
 use machine::Answer;
+use machine::Closed;
 use machine::Refusal;
 use machine::State;
 use machine::Written;
@@ -173,19 +174,11 @@ fn read(call: &[u8]) -> Arguments {
     }
 }
 
-fn close(state: State, buf: &mut [u8]) -> Written {
-    let closed = writer::close(state, buf);
-    let answer = closed.answer;
-    let state = closed.state;
-    Written { answer, state }
-}
-
 // A word that names no call answers 9, which no call answers.
 fn write_plain(function: usize, number: u64, state: State, buf: &mut [u8]) -> Written {
     match function {
         START => writer::start(buf),
         NAME => writer::field_name(state, buf, number),
-        CLOSE => close(state, buf),
         ABANDON => writer::abandon(state, buf),
         MARKER => writer::version_marker(state, buf),
         EMPTY => writer::empty(state, buf),
@@ -227,8 +220,20 @@ fn write_value(
     }
 }
 
+// What a call answers that closes no container, and so has no numbers of one.
+fn without_numbers(written: Written) -> Closed {
+    let answer = written.answer;
+    let state = written.state;
+    Closed {
+        answer,
+        state,
+        size: 0,
+        members: 0,
+    }
+}
+
 // Makes the call.
-pub(crate) fn write(call: &[u8], state: State, buf: &mut [u8]) -> Written {
+pub(crate) fn write(call: &[u8], state: State, buf: &mut [u8]) -> Closed {
     let mut annotations = [0u8; 256];
     let n = sids(call, &mut annotations);
     let plain = behind_sids(call);
@@ -236,14 +241,17 @@ pub(crate) fn write(call: &[u8], state: State, buf: &mut [u8]) -> Written {
         b"start name close abandon marker empty list sexp struct null bool i64 int f32 f64 f32_value f64_value decimal timestamp symbol string clob blob",
         word(plain, 0),
     );
+    if function == CLOSE {
+        return writer::close(state, buf);
+    }
     let mut bytes = longest_body();
     let m = bytes_of(function, plain, &mut bytes);
-    write_value(
+    without_numbers(write_value(
         function,
         plain,
         &annotations[0..n],
         &bytes[0..m],
         state,
         buf,
-    )
+    ))
 }

@@ -21,6 +21,7 @@ pub record Fit (c : Container) (limit : ℕ) : Type 0 where
   pub high : c .code / 16 * 16 ≡ c .code
   pub apart : (c .header ≡ c .start) ⊎ (c .start + 4 ≤ c .header)
   pub within : c .header + 2 ≤ limit
+  pub held : c .members ≤ limit - (c .header + 2)
 
 either : (a b : Bool) → (a || b) ≡ true → (a ≡ true) ⊎ (b ≡ true)
 either true b e = inl refl
@@ -31,10 +32,12 @@ unfolding containerFits
 fit c limit e =
     let k = and-eq-true-iff (eqb (c .code) 0xB0 || (eqb (c .code) 0xC0 || eqb (c .code) 0xD0)) _ .0 e in
     let p = and-eq-true-iff (eqb (c .header) (c .start) || leb (c .start + 4) (c .header)) _ .0 (k .1) in
+    let q = and-eq-true-iff (leb (c .header + 2) limit) (leb (c .members) (limit - (c .header + 2))) .0 (p .1) in
     record {
       high = ⊎-elim (λ x. known 0xB0 refl x) (λ y. ⊎-elim (λ x. known 0xC0 refl x) (λ x. known 0xD0 refl x) (either _ _ y)) (either _ _ (k .0));
       apart = ⊎-elim (λ x. inl (eqb-true (c .header) (c .start) x)) (λ x. inr (leb-true (c .start + 4) (c .header) x)) (either _ _ (p .0));
-      within = leb-true (c .header + 2) limit (p .1);
+      within = leb-true (c .header + 2) limit (q .0);
+      held = leb-true (c .members) (limit - (c .header + 2)) (q .1);
     }
   where
     known : (t : ℕ) → t / 16 * 16 ≡ t → eqb (c .code) t ≡ true → c .code / 16 * 16 ≡ c .code
@@ -43,7 +46,7 @@ fit c limit e =
 -- ---- the close
 
 module _ (c : Container) (used : ℕ) (b : List ℕ) where
-  pub closedOn-fits : (containerFits used c && leb used (length b)) ≡ true → closedOn c used b ≡ spliced used (c .start) (closedBytes c (take used b)) b
+  pub closedOn-fits : (containerFits used c && leb used (length b)) ≡ true → closedOn c used b ≡ spliced used (c .start) (closedBytes (c .start) (c .header) (c .code) (take used b)) b
   unfolding closedOn
   closedOn-fits e = rw (closedOn, e) refl
 
@@ -51,26 +54,25 @@ module _ (c : Container) (used : ℕ) (b : List ℕ) where
   unfolding closedOn
   closedOn-not e = rw (closedOn, e) refl
 
-  module _ (w : c .header + 2 ≤ used) (u : used ≤ length b) where
-    body-part : drop (c .header + 2) (take used b) ≡ part b (c .header + 2) (used - (c .header + 2))
-    body-part = slice-part b (c .header + 2) used w u
+module _ (header code used : ℕ) (b : List ℕ) (w : header + 2 ≤ used) (u : used ≤ length b) where
+  body-part : drop (header + 2) (take used b) ≡ part b (header + 2) (used - (header + 2))
+  body-part = slice-part b (header + 2) used w u
 
-    pub closedBytes-plain : c .header ≡ c .start → closedBytes c (take used b) ≡ framedBytes (c .code) (part b (c .start + 2) (used - (c .start + 2)))
-    unfolding closedBytes
-    closedBytes-plain e = rw (closedBytes, eq-eqb (c .header) (c .start) e, body-part, e) refl
+  pub closedBytes-plain : closedBytes header header code (take used b) ≡ framedBytes code (part b (header + 2) (used - (header + 2)))
+  unfolding closedBytes
+  closedBytes-plain = rw (closedBytes, eq-eqb header header refl, body-part) refl
 
-    pub closedBytes-wrapped : c .start + 2 ≤ c .header → closedBytes c (take used b)
-        ≡ framedBytes (typeByte annotationCode)
-        (part b (c .start + 2) (c .header - (c .start + 2)) ++ framedBytes (c .code) (part b (c .header + 2) (used - (c .header + 2))))
-    unfolding closedBytes
-    closedBytes-wrapped h =
-        rw (
-          closedBytes,
-          ne-eqb (c .header) (c .start) (λ e. omega arith),
-          body-part,
-          take-take (c .header) used b (omega arith),
-          slice-part b (c .start + 2) (c .header) h (omega arith),
-        ) refl
+  pub closedBytes-wrapped : (start : ℕ) → start + 2 ≤ header → closedBytes start header code (take used b)
+      ≡ framedBytes (typeByte annotationCode) (part b (start + 2) (header - (start + 2)) ++ framedBytes code (part b (header + 2) (used - (header + 2))))
+  unfolding closedBytes
+  closedBytes-wrapped start h =
+      rw (
+        closedBytes,
+        ne-eqb header start (λ e. omega arith),
+        body-part,
+        take-take header used b (omega arith),
+        slice-part b (start + 2) header h (omega arith),
+      ) refl
 
 -- ---- the abandonment
 

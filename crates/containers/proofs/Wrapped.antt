@@ -65,14 +65,14 @@ module _ (b : List ℕ) (start header code len h w : ℕ)
 
   -- the final bytes
   abbrev closed : List ℕ
-  closed = closedBytes (record { start = start; header = header; code = code }) (take (header + 2 + len) b)
+  closed = closedBytes start header code (take (header + 2 + len) b)
 
   whole : W ++ (A ++ (H ++ B)) ≡ closed
   whole =
       let k = lengths in
       let n : header + 2 + len - (header + 2) ≡ len = omega arith in
       sym (
-      closedBytes-wrapped (record { start = start; header = header; code = code }) (header + 2 + len) b (omega arith) f s
+      closedBytes-wrapped header code (header + 2 + len) b (omega arith) f start s
       ∙ rw (n, framed-is code len B (k .body)) (framed-is 0xE0 _ (A ++ (H ++ B)) (k .content))
       )
 

@@ -15,7 +15,7 @@ spliced used p out b = elim (leb (p + length out) (length b)) [ true ↦ (p + le
 -- a container that does not fit alters nothing
 unfoldable pub closedOn : Container → ℕ → List ℕ → ℕ × List ℕ
 closedOn c used b =
-    elim (containerFits used c && leb used (length b)) [ true ↦ spliced used (c .start) (closedBytes c (take used b)) b | false ↦ (0, b) ]
+    elim (containerFits used c && leb used (length b)) [ true ↦ spliced used (c .start) (closedBytes (c .start) (c .header) (c .code) (take used b)) b | false ↦ (0, b) ]
 
 -- whether the bytes from the start on were given back, and the buffer
 unfoldable pub abandonedOn : ℕ → ℕ → List ℕ → Bool × List ℕ

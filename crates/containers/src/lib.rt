@@ -76,7 +76,7 @@ fn put_header(buf: &mut [u8], at: usize, code: u8, body: usize)
 fn close_plain(buf: &mut [u8], used: usize, start: usize, code: u8) -> usize
     requires { ⌜ (code / 16 * 16 ≡ code) × (start + 2 ≤ used) × (used ≤ length (now buf)) ⌝ }
     ensures { λ r. ⌜ _≡_ {A = ℕ × List ℕ} (r, now (buf .exit))
-        (spliced used start (closedBytes (record { start = start; header = start; code = code }) (take used (now (buf .entry)))) (now (buf .entry))) ⌝ }
+        (spliced used start (closedBytes start start code (take used (now (buf .entry)))) (now (buf .entry))) ⌝ }
 {
     let body = used - (start + RESERVE);
     let size = header::encoded_size_of(body);
@@ -105,7 +105,7 @@ fn lay_wrapped(
         × (start + wrapper + (header - (start + 2)) + inner + body ≤ length (now buf))
         × (inner ≡ length (headerBytes 0 body)) × (wrapper ≡ length (headerBytes 0 (header - (start + 2) + inner + body))) ⌝ }
     ensures { λ r. ⌜ now (buf .exit) ≡ laid (now (buf .entry)) start
-        (closedBytes (record { start = start; header = header; code = code }) (take (header + 2 + body) (now (buf .entry)))) ⌝ }
+        (closedBytes start header code (take (header + 2 + body) (now (buf .entry)))) ⌝ }
 {
     let noted = header - (start + RESERVE);
     let place = start + wrapper + noted;
@@ -126,7 +126,7 @@ fn lay_wrapped(
 fn close_annotated(buf: &mut [u8], used: usize, start: usize, header: usize, code: u8) -> usize
     requires { ⌜ (code / 16 * 16 ≡ code) × (start + 2 ≤ header) × (header + 2 ≤ used) × (used ≤ length (now buf)) ⌝ }
     ensures { λ r. ⌜ _≡_ {A = ℕ × List ℕ} (r, now (buf .exit))
-        (spliced used start (closedBytes (record { start = start; header = header; code = code }) (take used (now (buf .entry)))) (now (buf .entry))) ⌝ }
+        (spliced used start (closedBytes start header code (take used (now (buf .entry)))) (now (buf .entry))) ⌝ }
 {
     let body = used - (header + RESERVE);
     let inner = header::encoded_size_of(body);

@@ -13,5 +13,6 @@ pub mod Timestamp
 pub mod OutOfCalendar
 pub mod Narrowing
 pub mod Argument
+pub mod Least
 pub mod Stream
 pub mod Examples

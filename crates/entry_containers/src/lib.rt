@@ -50,6 +50,7 @@ fn open(state: &mut [u8], buf: &mut [u8], annotations: &[u8], kind: ContainerTyp
             start: used,
             header: used + (put - 2),
             code,
+            members: 0,
         },
     );
     state_bytes::store(state, used + put, depth + 1, false);
@@ -81,7 +82,8 @@ pub extern "C" fn gm_open_struct(state: &mut [u8], buf: &mut [u8], annotations: 
 }
 
 // A closing: the header, and the wrapper's, in their final form. What it answers of the container, in four bytes each, least significant first:
-// how many bytes it takes. It answers in the slice `closed`, as far as that holds the numbers whole.
+// how many bytes it takes, and how many members it has. It answers in the slice `closed`, as far as that holds the numbers whole.
+// The container is then a member of the one that it lies in.
 #[no_mangle]
 pub extern "C" fn gm_close(state: &mut [u8], buf: &mut [u8], closed: &mut [u8]) -> u8
     ensures { λ r. ⌜ (enteredAs r (now (state .exit)) (now (buf .exit)) ≡ entered (callOf gmClose) (now (state .entry)) (now (buf .entry)))
@@ -96,7 +98,8 @@ pub extern "C" fn gm_close(state: &mut [u8], buf: &mut [u8], closed: &mut [u8]) 
     if used == 0 {
         return entry_numbers::number_of(Refusal::NoRoom);
     }
-    state_bytes::answer(closed, used - c.start);
+    state_bytes::answer(closed, used - c.start, c.members);
+    state_bytes::count(state, depth - 1);
     state_bytes::store(state, used, depth - 1, false);
     0
 }

@@ -1,6 +1,6 @@
--- The state that stored bytes spell: what was stored in the head or in a container, and all else as it was.
+-- The state that stored bytes spell: what was stored in the head, in a container or as a count, and all else as it was.
 -- Assumes nothing.
-use Prim.Native.Nat.{ℕ, _+_, _-_, _*_, _/_, _%_, _^_, _<_, _≤_}
+use Prim.Native.Nat.{ℕ, zero, suc, _+_, _-_, _*_, _/_, _%_, _^_, _<_, _≤_}
 use native.Mathlib.Omega.{arith}
 use native.Mathlib.Nat.{mod-eq-of-lt}
 use mathlib.Core.Path.{_≡_, refl, sym, _∙_, ap}
@@ -14,8 +14,8 @@ use Rattle.ion.proofs.Tests.{by-cases}
 use Rattle.buffer.specs.Laid.{laid}
 use Rattle.buffer.proofs.Laid.{length-laid, drop-laid}
 use Rattle.machine.specs.declared.Container.{Container}
-use Rattle.machine.specs.Machine.{mostOpen, noContainer}
-use Rattle.state_bytes.specs.StateBytes.{stateSize, placeOf, containerAt, containersFrom, stateOf, flag, headBytes, containerBytes, storedHead, storedContainer}
+use Rattle.machine.specs.Machine.{mostOpen, noContainer, withMember, counted}
+use Rattle.state_bytes.specs.StateBytes.{recordSize, stateSize, four, placeOf, containerAt, containersFrom, stateOf, fourBytes, flag, headBytes, containerBytes, storedHead, storedContainer, storedMembers, storedCount}
 use Rattle.state_bytes.proofs.Laws.{state-is, container-is, length-containers}
 
 -- ---- a byte among laid ones
@@ -41,7 +41,7 @@ module _ (b : List ℕ) (at : ℕ) (xs : List ℕ) (h : at + length xs ≤ lengt
       ∙ (ap (λ (l : List ℕ). getD l 0 0) (drop-laid b at xs h n) ∙ (getD-drop (at + length xs + n) b 0 0 ∙ ap (λ (x : ℕ). getD b x 0) (sym e))))
 
 -- four bytes give their number back
-four-back : (n : ℕ) → n < 2 ^ 32 → n % 256 + 256 * (n / 256 % 256) + 65536 * (n / 65536 % 256) + 16777216 * (n / 16777216 % 256) ≡ n
+pub four-back : (n : ℕ) → n < 2 ^ 32 → n % 256 + 256 * (n / 256 % 256) + 65536 * (n / 65536 % 256) + 16777216 * (n / 16777216 % 256) ≡ n
 four-back n h =
     let p : n / 65536 ≡ n / 256 / 256 = omega arith in
     let q : n / 16777216 ≡ n / 65536 / 256 = omega arith in
@@ -54,20 +54,29 @@ four-back n h =
     sum : (a b c d e f g : ℕ) → c + 256 * d ≡ e → b + 256 * e ≡ f → a + 256 * f ≡ g → a + 256 * b + 65536 * c + 16777216 * d ≡ g
     sum a b c d e f g x y z = omega arith
 
+-- a number among laid bytes
+pub four-within : (b : List ℕ) (at : ℕ) (xs : List ℕ) → at + length xs ≤ length b → (p j : ℕ) → p ≡ at + j → j + 4 ≤ length xs → four (laid b at xs) p ≡ four xs j
+four-within b at xs h p j e k =
+    rw (
+      byte-within b at xs h p j e (omega arith),
+      byte-within b at xs h (p + 1) (j + 1) (omega arith) (omega arith),
+      byte-within b at xs h (p + 2) (j + 2) (omega arith) (omega arith),
+      byte-within b at xs h (p + 3) (j + 3) (omega arith) (omega arith),
+    )
+
 -- ---- containers that lie in the same bytes
 
-same-container : (b c : List ℕ) (at : ℕ) → ((p : ℕ) → at ≤ p → p < at + 9 → getD b p 0 ≡ getD c p 0) → containerAt b at ≡ containerAt c at
+same-four : (b c : List ℕ) (at : ℕ) → ((p : ℕ) → at ≤ p → p < at + 4 → getD b p 0 ≡ getD c p 0) → four b at ≡ four c at
+same-four b c at f =
+    rw (f at (omega arith) (omega arith), f (at + 1) (omega arith) (omega arith), f (at + 2) (omega arith) (omega arith), f (at + 3) (omega arith) (omega arith))
+
+same-container : (b c : List ℕ) (at : ℕ) → ((p : ℕ) → at ≤ p → p < at + recordSize → getD b p 0 ≡ getD c p 0) → containerAt b at ≡ containerAt c at
 same-container b c at f =
     rw (
-      f at (omega arith) (omega arith),
-      f (at + 1) (omega arith) (omega arith),
-      f (at + 2) (omega arith) (omega arith),
-      f (at + 3) (omega arith) (omega arith),
-      f (at + 4) (omega arith) (omega arith),
-      f (at + 4 + 1) (omega arith) (omega arith),
-      f (at + 4 + 2) (omega arith) (omega arith),
-      f (at + 4 + 3) (omega arith) (omega arith),
+      same-four b c at (λ p h k. f p h (omega arith)),
+      same-four b c (at + 4) (λ p h k. f p (omega arith) (omega arith)),
       f (at + 8) (omega arith) (omega arith),
+      same-four b c (at + 9) (λ p h k. f p (omega arith) (omega arith)),
     )
 
 -- ---- the head
@@ -101,50 +110,101 @@ module _ (st : List ℕ) (u d : ℕ) (wt : Bool) (h : length st ≡ stateSize) w
 
 -- ---- a container
 
+-- bytes laid within the record of the container i
+module _ (st : List ℕ) (i at : ℕ) (xs : List ℕ) (h : length st ≡ stateSize) (k : i < mostOpen) (from : placeOf i ≤ at) (to : at + length xs ≤ placeOf i + recordSize) where
+  abbrev after : List ℕ
+  after = laid st at xs
+
+  length-within : length after ≡ stateSize
+  length-within = length-laid st at xs (omega arith) ∙ h
+
+  -- another container lies in other bytes
+  container-other : (j : ℕ) → (j ≡ i → ⊥) → containerAt after (placeOf j) ≡ containerAt st (placeOf j)
+  container-other j n =
+      same-container after st (placeOf j)
+      (λ p q r.
+      by-cases (ltb j i)
+      (λ t. byte-before st at xs (omega arith) p (omega (arith, ltb-true j i t)))
+      (λ t. byte-behind st at xs (omega arith) p (omega (arith, ltb-false j i t, n))))
+
+  -- c is the container that they leave
+  module _ (c : Container) (back : containerAt after (placeOf i) ≡ c) where
+    containers-set : containersFrom after 0 mostOpen ≡ set (containersFrom st 0 mostOpen) i c
+    containers-set =
+        ext-getD noContainer (containersFrom after 0 mostOpen) (set (containersFrom st 0 mostOpen) i c) (length-containers after 0 mostOpen ∙ sym (length-set (containersFrom st 0 mostOpen) i c ∙ length-containers st 0 mostOpen))
+        (λ j q.
+        let m : j < mostOpen = omega (arith, q, length-containers after 0 mostOpen) in
+        container-is after j m
+        ∙ by-cases (eqb j i)
+        (λ t. rw (eqb-true j i t) (back ∙ sym (getD-set-same (containersFrom st 0 mostOpen) i c noContainer (omega (arith, length-containers st 0 mostOpen)))))
+        (λ t. container-other j (eqb-false j i t) ∙ sym (getD-set-other (containersFrom st 0 mostOpen) i j c noContainer (eqb-false j i t) ∙ container-is st j m)))
+
+    state-within : stateOf after .containers ≡ set (stateOf st .containers) i c
+    state-within = rw (state-is after length-within, state-is st h) containers-set
+
 module _ (st : List ℕ) (i : ℕ) (c : Container) (h : length st ≡ stateSize) (k : i < mostOpen) where
   container-laid : storedContainer i c st ≡ laid st (placeOf i) (containerBytes c)
   unfolding storedContainer
   container-laid = rw (eq-eqb (length st) stateSize h, lt-ltb i mostOpen k, storedContainer)
 
   pub length-container : length (storedContainer i c st) ≡ stateSize
-  length-container = ap length container-laid ∙ (length-laid st (placeOf i) (containerBytes c) (omega arith) ∙ h)
+  length-container = ap length container-laid ∙ length-within st i (placeOf i) (containerBytes c) h k (omega arith) (omega arith)
 
-  container-back : c .start < 2 ^ 32 → c .header < 2 ^ 32 → containerAt (laid st (placeOf i) (containerBytes c)) (placeOf i) ≡ c
-  container-back ks kh =
-      let b : (p j : ℕ) → p ≡ placeOf i + j → j < 9 → getD (laid st (placeOf i) (containerBytes c)) p 0 ≡ getD (containerBytes c) j 0 = byte-within st (placeOf i) (containerBytes c) (omega arith) in
+  container-back : c .start < 2 ^ 32 → c .header < 2 ^ 32 → c .members < 2 ^ 32 → containerAt (laid st (placeOf i) (containerBytes c)) (placeOf i) ≡ c
+  container-back ks kh km =
+      let f : (p j : ℕ) → p ≡ placeOf i + j → j + 4 ≤ recordSize → four (laid st (placeOf i) (containerBytes c)) p ≡ four (containerBytes c) j = four-within st (placeOf i) (containerBytes c) (omega arith) in
       rw (
-        b (placeOf i) 0 (omega arith) (omega arith),
-        b (placeOf i + 1) 1 refl (omega arith),
-        b (placeOf i + 2) 2 refl (omega arith),
-        b (placeOf i + 3) 3 refl (omega arith),
-        b (placeOf i + 4) 4 refl (omega arith),
-        b (placeOf i + 4 + 1) 5 (omega arith) (omega arith),
-        b (placeOf i + 4 + 2) 6 (omega arith) (omega arith),
-        b (placeOf i + 4 + 3) 7 (omega arith) (omega arith),
-        b (placeOf i + 8) 8 refl (omega arith),
+        f (placeOf i) 0 (omega arith) (omega arith),
+        f (placeOf i + 4) 4 refl (omega arith),
+        byte-within st (placeOf i) (containerBytes c) (omega arith) (placeOf i + 8) 8 refl (omega arith),
+        f (placeOf i + 9) 9 refl (omega arith),
         four-back (c .start) ks,
         four-back (c .header) kh,
+        four-back (c .members) km,
       )
 
-  -- another container lies in other bytes
-  container-other : (j : ℕ) → (j ≡ i → ⊥) → containerAt (laid st (placeOf i) (containerBytes c)) (placeOf j) ≡ containerAt st (placeOf j)
-  container-other j n =
-      same-container (laid st (placeOf i) (containerBytes c)) st (placeOf j)
-      (λ p q r.
-      by-cases (ltb j i)
-      (λ t. byte-before st (placeOf i) (containerBytes c) (omega arith) p (omega (arith, ltb-true j i t)))
-      (λ t. byte-behind st (placeOf i) (containerBytes c) (omega arith) p (omega (arith, ltb-false j i t, n))))
+  pub state-container : c .start < 2 ^ 32 → c .header < 2 ^ 32 → c .members < 2 ^ 32 → stateOf (storedContainer i c st) .containers ≡ set (stateOf st .containers) i c
+  state-container ks kh km = rw container-laid (state-within st i (placeOf i) (containerBytes c) h k (omega arith) (omega arith) c (container-back ks kh km))
 
-  containers-set : c .start < 2 ^ 32 → c .header < 2 ^ 32 → containersFrom (laid st (placeOf i) (containerBytes c)) 0 mostOpen ≡ set (containersFrom st 0 mostOpen) i c
-  containers-set ks kh =
-      let l : List ℕ = laid st (placeOf i) (containerBytes c) in
-      ext-getD noContainer (containersFrom l 0 mostOpen) (set (containersFrom st 0 mostOpen) i c) (length-containers l 0 mostOpen ∙ sym (length-set (containersFrom st 0 mostOpen) i c ∙ length-containers st 0 mostOpen))
-      (λ j q.
-      let m : j < mostOpen = omega (arith, q, length-containers l 0 mostOpen) in
-      container-is l j m
-      ∙ by-cases (eqb j i)
-      (λ t. rw (eqb-true j i t) (container-back ks kh ∙ sym (getD-set-same (containersFrom st 0 mostOpen) i c noContainer (omega (arith, length-containers st 0 mostOpen)))))
-      (λ t. container-other j (eqb-false j i t) ∙ sym (getD-set-other (containersFrom st 0 mostOpen) i j c noContainer (eqb-false j i t) ∙ container-is st j m)))
+-- ---- a count
 
-  pub state-container : c .start < 2 ^ 32 → c .header < 2 ^ 32 → stateOf (storedContainer i c st) .containers ≡ set (stateOf st .containers) i c
-  state-container ks kh = rw (state-is (storedContainer i c st) length-container, container-laid, state-is st h) (containers-set ks kh)
+module _ (st : List ℕ) (i n : ℕ) (h : length st ≡ stateSize) (k : i < mostOpen) where
+  members-laid : storedMembers i n st ≡ laid st (placeOf i + 9) (fourBytes n)
+  unfolding storedMembers
+  members-laid = rw (eq-eqb (length st) stateSize h, lt-ltb i mostOpen k, storedMembers)
+
+  length-members : length (storedMembers i n st) ≡ stateSize
+  length-members = ap length members-laid ∙ length-within st i (placeOf i + 9) (fourBytes n) h k (omega arith) (omega arith)
+
+  abbrev withCount : Container → Container
+  withCount c = record { start = c .start; header = c .header; code = c .code; members = n }
+
+  members-back : n < 2 ^ 32 → containerAt (laid st (placeOf i + 9) (fourBytes n)) (placeOf i) ≡ withCount (containerAt st (placeOf i))
+  members-back kn =
+      let f : (p : ℕ) → p < placeOf i + 9 → getD (laid st (placeOf i + 9) (fourBytes n)) p 0 ≡ getD st p 0 = byte-before st (placeOf i + 9) (fourBytes n) (omega arith) in
+      rw (
+        same-four (laid st (placeOf i + 9) (fourBytes n)) st (placeOf i) (λ p q r. f p (omega arith)),
+        same-four (laid st (placeOf i + 9) (fourBytes n)) st (placeOf i + 4) (λ p q r. f p (omega arith)),
+        f (placeOf i + 8) (omega arith),
+        four-within st (placeOf i + 9) (fourBytes n) (omega arith) (placeOf i + 9) 0 (omega arith) (omega arith),
+        four-back n kn,
+      )
+
+  state-members : n < 2 ^ 32 → stateOf (storedMembers i n st) .containers ≡ set (stateOf st .containers) i (withCount (getD (stateOf st .containers) i noContainer))
+  state-members kn =
+      let g : getD (stateOf st .containers) i noContainer ≡ containerAt st (placeOf i) = rw (state-is st h) (container-is st i k) in
+      rw (members-laid, g) (state-within st i (placeOf i + 9) (fourBytes n) h k (omega arith) (omega arith) (withCount (containerAt st (placeOf i))) (members-back kn))
+
+-- the count of the innermost of d containers
+module _ (st : List ℕ) (h : length st ≡ stateSize) where
+  pub length-count : (cs : List Container) (d : ℕ) → d ≤ mostOpen → length (storedCount d cs st) ≡ stateSize
+  length-count cs zero k = h
+  length-count cs (suc i) k = length-members st i (getD cs i noContainer .members) h (omega arith)
+
+  pub state-count : (d : ℕ) → d ≤ mostOpen → ((j : ℕ) → j < d → getD (stateOf st .containers) j noContainer .members + 1 < 2 ^ 32) → stateOf (storedCount d (counted (stateOf st .containers) d) st) .containers ≡ counted (stateOf st .containers) d
+  state-count zero k few = refl
+  state-count (suc i) k few =
+      let cs : List Container = stateOf st .containers in
+      let l : length cs ≡ mostOpen = rw (state-is st h) (length-containers st 0 mostOpen) in
+      let g : getD (counted cs (suc i)) i noContainer ≡ withMember (getD cs i noContainer) = getD-set-same cs i (withMember (getD cs i noContainer)) noContainer (omega arith) in
+      rw g (state-members st i (getD cs i noContainer .members + 1) h (omega arith) (few i (omega arith)))

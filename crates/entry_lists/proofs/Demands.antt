@@ -55,7 +55,7 @@ entry-demand1 e w = record {
 -- ---- one call of a list
 
 module _ (w : Lent) (m : Config) (s : Spells w m) (c : Call) where
-  step : Spells (lentBy c w) (after c m)
+  pub step : Spells (lentBy c w) (after c m)
   step = rw (s .config) at (call-spells w (s .sound) c)
 
   accepts : eqb (entered c (w .state) (w .buffer) .number) 0 ≡ isAccepted (verdict c m)
@@ -68,11 +68,11 @@ abbrev pub calls : List HostCall → List Call
 calls [] = []
 calls (h ∷ hs) = callOf (h .entry) ∷ calls hs
 
-all-typed : (hs : List HostCall) → AllTyped (calls hs)
+pub all-typed : (hs : List HostCall) → AllTyped (calls hs)
 all-typed [] = tt
 all-typed (h ∷ hs) = (entry-typed (h .entry) (h .typed), all-typed hs)
 
-joined-is : (hs : List HostCall) (w : Lent) (m : Config) → Spells w m → lentJoined hs w ≡ joined (calls hs) m
+pub joined-is : (hs : List HostCall) (w : Lent) (m : Config) → Spells w m → lentJoined hs w ≡ joined (calls hs) m
 unfolding lentJoined joined
 joined-is [] w m s = ap taken (s .config)
 joined-is (h ∷ hs) w m s =
@@ -104,7 +104,7 @@ abbrev startLines : List ℕ → List (Bool × ℕ)
 startLines b = (ltb longestBuffer (length b), 1) ∷ (ltb (length b) 4, 10) ∷ []
 
 -- a start whose number is 0 was lent a slice of the right length, and is accepted
-start-accepted : (st b : List ℕ) → startEntered st b .number ≡ 0 → (length st ≡ stateSize) × (startVerdict b ≡ accepted)
+pub start-accepted : (st b : List ℕ) → startEntered st b .number ≡ 0 → (length st ≡ stateSize) × (startVerdict b ≡ accepted)
 unfolding startEntered startVerdict
 start-accepted st b e =
     by-cases (eqb (length st) stateSize)
@@ -124,7 +124,7 @@ lent-started : (st b : List ℕ) → length st ≡ stateSize → startVerdict b 
 unfolding startEntered
 lent-started st b h v = rw (eq-eqb (length st) stateSize h, startEntered, v)
 
-started-spells : (st b : List ℕ) → startEntered st b .number ≡ 0 → Spells (lentStarted st b) (started b)
+pub started-spells : (st b : List ℕ) → startEntered st b .number ≡ 0 → Spells (lentStarted st b) (started b)
 started-spells st b e =
     let a = start-accepted st b e in
     let h = none-failing (startLines b) (unfold startVerdict in (a .1)) in
@@ -139,13 +139,13 @@ started-spells st b e =
 -- ---- demands 2 and 3
 
 module _ (hs : List HostCall) (st b : List ℕ) (r : LentRun hs st b) where
-  spells : Spells (lentStarted st b) (started b)
+  pub spells : Spells (lentStarted st b) (started b)
   spells = started-spells st b (r .starts)
 
   pub spelling-is : lentSpelling hs st b ≡ spelling (calls hs) b
   spelling-is = model-is meaning hs (lentStarted st b) (started b) startedModel spells
 
-  run-of : Run (calls hs) b
+  pub run-of : Run (calls hs) b
   run-of = record { starts = start-accepted st b (r .starts) .1; ends = sym (ap (λ (x : Model Scalar). x .stack) spelling-is) ∙ r .ends }
 
 pub entry-demand2 : EntryDemand2

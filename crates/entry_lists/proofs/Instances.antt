@@ -1,5 +1,5 @@
--- Demands 2 and 3 of one list of calls through the entry points, computed: the calls of the machine's instance as a host makes them, on a state slice
--- and a buffer that hold something else. Assumes nothing.
+-- Demands 2 and 3 and the answered counts of one list of calls through the entry points, computed: the calls of the machine's instance as a host makes them,
+-- on slices and a buffer that hold something else. Assumes nothing.
 use Prim.Native.Nat.{ℕ, zero, suc}
 use native.Mathlib.Omega.{arith}
 use mathlib.Core.Path.{_≡_, refl, sym, _∙_, subst₂}
@@ -22,15 +22,17 @@ use Rattle.encoding.specs.Stream.{streamBytes}
 use Rattle.annotations.specs.Sids.{leastFirst, sidAt, sidsUpTo, sidsOf}
 use Rattle.machine.specs.Machine.{closedBytes, splice, containerFits, containersFit, fits, verdict, startVerdict, finishedLength, run}
 use Rattle.machine.specs.Demands.{ReadsOnlyAs}
+use Rattle.machine.specs.Counts.{counts, noAnswers}
 use Rattle.machine.proofs.Instances.{most, nines, bytes, items}
-use Rattle.state_bytes.specs.StateBytes.{stateSize, stateOf, containersFrom, storedHead, storedContainer, entered, numbersLaid, answered}
+use Rattle.state_bytes.specs.StateBytes.{stateSize, stateOf, containersFrom, storedHead, storedContainer, storedMembers, entered, numbersLaid, answered}
 use Rattle.entry_numbers.specs.Lent.{typeCoded, precisionNumbered, offsetLent, fractionLent}
 use Rattle.entry_numbers.specs.EntryCall.{gmWriteNull, gmWriteBool, gmWriteI64, gmWriteInt, gmWriteF32, gmWriteF64, gmWriteDecimal, gmWriteTimestamp, gmWriteSymbol}
 use Rattle.entry_numbers.specs.EntryCall.{gmWriteString, gmWriteClob, gmWriteBlob, gmFieldName, gmOpenList, gmOpenSexp, gmOpenStruct}
 use Rattle.entry_numbers.specs.EntryCall.{gmClose, gmAbandon, gmVersionMarker, gmFinished, gmEmpty, TimestampNumbers, AllU8, TimestampTyped, HostCall}
 use Rattle.entry_steps.specs.Entries.{startEntered}
-use Rattle.entry_lists.specs.Demands.{Lent, lentAfter, lentStarted, lentJoined, lentModelAfter, lentSpelling, lentWritten, LentRun}
+use Rattle.entry_lists.specs.Demands.{Lent, lentAfter, lentStarted, lentJoined, lentModelAfter, lentSpelling, lentWritten, LentRun, lentAnswersAfter}
 use Rattle.entry_lists.proofs.Demands.{entry-demand2, entry-demand3}
+use Rattle.entry_lists.proofs.Counts.{entry-members-answered}
 
 -- ---- the calls
 
@@ -134,6 +136,10 @@ hostLimits =
 abbrev pub sevens : List ℕ
 sevens = replicate stateSize 7
 
+-- what is lent for the answers
+abbrev eights : List ℕ
+eights = replicate 9 8
+
 -- ---- what the demands say of them
 
 -- what is computed of them
@@ -141,14 +147,15 @@ pub record Limits : Type 0 where
   pub run : LentRun hostLimits sevens nines
   pub joined : lentJoined hostLimits (lentStarted sevens nines) ≡ bytes
   pub spelled : lentSpelling hostLimits sevens nines .items ≡ items
+  pub answered : lentAnswersAfter (λ w. eights) hostLimits (lentStarted sevens nines) noAnswers .outside ≡ 5 ∷ 4 ∷ 1 ∷ []
 
 pub limits : Limits
-unfolding lentJoined lentModelAfter startEntered entered run stateOf containersFrom storedHead storedContainer laid sidsOf sidsUpTo sidAt leastFirst
+unfolding lentJoined lentModelAfter lentAnswersAfter answered numbersLaid placed startEntered entered run stateOf containersFrom storedHead storedContainer storedMembers laid sidsOf sidsUpTo sidAt leastFirst
     typeCoded precisionNumbered offsetLent fractionLent verdict startVerdict finishedLength fits containerFits containersFit splice closedBytes
     meaning argumentBytes annotatedBytes annotationBytes framedBytes headerBytes float32Bytes narrows float64Bytes fixedBytes uintBytes trimmed
     intBytes decimalBody timestampBody isTimestamp areFields dayBefore dayAfter varIntBytes varIntGroups varUIntsBytes varUIntBytes digits digitCount
     countDigits lowDigits bigEndian begun utf8From utf8 floatOf ofBits toBits holds isNan
-limits = record { run = record { starts = refl; ends = refl }; joined = refl; spelled = refl }
+limits = record { run = record { starts = refl; ends = refl }; joined = refl; spelled = refl; answered = refl }
 
 entry-instance2 : streamBytes (lentWritten hostLimits sevens nines) ≡ bytes
 entry-instance2 = sym (entry-demand2 hostLimits sevens nines (limits .run)) ∙ limits .joined
@@ -156,19 +163,26 @@ entry-instance2 = sym (entry-demand2 hostLimits sevens nines (limits .run)) ∙ 
 entry-instance3 : ReadsOnlyAs bytes items
 entry-instance3 = subst₂ ReadsOnlyAs (limits .joined) (limits .spelled) (entry-demand3 hostLimits sevens nines (limits .run))
 
--- ---- what a closing answers in the slice that is lent for it: E3 81 8A B0 is four bytes long
+-- how many members these items have is what the closings answer: the list, the struct around it, the s-expression
+entry-instance-counts : counts items ≡ 5 ∷ 4 ∷ 1 ∷ []
+entry-instance-counts =
+    sym (entry-members-answered (λ w. eights) (λ w. omega arith) hostLimits sevens nines (limits .run) items (rw (limits .joined) (entry-instance3 .reading)))
+    ∙ limits .answered
 
-abbrev opened : Lent
-opened = lentAfter (gmOpenList (10 ∷ [])) (lentStarted sevens nines)
+-- ---- what a closing answers in the slice that is lent for it: E4 81 8A B1 10 is five bytes long, and has one member
 
--- whole; a slice of three bytes holds no number; with none open the closing is refused
+abbrev held : Lent
+held = lentAfter (gmWriteBool [] 0) (lentAfter (gmOpenList (10 ∷ [])) (lentStarted sevens nines))
+
+-- whole; a slice of seven bytes holds the first number, one of three none; with none open the closing is refused
 record Answers : Type 0 where
-  whole : answered (opened .state) (opened .buffer) (9 ∷ 9 ∷ 9 ∷ 9 ∷ 9 ∷ []) ≡ 4 ∷ 0 ∷ 0 ∷ 0 ∷ 9 ∷ []
-  short : answered (opened .state) (opened .buffer) (9 ∷ 9 ∷ 9 ∷ []) ≡ 9 ∷ 9 ∷ 9 ∷ []
+  whole : answered (held .state) (held .buffer) (9 ∷ 9 ∷ 9 ∷ 9 ∷ 9 ∷ 9 ∷ 9 ∷ 9 ∷ 9 ∷ []) ≡ 5 ∷ 0 ∷ 0 ∷ 0 ∷ 1 ∷ 0 ∷ 0 ∷ 0 ∷ 9 ∷ []
+  first : answered (held .state) (held .buffer) (9 ∷ 9 ∷ 9 ∷ 9 ∷ 9 ∷ 9 ∷ 9 ∷ []) ≡ 5 ∷ 0 ∷ 0 ∷ 0 ∷ 9 ∷ 9 ∷ 9 ∷ []
+  short : answered (held .state) (held .buffer) (9 ∷ 9 ∷ 9 ∷ []) ≡ 9 ∷ 9 ∷ 9 ∷ []
   refused : let w = lentStarted sevens nines in answered (w .state) (w .buffer) (9 ∷ 9 ∷ 9 ∷ 9 ∷ []) ≡ 9 ∷ 9 ∷ 9 ∷ 9 ∷ []
 
 answers : Answers
-unfolding answered numbersLaid placed entered startEntered run stateOf containersFrom storedHead storedContainer laid sidsOf sidsUpTo sidAt leastFirst
-    verdict startVerdict fits containerFits containersFit splice closedBytes annotatedBytes annotationBytes framedBytes headerBytes varUIntsBytes
+unfolding answered numbersLaid placed entered startEntered run stateOf containersFrom storedHead storedContainer storedMembers laid sidsOf sidsUpTo sidAt
+    leastFirst argumentBytes verdict startVerdict fits containerFits containersFit splice closedBytes annotatedBytes annotationBytes framedBytes headerBytes varUIntsBytes
     varUIntBytes digits digitCount countDigits lowDigits
-answers = record { whole = refl; short = refl; refused = refl }
+answers = record { whole = refl; first = refl; short = refl; refused = refl }

@@ -8,7 +8,7 @@ use mathlib.Core.List.{List, [], _∷_, _++_}
 use lib.Dec.{eqb, ltb, leb}
 use lib.ListN.{length, getD, set, length-append}
 use lib.Seq.{getD-set-same}
-use borrow.Author.Tests.{ne-eqb, ltb-false, leb-false}
+use borrow.Author.Tests.{ne-eqb, ltb-false, leb-false, not-false}
 use Rattle.ion.proofs.Tests.{by-cases}
 use Rattle.encoding.specs.Headers.{annotationBytes, annotatedBytes, markerBytes}
 use Rattle.encoding.specs.Fields.{varUIntBytes}
@@ -17,13 +17,14 @@ use Rattle.encoding.proofs.Writable.{NoneHolds}
 use Rattle.machine.specs.declared.State.{State}
 use Rattle.machine.specs.declared.Container.{Container}
 use Rattle.machine.specs.Call.{Call, ContainerType, write, name, opening, closing, abandonment, versionMarker, taking, emptying}
-use Rattle.machine.specs.Machine.{mostOpen, longestBuffer, Config, noContainer, openContainers, reserve, headerPlace, containerCode, closedInnermost, live, splice, effect, lines, checks, Verdict, accepted, refused, firstFailing, verdict, isAccepted, ifAccepted, after, run}
+use Rattle.machine.specs.Machine.{mostOpen, longestBuffer, Config, noContainer, openContainers, counted, reserve, headerPlace, containerCode, closedInnermost, live, splice, effect, fits, lines, checks, Verdict, accepted, refused, firstFailing, verdict, isAccepted, ifAccepted, after, run}
 use Rattle.machine.proofs.Splice.{length-splice}
 use Rattle.machine.proofs.Steps.{none-failing}
-use Rattle.state_bytes.specs.StateBytes.{stateSize, stateOf, storedContainer, numberOf, storedState, storedBy, storedIf, entered}
+use Rattle.steps.proofs.Members.{members-few}
+use Rattle.state_bytes.specs.StateBytes.{stateSize, stateOf, storedContainer, storedCount, numberOf, storedState, storedBy, storedIf, entered}
 use Rattle.state_bytes.proofs.Laws.{state-is, length-containers}
 use Rattle.entry_lists.specs.Demands.{Lent, configOf}
-use Rattle.entry_lists.proofs.Bytes.{length-head, state-head, length-container, state-container}
+use Rattle.entry_lists.proofs.Bytes.{length-head, state-head, length-container, state-container, length-count, state-count}
 
 -- What every call after an accepted start is lent.
 pub record Sound (w : Lent) : Type 0 where
@@ -96,6 +97,10 @@ holds-right : (l r : List (Bool × ℕ)) → NoneHolds (l ++ r) → NoneHolds r
 holds-right [] r h = h
 holds-right (x ∷ l) r h = holds-right l r (h .1)
 
+-- the line 2
+pub fits-line : (w : Config) (misplaced : Bool) (own : List (Bool × ℕ)) (used : ℕ) → NoneHolds (lines w misplaced own used) → fits (w .state) (length (w .buffer)) ≡ true
+fits-line w misplaced own used h = not-false (fits (w .state) (length (w .buffer))) (h .1 .0)
+
 -- the line 10
 room-line : (w : Config) (misplaced : Bool) (own : List (Bool × ℕ)) (used : ℕ) → NoneHolds (lines w misplaced own used) → used ≤ length (w .buffer)
 room-line w misplaced own used h = ltb-false (length (w .buffer)) used (holds-right own ((ltb (length (w .buffer)) used, 10) ∷ []) (h .1 .1 .1) .0)
@@ -128,17 +133,36 @@ module _ (w : Lent) (s : Sound w) where
     same = k;
   }
 
-  -- a put by a call that opens nothing
-  put-left : (p : ℕ) (out : List ℕ) (d : ℕ) (wt : Bool) → p + length out ≤ length (w .buffer) → d ≤ mostOpen
+  -- a put by a call that opens nothing: t are the bytes with the containers cs
+  put-left : (p : ℕ) (out : List ℕ) (d : ℕ) (wt : Bool) (cs : List Container) (t : List ℕ) → length t ≡ stateSize → stateOf t .containers ≡ cs
+      → p + length out ≤ length (w .buffer) → d ≤ mostOpen
+      → let y : State = record { used = p + length out; depth = d; waiting = wt; containers = cs } in
+      Left w y (splice (stateOf (w .state) .used) p out (w .buffer)) (storedState y t)
+  put-left p out d wt cs t h e room k = head-left _ _ t h e room k (length-splice (stateOf (w .state) .used) p out (w .buffer) (omega arith) (s .fit) room)
+
+  -- it counts in the innermost of the first d containers
+  counted-left : (p : ℕ) (out : List ℕ) (d : ℕ) → fits (stateOf (w .state)) (length (w .buffer)) ≡ true → p + length out ≤ length (w .buffer) → d ≤ stateOf (w .state) .depth
+      → let cs = counted (stateOf (w .state) .containers) d in let y : State = record { used = p + length out; depth = d; waiting = false; containers = cs } in
+      Left w y (splice (stateOf (w .state) .used) p out (w .buffer)) (storedState y (storedCount d cs (w .state)))
+  counted-left p out d f room k =
+      let m : d ≤ mostOpen = omega (arith, s .depth) in
+      put-left p out d false _ _
+      (length-count (w .state) (s .size) _ d m)
+      (state-count (w .state) (s .size) d m (λ j h. omega (arith, members-few (stateOf (w .state)) (length (w .buffer)) f j (omega arith), s .short)))
+      room
+      m
+
+  -- or counts nowhere
+  kept-left : (p : ℕ) (out : List ℕ) (d : ℕ) (wt : Bool) → p + length out ≤ length (w .buffer) → d ≤ mostOpen
       → let y : State = record { used = p + length out; depth = d; waiting = wt; containers = stateOf (w .state) .containers } in
       Left w y (splice (stateOf (w .state) .used) p out (w .buffer)) (storedState y (w .state))
-  put-left p out d wt room k = head-left _ _ (w .state) (s .size) refl room k (length-splice (stateOf (w .state) .used) p out (w .buffer) (omega arith) (s .fit) room)
+  kept-left p out d wt room k = put-left p out d wt _ (w .state) (s .size) refl room k
 
   opening-left : (an : List ℕ) (k : ContainerType) → NoneHolds (checks (opening an k) (configOf w)) → LeftBy (opening an k) w
   opening-left an k h =
       let d : stateOf (w .state) .depth < mostOpen = leb-false mostOpen (stateOf (w .state) .depth) (h .1 .1 .1 .0) in
       let room : stateOf (w .state) .used + length (reserve an) ≤ length (w .buffer) = room-line (configOf w) _ ((leb mostOpen (stateOf (w .state) .depth), 4) ∷ []) _ h in
-      let c : Container = record { start = stateOf (w .state) .used; header = headerPlace (stateOf (w .state) .used) an; code = containerCode k } in
+      let c : Container = record { start = stateOf (w .state) .used; header = headerPlace (stateOf (w .state) .used) an; code = containerCode k; members = 0 } in
       let i : stateOf (w .state) .depth + 1 - 1 ≡ stateOf (w .state) .depth = omega arith in
       let n : length (stateOf (w .state) .containers) ≡ mostOpen = rw (state-is (w .state) (s .size)) (length-containers (w .state) 0 mostOpen) in
       let g : getD (set (stateOf (w .state) .containers) (stateOf (w .state) .depth) c) (stateOf (w .state) .depth) noContainer ≡ c =
@@ -147,19 +171,20 @@ module _ (w : Lent) (s : Sound w) where
       rw (i, g)
       (head-left _ _ (storedContainer (stateOf (w .state) .depth) c (w .state))
       (length-container (w .state) (stateOf (w .state) .depth) c (s .size) d)
-      (state-container (w .state) (stateOf (w .state) .depth) c (s .size) d (omega (arith, s .fit, s .short)) f)
+      (state-container (w .state) (stateOf (w .state) .depth) c (s .size) d (omega (arith, s .fit, s .short)) f (omega arith))
       room
       (omega arith)
       (length-splice (stateOf (w .state) .used) (stateOf (w .state) .used) (reserve an) (w .buffer) (s .fit) (s .fit) room))
 
   left : (c : Call) → NoneHolds (checks c (configOf w)) → LeftBy c w
-  left (write an a) h = put-left _ (annotatedBytes an (argumentBytes a)) _ false (room-line (configOf w) _ (argumentChecks a) _ h) (s .depth)
-  left (name n) h = put-left _ (varUIntBytes n) _ true (room-line (configOf w) _ [] _ h) (s .depth)
+  left (write an a) h =
+      counted-left _ (annotatedBytes an (argumentBytes a)) _ (fits-line (configOf w) _ (argumentChecks a) _ h) (room-line (configOf w) _ (argumentChecks a) _ h) (omega arith)
+  left (name n) h = kept-left _ (varUIntBytes n) _ true (room-line (configOf w) _ [] _ h) (s .depth)
   left (opening an k) h = opening-left an k h
   left closing h =
-      put-left _ (closedInnermost (openContainers (stateOf (w .state))) (live (configOf w))) _ false (room-line (configOf w) _ [] _ h) (omega (arith, s .depth))
-  left abandonment h = put-left _ [] _ _ (room-line (configOf w) _ [] _ h) (omega (arith, s .depth))
-  left versionMarker h = put-left _ markerBytes _ _ (room-line (configOf w) _ [] _ h) (s .depth)
+      counted-left _ (closedInnermost (openContainers (stateOf (w .state))) (live (configOf w))) _ (fits-line (configOf w) _ [] _ h) (room-line (configOf w) _ [] _ h) (omega arith)
+  left abandonment h = kept-left _ [] _ _ (room-line (configOf w) _ [] _ h) (omega (arith, s .depth))
+  left versionMarker h = kept-left _ markerBytes _ _ (room-line (configOf w) _ [] _ h) (s .depth)
   left taking h = record { size = s .size; spelled = refl; room = s .fit; depth = s .depth; same = refl }
   left emptying h = head-left _ _ (w .state) (s .size) refl (omega arith) (s .depth) refl
 

@@ -1,20 +1,23 @@
--- What is promised of what a host calls: demands 1, 2 and 3 over the entry points, on one page. The proofs are in proofs/Demands.antt.
+-- What is promised of what a host calls: demands 1, 2 and 3 over the entry points, and how many members closings answer, on one page.
+-- The proofs are in proofs/Demands.antt and proofs/Counts.antt.
 -- Each entry point is lent the state's bytes and the buffer. Its contract says that it answers and leaves what `entered` does; `gm_start`'s names
 -- `startEntered`, and `gm_finished` answers `finishedLength`.
 -- Assumes nothing.
-use Prim.Native.Nat.{ℕ}
+use Prim.Native.Nat.{ℕ, _≤_}
 use mathlib.Core.Path.{_≡_}
-use mathlib.Core.Bool.{Bool, not}
+use mathlib.Core.Bool.{Bool, true, not}
 use mathlib.Core.List.{List, [], _∷_, _++_}
 use lib.Dec.{eqb}
 use lib.ListN.{length, take}
 use Rattle.ion.specs.Value.{Scalar, Item}
 use Rattle.encoding.specs.Argument.{Argument, meaning, anyHolds}
 use Rattle.encoding.specs.Stream.{streamBytes}
-use Rattle.machine.specs.Machine.{Config, config, ruleOf, checks, firstFailing, finishedLength}
+use Rattle.ion.specs.Grammar.{Reads}
+use Rattle.machine.specs.Machine.{Config, config, fits, ruleOf, checks, firstFailing, finishedLength}
 use Rattle.machine.specs.Model.{Model, modelStep, startedModel}
 use Rattle.machine.specs.Demands.{partOf, ReadsOnlyAs}
-use Rattle.state_bytes.specs.StateBytes.{stateOf, numberOf, Entered, entered}
+use Rattle.machine.specs.Counts.{counts, Answers, noAnswers, answersStep}
+use Rattle.state_bytes.specs.StateBytes.{four, stateOf, numberOf, Entered, entered, answered}
 use Rattle.entry_numbers.specs.EntryCall.{EntryCall, callOf, HostCall}
 use Rattle.entry_steps.specs.Entries.{startEntered}
 
@@ -94,3 +97,34 @@ EntryDemand2 = (hs : List HostCall) (st b : List ℕ) → LentRun hs st b → le
 -- Demand 3: the joined bytes have a reading, it is what was spelled, and every reading equals it.
 abbrev pub EntryDemand3 : Type 0
 EntryDemand3 = (hs : List HostCall) (st b : List ℕ) → LentRun hs st b → ReadsOnlyAs (lentJoined hs (lentStarted st b)) (lentSpelling hs st b .items)
+
+-- ---- how many members closed containers have (document 02, Item 3)
+
+-- the second of the numbers that `gm_close` leaves in the slice that is lent for its answer
+abbrev pub membersLaid : List ℕ → Lent → ℕ
+membersLaid closed w = four (answered (w .state) (w .buffer) closed) 4
+
+-- what the closings of a list answer, `closed` being the slice that each is lent
+unfoldable pub lentAnswersAfter : (Lent → List ℕ) → List HostCall → Lent → Answers → Answers
+lentAnswersAfter closed [] w x = x
+lentAnswersAfter closed (h ∷ hs) w x =
+    lentAnswersAfter closed hs (lentAfter (h .entry) w) (answersStep (callOf (h .entry)) (isEntered (h .entry) w) (membersLaid (closed w) w) x)
+
+-- Whatever slices of eight or more bytes are lent for the answers: what the closings answer, without those in a container that is abandoned later,
+-- is how many members the containers have in every reading of the joined bytes, one by one.
+abbrev pub EntryMembersAnswered : Type 0
+EntryMembersAnswered =
+    (closed : Lent → List ℕ) → ((w : Lent) → 8 ≤ length (closed w)) →
+    (hs : List HostCall) (st b : List ℕ) → LentRun hs st b →
+    (x : List (Item Scalar)) → Reads (lentJoined hs (lentStarted st b)) x → lentAnswersAfter closed hs (lentStarted st b) noAnswers .outside ≡ counts x
+
+-- what a list of calls leaves
+unfoldable pub lentAfterAll : List HostCall → Lent → Lent
+lentAfterAll [] w = w
+lentAfterAll (h ∷ hs) w = lentAfterAll hs (lentAfter (h .entry) w)
+
+-- The number 2 refuses no state that the entry points have left, from an accepted start on.
+abbrev pub EntryOwnStatesFit : Type 0
+EntryOwnStatesFit =
+    (hs : List HostCall) (st b : List ℕ) → startEntered st b .number ≡ 0 →
+    let w = lentAfterAll hs (lentStarted st b) in fits (stateOf (w .state)) (length (w .buffer)) ≡ true

@@ -32,7 +32,7 @@ pub extern "C" fn gm_write_null(
         annotations,
         entry_numbers::type_of_code(code),
     );
-    entry_steps::ended(state, put, false, Refusal::NoRoom)
+    entry_steps::scalar_ended(state, put, Refusal::NoRoom)
 }
 
 // A bool.
@@ -50,7 +50,7 @@ pub extern "C" fn gm_write_bool(
         return entry_numbers::answered(state_bytes::value_place(state, buf.len()));
     }
     let put = values::write_bool(buf, state_bytes::used(state), annotations, value != 0);
-    entry_steps::ended(state, put, false, Refusal::NoRoom)
+    entry_steps::scalar_ended(state, put, Refusal::NoRoom)
 }
 
 // An int of 64 bits with its sign.
@@ -68,7 +68,7 @@ pub extern "C" fn gm_write_i64(
         return entry_numbers::answered(state_bytes::value_place(state, buf.len()));
     }
     let put = values::write_i64(buf, state_bytes::used(state), annotations, value);
-    entry_steps::ended(state, put, false, Refusal::NoRoom)
+    entry_steps::scalar_ended(state, put, Refusal::NoRoom)
 }
 
 // A float by the bits of binary32.
@@ -86,7 +86,7 @@ pub extern "C" fn gm_write_f32(
         return entry_numbers::answered(state_bytes::value_place(state, buf.len()));
     }
     let put = values::write_f32(buf, state_bytes::used(state), annotations, bits);
-    entry_steps::ended(state, put, false, Refusal::NoRoom)
+    entry_steps::scalar_ended(state, put, Refusal::NoRoom)
 }
 
 // A float by the bits of binary64, in four bytes where binary32 holds it.
@@ -104,7 +104,7 @@ pub extern "C" fn gm_write_f64(
         return entry_numbers::answered(state_bytes::value_place(state, buf.len()));
     }
     let put = values::write_f64(buf, state_bytes::used(state), annotations, bits);
-    entry_steps::ended(state, put, false, Refusal::NoRoom)
+    entry_steps::scalar_ended(state, put, Refusal::NoRoom)
 }
 
 // A timestamp by its local fields and its offset.
@@ -119,7 +119,7 @@ fn write_timestamp(state: &mut [u8], buf: &mut [u8], annotations: &[u8], value: 
     if put == 0 {
         return entry_numbers::number_of(steps::timestamp_refusal(value));
     }
-    entry_steps::ended(state, put, false, Refusal::NoRoom)
+    entry_steps::scalar_ended(state, put, Refusal::NoRoom)
 }
 
 // The same by numbers. A field past the precision means nothing, nor does an offset that is not known or a fraction that is not given.
@@ -186,5 +186,5 @@ pub extern "C" fn gm_write_symbol(
         return entry_numbers::answered(state_bytes::value_place(state, buf.len()));
     }
     let put = values::write_symbol(buf, state_bytes::used(state), annotations, sid);
-    entry_steps::ended(state, put, false, Refusal::NoRoom)
+    entry_steps::scalar_ended(state, put, Refusal::NoRoom)
 }

@@ -32,7 +32,7 @@ pub extern "C" fn gm_write_int(
     if put == 0 {
         return entry_numbers::number_of(steps::int_refusal(negative != 0, magnitude));
     }
-    entry_steps::ended(state, put, false, Refusal::NoRoom)
+    entry_steps::scalar_ended(state, put, Refusal::NoRoom)
 }
 
 // A decimal: sign, coefficient from the highest byte on, exponent.
@@ -66,7 +66,7 @@ pub extern "C" fn gm_write_decimal(
             exponent,
         ));
     }
-    entry_steps::ended(state, put, false, Refusal::NoRoom)
+    entry_steps::scalar_ended(state, put, Refusal::NoRoom)
 }
 
 // A string, in UTF-8.
@@ -87,7 +87,7 @@ pub extern "C" fn gm_write_string(
     if put == 0 {
         return entry_numbers::number_of(steps::string_refusal(bytes));
     }
-    entry_steps::ended(state, put, false, Refusal::NoRoom)
+    entry_steps::scalar_ended(state, put, Refusal::NoRoom)
 }
 
 // A clob.
@@ -105,7 +105,7 @@ pub extern "C" fn gm_write_clob(
         return entry_numbers::answered(state_bytes::value_place(state, buf.len()));
     }
     let put = values::write_clob(buf, state_bytes::used(state), annotations, bytes);
-    entry_steps::ended(state, put, false, Refusal::NoRoom)
+    entry_steps::scalar_ended(state, put, Refusal::NoRoom)
 }
 
 // A blob.
@@ -123,5 +123,5 @@ pub extern "C" fn gm_write_blob(
         return entry_numbers::answered(state_bytes::value_place(state, buf.len()));
     }
     let put = values::write_blob(buf, state_bytes::used(state), annotations, bytes);
-    entry_steps::ended(state, put, false, Refusal::NoRoom)
+    entry_steps::scalar_ended(state, put, Refusal::NoRoom)
 }

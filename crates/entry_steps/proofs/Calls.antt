@@ -15,12 +15,12 @@ use Rattle.machine.specs.declared.State.{State}
 use Rattle.machine.specs.declared.Container.{Container}
 use Rattle.machine.specs.declared.Refusal.the-variants.{NoRoom}
 use Rattle.machine.specs.Call.{Call, ContainerType, opening, closing, abandonment, emptying}
-use Rattle.machine.specs.Machine.{mostOpen, noContainer, openContainers, isOpen, inStruct, lacksName, reserve, containerCode, put, atEnd, effect}
+use Rattle.machine.specs.Machine.{mostOpen, noContainer, openContainers, isOpen, inStruct, counted, lacksName, reserve, containerCode, put, atEnd, effect}
 use Rattle.machine.specs.Machine.{config, noFigures, ruleOf, placeLines, checks, accepted, refused, firstFailing, isAccepted, outer, placeVerdict, Outcome, run}
 use Rattle.containers.specs.Containers.{closedOn, abandonedOn}
 use Rattle.steps.proofs.Run.{outcome, accepted-with, run-misplaced, run-accepted, past-place, placed-some, end-run}
 use Rattle.steps.proofs.Containers.{accepted-fits, accepted-placed, opened-not, either-not, some-open, innermost, reserve-least, openedState, opening-refused, opening-accepted, opening-deep, closing-refused, closing-start, closing-accepted, abandonment-run}
-use Rattle.state_bytes.specs.StateBytes.{stateSize, stateOf, storedHead, storedContainer, storedState, storedBy, enteredBy, entered, numbersLaid, answeredBy, answered}
+use Rattle.state_bytes.specs.StateBytes.{stateSize, stateOf, storedHead, storedContainer, storedCount, storedState, storedBy, enteredBy, entered, numbersLaid, answeredBy, answered}
 use Rattle.state_bytes.proofs.Laws.{state-is, state-none, length-containers, outer-step}
 use Rattle.entry_steps.specs.Entries.{enteredAs}
 use Rattle.entry_steps.proofs.Entered.{refused-is, accepted-is, entered-run, entered-ended}
@@ -30,7 +30,7 @@ use Rattle.entry_steps.proofs.Entered.{refused-is, accepted-is, entered
 module _ (c : Call) (st b : List ℕ) (m : Bool) (out : List ℕ) (waits : Bool)
     (lines : checks c (config (stateOf st) b) ≡ placeLines (stateOf st) (length b) m ++ ((ltb (length b) (stateOf st .used + length out), 10) ∷ []))
     (same : (s : State) → storedBy c s st ≡ storedState s st) (some : 0 < length out)
-    (does : effect c (config (stateOf st) b) ≡ put (config (stateOf st) b) (atEnd (stateOf st) out waits)) (only : ruleOf c (config (stateOf st) b) .figures ≡ noFigures)
+    (does : effect c (config (stateOf st) b) ≡ put (config (stateOf st) b) (atEnd (stateOf st) out waits (stateOf st .containers))) (only : ruleOf c (config (stateOf st) b) .figures ≡ noFigures)
     (t : isAccepted (placeVerdict (stateOf st) (length b) m) ≡ true) (n : ℕ) (l : List ℕ) (e : _≡_ {A = ℕ × List ℕ} (n, l) (placed b (stateOf st .used) out)) where
   room-left : firstFailing (checks c (config (stateOf st) b)) ≡ firstFailing ((ltb (length b) (stateOf st .used + length out), 10) ∷ [])
   room-left = past-place c (stateOf st) b m ((ltb (length b) (stateOf st .used + length out), 10) ∷ []) lines (accepted-is _ t)
@@ -38,7 +38,7 @@ module _ (c : Call) (st b : List ℕ) (m : Bool) (out : List ℕ) (waits : Bool)
   pub end-entry : (k : ℕ) (x : List ℕ) → (n ≡ 0 → (k ≡ 10) × (x ≡ st)) → ((n ≡ 0 → ⊥) → (k ≡ 0) × (x ≡ storedHead (stateOf st .used + n) (stateOf st .depth) waits st))
       → enteredAs k x l ≡ entered c st b
   end-entry =
-      entered-ended c st b same n l waits NoRoom (end-run c (stateOf st) b out n l waits e room-left some does only)
+      entered-ended c st b n l waits (stateOf st .containers) NoRoom st (same _) (end-run c (stateOf st) b out n l waits (stateOf st .containers) e room-left some does only)
 
 -- ---- the line 10 behind a place
 
@@ -76,10 +76,10 @@ module _ (an : List ℕ) (k : ContainerType) (st b : List ℕ) (t : isAccepted (
     open-fits h = let w = placed-some b (stateOf st .used) (reserve an) n l e h in (omega (arith, w .1, reserve-least an), omega (arith, w .0, w .1))
 
     pub open-done : (n ≡ 0 → ⊥)
-        → enteredAs 0 (storedHead (stateOf st .used + n) (stateOf st .depth + 1) false (storedContainer (stateOf st .depth) (record { start = stateOf st .used; header = stateOf st .used + (n - 2); code = containerCode k }) st)) l
+        → enteredAs 0 (storedHead (stateOf st .used + n) (stateOf st .depth + 1) false (storedContainer (stateOf st .depth) (record { start = stateOf st .used; header = stateOf st .used + (n - 2); code = containerCode k; members = 0 }) st)) l
         ≡ entered (opening an k) st b
     open-done h =
-        let c : Container = record { start = stateOf st .used; header = stateOf st .used + (n - 2); code = containerCode k } in
+        let c : Container = record { start = stateOf st .used; header = stateOf st .used + (n - 2); code = containerCode k; members = 0 } in
         let i : stateOf st .depth + 1 - 1 ≡ stateOf st .depth = omega arith in
         let g : getD (set (stateOf st .containers) (stateOf st .depth) c) (stateOf st .depth) noContainer ≡ c = getD-set-same (stateOf st .containers) (stateOf st .depth) c noContainer (omega (arith, d, containers-length st)) in
         sym (rw (i, g)) ∙ opening-run (outcome accepted (openedState (stateOf st) n (containerCode k)) l) (opening-accepted an k (stateOf st) b n l e past d h)
@@ -124,15 +124,19 @@ module _ (st b : List ℕ) (t : isAccepted (placeVerdict (stateOf st) (length b)
     pub close-start : (n ≡ 0 → ⊥) → innermost (stateOf st) .start ≤ n
     close-start h = closing-start (stateOf st) b n l closing-place e h
 
+    -- the containers, with the closed one counted in the one that it lies in
+    abbrev members : List Container
+    members = counted (stateOf st .containers) (stateOf st .depth - 1)
+
     abbrev done : Outcome
     done =
-        accepted-with (config (record { used = n; depth = stateOf st .depth - 1; waiting = false; containers = stateOf st .containers }) l)
-        (record { size = n - innermost (stateOf st) .start })
+        accepted-with (config (record { used = n; depth = stateOf st .depth - 1; waiting = false; containers = members }) l)
+        (record { size = n - innermost (stateOf st) .start; members = innermost (stateOf st) .members })
 
-    pub close-done : (n ≡ 0 → ⊥) → enteredAs 0 (storedHead n (stateOf st .depth - 1) false st) l ≡ entered closing st b
+    pub close-done : (n ≡ 0 → ⊥) → enteredAs 0 (storedHead n (stateOf st .depth - 1) false (storedCount (stateOf st .depth - 1) members st)) l ≡ entered closing st b
     close-done h = closing-run done (closing-accepted (stateOf st) b n l closing-place e h)
 
-    pub close-answered : (n ≡ 0 → ⊥) → (lent : List ℕ) → numbersLaid 0 ((n - innermost (stateOf st) .start) ∷ []) lent ≡ answered st b lent
+    pub close-answered : (n ≡ 0 → ⊥) → (lent : List ℕ) → numbersLaid 0 ((n - innermost (stateOf st) .start) ∷ innermost (stateOf st) .members ∷ []) lent ≡ answered st b lent
     close-answered h lent = close-answers done (closing-accepted (stateOf st) b n l closing-place e h) lent
 
 -- ---- an abandonment

@@ -8,7 +8,7 @@ use lib.Dec.{eqb}
 use lib.ListN.{length}
 use borrow.Author.Tests.{eqb-true, eqb-false}
 use Rattle.ion.proofs.Tests.{by-cases}
-use Rattle.machine.specs.declared.State.{State}
+use Rattle.machine.specs.declared.Container.{Container}
 use Rattle.machine.specs.declared.Refusal.{Refusal}
 use Rattle.machine.specs.declared.Answer.{Answer}
 use Rattle.machine.specs.Call.{Call}
@@ -41,16 +41,16 @@ barred-entry c st b m rest q p n f e k =
     entered-run c st b (outcome (refused n) (stateOf st) b) (sym (run-misplaced c (stateOf st) b m rest n q v))
 
 -- An entry that has put n bytes at the end of the used ones, or none for the reason `why`; l is the buffer after it.
--- k and t are what it answers and leaves in the state slice.
-pub entered-ended : (c : Call) (st b : List ℕ) → ((s : State) → storedBy c s st ≡ storedState s st) → (n : ℕ) (l : List ℕ) (waits : Bool) (why : Refusal)
-    → Ends c (stateOf st) b n l waits why
-    → (k : ℕ) (t : List ℕ) → (n ≡ 0 → (k ≡ number why) × (t ≡ st)) → ((n ≡ 0 → ⊥) → (k ≡ 0) × (t ≡ storedHead (stateOf st .used + n) (stateOf st .depth) waits st))
+-- It stores the head over the bytes x. k and t are what it answers and leaves in the state slice.
+pub entered-ended : (c : Call) (st b : List ℕ) (n : ℕ) (l : List ℕ) (waits : Bool) (cs : List Container) (why : Refusal) (x : List ℕ)
+    → storedBy c (grown (stateOf st) n waits cs) st ≡ storedState (grown (stateOf st) n waits cs) x → Ends c (stateOf st) b n l waits cs why
+    → (k : ℕ) (t : List ℕ) → (n ≡ 0 → (k ≡ number why) × (t ≡ st)) → ((n ≡ 0 → ⊥) → (k ≡ 0) × (t ≡ storedHead (stateOf st .used + n) (stateOf st .depth) waits x))
     → enteredAs k t l ≡ entered c st b
-entered-ended c st b same n l waits why e k t f g =
+entered-ended c st b n l waits cs why x same e k t f g =
     by-cases (eqb n 0)
     (λ p.
     let z = eqb-true n 0 p in
     rw (f z .0, f z .1) (entered-run c st b (outcome (refused (number why)) (stateOf st) l) (e .none z)))
     (λ p.
     let h = eqb-false n 0 p in
-    rw (g h .0, g h .1, ← (same (grown (stateOf st) n waits))) (entered-run c st b (outcome accepted (grown (stateOf st) n waits) l) (e .some h)))
+    rw (g h .0, g h .1, ← same) (entered-run c st b (outcome accepted (grown (stateOf st) n waits cs) l) (e .some h)))

@@ -24,12 +24,12 @@ use Rattle.machine.proofs.Splice.{take-splice, length-splice}
 use Rattle.machine.proofs.Steps.{none-failing, Invariant, taken-whole, accepted-keeps, accepted-writable}
 use Rattle.machine.proofs.Meaning.{spelled-is, stack-is}
 
-abbrev stepArguments : Call → Config → Model Argument → Model Argument
+abbrev pub stepArguments : Call → Config → Model Argument → Model Argument
 stepArguments c w x = modelStep (λ a. a) c (isAccepted (verdict c w)) x
 
 -- ---- one call, accepted or refused
 
-call-keeps : (done : List ℕ) (w : Config) (x : Model Argument) (c : Call) → Invariant done w x → Invariant (done ++ flushed c w) (after c w) (stepArguments c w x)
+pub call-keeps : (done : List ℕ) (w : Config) (x : Model Argument) (c : Call) → Invariant done w x → Invariant (done ++ flushed c w) (after c w) (stepArguments c w x)
 call-keeps done w x c inv = by-verdict (verdict c w) refl
   where
     by-verdict : (a : Verdict) → verdict c w ≡ a → Invariant (done ++ partOf (isAccepted a) (ruleOf c w .flushes)) (ifAccepted a (effect c w) w) (modelStep (λ a. a) c (isAccepted a) x)
@@ -64,7 +64,7 @@ all-writable (c ∷ cs) done w x inv t o = all-writable cs (done ++ flushed c w)
 
 -- ---- the start
 
-start-keeps : (b : List ℕ) → startVerdict b ≡ accepted → Invariant [] (started b) startedModel
+pub start-keeps : (b : List ℕ) → startVerdict b ≡ accepted → Invariant [] (started b) startedModel
 unfolding streamBytes
 start-keeps b e =
     let h = none-failing ((ltb longestBuffer (length b), 1) ∷ (ltb (length b) 4, 10) ∷ []) (unfold startVerdict in e) in
@@ -74,6 +74,7 @@ start-keeps b e =
     rw e (record {
       fit = omega arith;
       short = omega arith;
+      depth = omega arith;
       flag = refl;
       records = refl;
       layout = record {

@@ -20,6 +20,7 @@ use Rattle.encoding.specs.Argument.{writeBool, writeI64, writeInt, writeDecimal
 use Rattle.machine.specs.Call.{sequenceType, structType, Call, write, name, opening, closing, abandonment, versionMarker, taking, emptying}
 use Rattle.machine.specs.Machine.{Config, closedBytes, splice, containerFits, containersFit, fits, Verdict, accepted, refused, verdict, after, emptyState, startVerdict, started, finishedLength, taken, run}
 use Rattle.machine.specs.Demands.{joined}
+use Rattle.machine.specs.Counts.{noAnswers, answersAfter}
 
 -- the answers to a list of calls
 unfoldable pub verdicts : List Call → Config → List Verdict
@@ -43,14 +44,18 @@ calls-verdicts : verdicts calls (started nines) ≡ accepted ∷ accepted ∷ ac
 unfolding verdicts calls nines verdict startVerdict fits containerFits containersFit splice closedBytes argumentBytes annotatedBytes annotationBytes framedBytes headerBytes uintBytes varUIntsBytes varUIntBytes digits digitCount countDigits lowDigits
 calls-verdicts = refl
 
--- what each call answers of a container: only the closing does
-unfoldable pub sizes : List Call → Config → List ℕ
-sizes [] w = []
-sizes (c ∷ cs) w = run c w .figures .size ∷ sizes cs (after c w)
+-- what each call answers of a container, its size and how many members it has: only the closing does
+unfoldable pub figures : List Call → Config → List (ℕ × ℕ)
+figures [] w = []
+figures (c ∷ cs) w = (run c w .figures .size, run c w .figures .members) ∷ figures cs (after c w)
 
-calls-sizes : sizes calls (started nines) ≡ 0 ∷ 0 ∷ 0 ∷ 0 ∷ 6 ∷ 0 ∷ 0 ∷ 0 ∷ 0 ∷ 0 ∷ 0 ∷ 0 ∷ []
-unfolding sizes run calls nines verdict startVerdict fits containerFits containersFit splice closedBytes argumentBytes annotatedBytes annotationBytes framedBytes headerBytes uintBytes varUIntsBytes varUIntBytes digits digitCount countDigits lowDigits
-calls-sizes = refl
+-- of a call that answers nothing of a container
+abbrev none-answered : ℕ × ℕ
+none-answered = (0, 0)
+
+calls-figures : figures calls (started nines) ≡ replicate 4 none-answered ++ ((6, 1) ∷ replicate 7 none-answered)
+unfolding figures run calls nines verdict startVerdict fits containerFits containersFit splice closedBytes argumentBytes annotatedBytes annotationBytes framedBytes headerBytes uintBytes varUIntsBytes varUIntBytes digits digitCount countDigits lowDigits
+calls-figures = refl
 
 -- a list of 128 bytes: its header grows by one byte over the reserve
 long : List Call
@@ -75,3 +80,50 @@ deep = refl
 starts : startVerdict (9 ∷ 9 ∷ 9 ∷ []) ∷ startVerdict (9 ∷ 9 ∷ 9 ∷ 9 ∷ []) ∷ [] ≡ refused 10 ∷ accepted ∷ []
 unfolding startVerdict
 starts = refl
+
+-- ---- how many members
+
+-- a list: a bool; a struct with two pairs, a closing of it refused while a name waits; a list that is abandoned, with a closed one in it;
+-- an int that is refused; a bool. A last closing is refused, since none is open
+members : List Call
+members =
+    opening [] (sequenceType list) ∷ write [] (writeBool true)
+    ∷ opening [] structType ∷ name 4 ∷ write [] (writeBool true) ∷ name 5 ∷ closing ∷ write [] (writeBool true) ∷ closing
+    ∷ opening [] (sequenceType list) ∷ opening [] (sequenceType list) ∷ write [] (writeBool true) ∷ closing ∷ abandonment
+    ∷ write [] (writeInt true []) ∷ write [] (writeBool false) ∷ closing ∷ closing ∷ []
+
+members-figures : figures members (started nines)
+    ≡ replicate 8 none-answered ++ ((5, 2) ∷ replicate 3 none-answered ++ ((2, 1) ∷ replicate 3 none-answered ++ ((8, 3) ∷ none-answered ∷ [])))
+unfolding members figures run nines verdict startVerdict fits containerFits containersFit splice closedBytes argumentBytes annotatedBytes framedBytes headerBytes varUIntBytes digits digitCount countDigits lowDigits bigEndian
+members-figures = refl
+
+-- without what was abandoned, they are those of the joined bytes' one reading
+members-answers : answersAfter members (started nines) noAnswers ≡ record { outside = 2 ∷ 3 ∷ []; inside = [] }
+unfolding answersAfter members run nines verdict startVerdict fits containerFits containersFit splice closedBytes argumentBytes annotatedBytes framedBytes headerBytes varUIntBytes digits digitCount countDigits lowDigits bigEndian
+members-answers = refl
+
+members-joined : joined members (started nines) ≡ 0xE0 ∷ 0x01 ∷ 0x00 ∷ 0xEA ∷ 0xB7 ∷ 0x11 ∷ 0xD4 ∷ 0x84 ∷ 0x11 ∷ 0x85 ∷ 0x11 ∷ 0x10 ∷ []
+unfolding members nines joined verdict startVerdict finishedLength fits containerFits containersFit splice closedBytes argumentBytes annotatedBytes framedBytes headerBytes varUIntBytes digits digitCount countDigits lowDigits bigEndian
+members-joined = refl
+
+-- A list at 4 with a list in it at 8, ten bytes used: the outer one holds two bytes up to the inner one, which holds none.
+abbrev counting : ℕ → ℕ → Config
+counting outside inside = record {
+  state = record {
+    used = 10;
+    depth = 2;
+    waiting = false;
+    containers = record { start = 4; header = 4; code = 0xB0; members = outside } ∷ record { start = 8; header = 8; code = 0xB0; members = inside } ∷ [];
+  };
+  buffer = nines;
+}
+
+-- As many members as bytes fit, one more does not. The outer one's bytes end where the inner one starts, not where the used ones end.
+-- What fits is answered as it stands.
+members-fit : verdict closing (counting 2 0) ∷ verdict closing (counting 3 0) ∷ verdict closing (counting 2 1) ∷ [] ≡ accepted ∷ refused 2 ∷ refused 2 ∷ []
+unfolding nines verdict fits containerFits containersFit closedBytes framedBytes headerBytes
+members-fit = refl
+
+members-given : figures (closing ∷ closing ∷ []) (counting 2 0) ≡ (1, 0) ∷ (4, 3) ∷ []
+unfolding figures run nines verdict fits containerFits containersFit splice closedBytes framedBytes headerBytes
+members-given = refl

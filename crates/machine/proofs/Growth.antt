@@ -1,7 +1,7 @@
 -- What one value more, at the end of a container or of the items, does to the bytes, and that it stays writable.
 -- Assumes nothing.
-use Prim.Native.Nat.{ℕ, _^_, _<_}
-use mathlib.Core.Path.{_≡_, sym, _∙_, ap}
+use Prim.Native.Nat.{ℕ, suc, _^_, _<_}
+use mathlib.Core.Path.{_≡_, refl, sym, _∙_, ap}
 use mathlib.Core.List.{List, [], _∷_, _++_, append-assoc, append-nil}
 use Rattle.ion.specs.Value.{Tree, Members, noMembers, member, Fields, noFields, field, Item}
 use Rattle.encoding.specs.Fields.{varUIntBytes}
@@ -9,6 +9,7 @@ use Rattle.encoding.specs.Argument.{Argument}
 use Rattle.encoding.specs.Stream.{treeBytes, membersBytes, fieldsBytes, itemBytes, streamBytes}
 use Rattle.encoding.proofs.Writable.{Writable, WritableMembers, WritableFields, WritableItem, WritableItems}
 use Rattle.machine.specs.Model.{addMember, addField}
+use Rattle.machine.specs.Counts.{howMany, howManyPairs}
 
 pub membersBytes-add : (vs : Members Argument) (t : Tree Argument) → membersBytes (addMember vs t) ≡ membersBytes vs ++ treeBytes t
 unfolding treeBytes
@@ -24,6 +25,15 @@ pub streamBytes-add : (is : List (Item Argument)) (i : Item Argument) → stream
 unfolding streamBytes
 streamBytes-add [] i = append-nil (itemBytes i)
 streamBytes-add (j ∷ is) i = rw (streamBytes-add is i, append-assoc)
+
+-- and it is one more
+pub howMany-add : {S : Type 0} (vs : Members S) (t : Tree S) → howMany (addMember vs t) ≡ suc (howMany vs)
+howMany-add noMembers t = refl
+howMany-add (member x xs) t = ap suc (howMany-add xs t)
+
+pub howManyPairs-add : {S : Type 0} (fs : Fields S) (k : ℕ) (t : Tree S) → howManyPairs (addField fs k t) ≡ suc (howManyPairs fs)
+howManyPairs-add noFields k t = refl
+howManyPairs-add (field j x xs) k t = ap suc (howManyPairs-add xs k t)
 
 pub writable-addMember : (vs : Members Argument) (t : Tree Argument) → WritableMembers vs → Writable t → WritableMembers (addMember vs t)
 unfolding Writable

@@ -1,7 +1,8 @@
 -- The invariant between the machine and the model: the live bytes and the open containers are functions of the model; and what each call does to it.
 -- Assumes nothing.
-use Prim.Native.Nat.{ℕ, _+_, _^_, _<_, _≤_}
+use Prim.Native.Nat.{ℕ, suc, _+_, _^_, _<_, _≤_}
 use native.Mathlib.Omega.{arith}
+use native.Mathlib.Numerals.{add-one}
 use mathlib.Core.Path.{_≡_, refl, sym, _∙_, ap}
 use mathlib.Core.Bool.{Bool, true, false, true≢false, false≢true, _&&_, _||_, not}
 use mathlib.Core.List.{List, [], _∷_, _++_, append-assoc, append-nil}
@@ -19,7 +20,9 @@ use Rattle.machine.specs.declared.Container.{Container}
 use Rattle.machine.specs.Call.{ContainerType, sequenceType, structType}
 use Rattle.machine.specs.Machine.{isOpen, inStruct, outer, containerCode, reserve, headerPlace, closedBytes, closedInnermost, innermostStart}
 use Rattle.machine.specs.Model.{Open, openSequence, openStruct, Model, opened, setAside, closed, add, close, abandon}
-use Rattle.machine.proofs.Growth.{membersBytes-add, fieldsBytes-add, streamBytes-add, writable-addMember, writable-addField, writable-addItem}
+use Rattle.machine.specs.Counts.{howMany, howManyPairs}
+use Rattle.machine.proofs.Splice.{countedFirst}
+use Rattle.machine.proofs.Growth.{membersBytes-add, fieldsBytes-add, streamBytes-add, howMany-add, howManyPairs-add, writable-addMember, writable-addField, writable-addItem}
 
 -- ---- the live bytes as the model has them
 
@@ -48,12 +51,16 @@ abbrev pub bytesTo : List ℕ → List (Open Argument) → List ℕ
 bytesTo base [] = base
 bytesTo base (o ∷ st) = (bytesTo base st ++ nameBytes (setAside o)) ++ (reserve (annotationsOf o) ++ bodyOf o)
 
-abbrev pub containerAt : ℕ → List ℕ → ContainerType → Container
-containerAt p an k = record { start = p; header = headerPlace p an; code = containerCode k }
+abbrev pub membersOf : {S : Type 0} → Open S → ℕ
+membersOf (openSequence an aside k vs) = howMany vs
+membersOf (openStruct an aside fs) = howManyPairs fs
+
+abbrev pub containerAt : ℕ → List ℕ → ContainerType → ℕ → Container
+containerAt p an k n = record { start = p; header = headerPlace p an; code = containerCode k; members = n }
 
 abbrev pub containersOf : List ℕ → List (Open Argument) → List Container
 containersOf base [] = []
-containersOf base (o ∷ st) = containerAt (length (bytesTo base st ++ nameBytes (setAside o))) (annotationsOf o) (typeOf o) ∷ containersOf base st
+containersOf base (o ∷ st) = containerAt (length (bytesTo base st ++ nameBytes (setAside o))) (annotationsOf o) (typeOf o) (membersOf o) ∷ containersOf base st
 
 abbrev pub insideStruct : List (Open Argument) → Bool
 insideStruct [] = false
@@ -102,12 +109,12 @@ WritableOf x = WritableModel (x .items) (x .stack) (x .waiting)
 -- ---- a value at the end
 
 pub add-layout : (done bs : List ℕ) (cs : List Container) (is : List (Item Argument)) (st : List (Open Argument)) (nm : Option ℕ) (t : Tree Argument)
-    → Layout done bs cs is st nm → isSome nm ≡ insideStruct st → LayoutOf done (bs ++ treeBytes t) cs (add is st nm t)
+    → Layout done bs cs is st nm → isSome nm ≡ insideStruct st → LayoutOf done (bs ++ treeBytes t) (countedFirst cs) (add is st nm t)
 add-layout done bs cs is [] none t h e = record {
   base = h .base ++ treeBytes t;
   whole = rw (streamBytes-add is (value t), ← (append-assoc done (h .base) (treeBytes t)), h .whole);
   shown = rw (h .shown) (simp (append-assoc, append-nil));
-  placed = h .placed;
+  placed = ap countedFirst (h .placed);
   aside = tt;
   waits = refl;
 }
@@ -116,7 +123,7 @@ add-layout done bs cs is (openSequence an aside k vs ∷ st) none t h e = record
   base = h .base;
   whole = h .whole;
   shown = rw (h .shown, membersBytes-add) (simp (append-assoc, append-nil));
-  placed = h .placed;
+  placed = ap countedFirst (h .placed) ∙ rw (howMany-add vs t, add-one (howMany vs));
   aside = h .aside;
   waits = refl;
 }
@@ -126,7 +133,7 @@ add-layout done bs cs is (openStruct an aside fs ∷ st) (some n) t h e = record
   base = h .base;
   whole = h .whole;
   shown = rw (h .shown, fieldsBytes-add) (simp (append-assoc, append-nil));
-  placed = h .placed;
+  placed = ap countedFirst (h .placed) ∙ rw (howManyPairs-add fs n t, add-one (howManyPairs fs));
   aside = h .aside;
   waits = refl;
 }
@@ -187,7 +194,7 @@ module _ (done bs : List ℕ) (cs : List Container) (is : List (Item Argument)) 
       let q : bs ≡ bytesTo (h .base) st = h .shown ∙ ap (λ (x : List ℕ). bytesTo (h .base) st ++ x) (no-name nm (b .1)) ∙ append-nil (bytesTo (h .base) st) in
       record { base = h .base; whole = h .whole; shown = ap (λ (x : List ℕ). x ++ varUIntBytes n) q; placed = h .placed; aside = h .aside; waits = rw (sym inStruct-layout ∙ b .0) }
 
-  pub opening-layout : (an : List ℕ) (k : ContainerType) → isSome nm ≡ insideStruct st → Layout done (bs ++ reserve an) (containerAt (length bs) an k ∷ cs) is (opened an nm k ∷ st) none
+  pub opening-layout : (an : List ℕ) (k : ContainerType) → isSome nm ≡ insideStruct st → Layout done (bs ++ reserve an) (containerAt (length bs) an k 0 ∷ cs) is (opened an nm k ∷ st) none
   unfolding treeBytes
   opening-layout an (sequenceType k) e = record { base = h .base; whole = h .whole; shown = rw (h .shown) (simp append-nil); placed = rw (h .shown, h .placed); aside = (e, h .aside); waits = refl }
   opening-layout an structType e = record { base = h .base; whole = h .whole; shown = rw (h .shown) (simp append-nil); placed = rw (h .shown, h .placed); aside = (e, h .aside); waits = refl }
@@ -231,7 +238,7 @@ behind : (p a r : List ℕ) (n : ℕ) → length p + length a ≡ n → drop n (
 behind p a r n q = rw (← (append-assoc p a r)) (drop-at (p ++ a) r n (length-append p a ∙ q))
 
 -- the machine's closing of a container is the encoding of its body and annotations
-closing-is : (pre an body : List ℕ) (k : ContainerType) → closedBytes (containerAt (length pre) an k) (pre ++ (reserve an ++ body)) ≡ annotatedBytes an (framedBytes (containerCode k) body)
+closing-is : (pre an body : List ℕ) (k : ContainerType) → closedBytes (length pre) (headerPlace (length pre) an) (containerCode k) (pre ++ (reserve an ++ body)) ≡ annotatedBytes an (framedBytes (containerCode k) body)
 unfolding closedBytes annotatedBytes
 closing-is pre [] body k = rw (eq-eqb (length pre) (length pre) refl, closedBytes, drop-append-add pre (0 ∷ 0 ∷ body) 2)
 closing-is pre (a ∷ an) body k =
@@ -259,7 +266,7 @@ pub record Innermost (done bs : List ℕ) (cs : List Container) (is : List (Item
   pub within : length pre ≤ length bs
   pub abandoned : LayoutOf done pre (outer cs) (abandon is st nm)
   pub again : inStruct (outer cs) ≡ isSome (abandon is st nm .waiting)
-  pub closes : isSome nm ≡ false → LayoutOf done (pre ++ closedInnermost cs bs) (outer cs) (close is st nm)
+  pub closes : isSome nm ≡ false → LayoutOf done (pre ++ closedInnermost cs bs) (countedFirst (outer cs)) (close is st nm)
   pub quiet : isSome (close is st nm .waiting) ≡ false
   pub writable : WritableModel is st nm → isSome nm ≡ false → length (closedInnermost cs bs) < 2 ^ 64 → WritableOf (close is st nm)
 

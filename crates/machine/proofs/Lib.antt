@@ -4,5 +4,7 @@ pub mod Splice
 pub mod Steps
 pub mod Meaning
 pub mod Demands
+pub mod Counts
+pub mod Fitting
 pub mod Examples
 pub mod Instances

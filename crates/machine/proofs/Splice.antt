@@ -5,10 +5,10 @@ use native.Mathlib.Omega.{arith}
 use native.Mathlib.Numerals.{add-one}
 use mathlib.Core.Path.{_≡_, refl}
 use mathlib.Core.List.{List, [], _∷_, _++_, cons≢nil}
-use lib.ListN.{length, take, drop, replicate, set, length-append, length-take, length-drop, length-replicate}
+use lib.ListN.{length, take, drop, replicate, getD, set, length-append, length-take, length-drop, length-replicate, length-set}
 use lib.Seq.{take-at, getD-set-same, getD-set-other}
 use Rattle.machine.specs.declared.Container.{Container}
-use Rattle.machine.specs.Machine.{noContainer, innermostFirst, outer, splice}
+use Rattle.machine.specs.Machine.{noContainer, innermostFirst, outer, withMember, counted, splice}
 
 pub take-splice : (used p : ℕ) (out b : List ℕ) → p ≤ length b → take (p + length out) (splice used p out b) ≡ take p b ++ out
 unfolding splice
@@ -28,6 +28,19 @@ below-set l d (suc n) c h = rw (getD-set-other l d n c noContainer (λ e. omega 
 
 pub opened-containers : (l : List Container) (d : ℕ) (c : Container) → d < length l → innermostFirst (set l d c) (d + 1) ≡ c ∷ innermostFirst l d
 opened-containers l d c h = rw (add-one d, getD-set-same l d c noContainer h, below-set l d d c (omega arith))
+
+-- the innermost with one member more
+abbrev pub countedFirst : List Container → List Container
+countedFirst [] = []
+countedFirst (c ∷ cs) = withMember c ∷ cs
+
+pub counted-containers : (l : List Container) (d : ℕ) → d ≤ length l → innermostFirst (counted l d) d ≡ countedFirst (innermostFirst l d)
+counted-containers l zero h = refl
+counted-containers l (suc d) h = rw (getD-set-same l d (withMember (getD l d noContainer)) noContainer (omega arith), below-set l d d (withMember (getD l d noContainer)) (omega arith))
+
+pub length-counted : (l : List Container) (d : ℕ) → length (counted l d) ≡ length l
+length-counted l zero = refl
+length-counted l (suc d) = length-set l d (withMember (getD l d noContainer))
 
 pub closed-containers : (l : List Container) (d : ℕ) → innermostFirst l (d - 1) ≡ outer (innermostFirst l d)
 closed-containers l zero = refl

@@ -1,6 +1,6 @@
 -- Every accepted call keeps the invariant between the machine and the model.
 -- Assumes nothing.
-use Prim.Native.Nat.{ℕ, _+_, _<_, _≤_}
+use Prim.Native.Nat.{ℕ, _+_, _-_, _<_, _≤_}
 use native.Mathlib.Omega.{arith}
 use mathlib.Core.Path.{_≡_, refl, sym, _∙_, ap}
 use mathlib.Core.Bool.{Bool, true, false, false≢true, _||_, not}
@@ -21,7 +21,7 @@ use Rattle.machine.specs.Machine.{Config, mostOpen, openContainers, isOp
 use Rattle.machine.specs.Model.{Open, Model, abandon, spell}
 use Rattle.machine.proofs.Growth.{writable-addItem}
 use Rattle.machine.proofs.Invariant.{isSome, containerAt, insideStruct, LayoutOf, WritableOf, WritableModel, add-layout, add-quiet, add-writable, or-false, ready, name-layout, opening-layout, opening-writable, under-writable, Innermost, innermost, outside, marker-layout, emptying-layout}
-use Rattle.machine.proofs.Splice.{take-splice, length-splice, opened-containers, closed-containers, none-open}
+use Rattle.machine.proofs.Splice.{take-splice, length-splice, opened-containers, counted-containers, length-counted, closed-containers, none-open}
 
 -- ---- the checks that an accepted call has passed
 
@@ -37,13 +37,13 @@ split-holds [] r h = (tt, h)
 split-holds (x ∷ l) r h = let s = split-holds l r (h .1) in ((h .0, s .0), s .1)
 
 -- the lines of a call, by name
-record Passed (w : Config) (misplaced : Bool) (lines : List (Bool × ℕ)) (used : ℕ) : Type 0 where
+pub record Passed (w : Config) (misplaced : Bool) (lines : List (Bool × ℕ)) (used : ℕ) : Type 0 where
   fit : fits (w .state) (length (w .buffer)) ≡ true
-  place : misplaced ≡ false
+  pub place : misplaced ≡ false
   own : NoneHolds lines
   room : used ≤ length (w .buffer)
 
-passed : (w : Config) (misplaced : Bool) (own : List (Bool × ℕ)) (used : ℕ) → NoneHolds (lines w misplaced own used) → Passed w misplaced own used
+pub passed : (w : Config) (misplaced : Bool) (own : List (Bool × ℕ)) (used : ℕ) → NoneHolds (lines w misplaced own used) → Passed w misplaced own used
 passed w misplaced own used h =
     let s = split-holds own ((ltb (length (w .buffer)) used, 10) ∷ []) (h .1 .1 .1) in
     record { fit = not-false (fits (w .state) (length (w .buffer))) (h .1 .0); place = h .1 .1 .0; own = s .0; room = ltb-false (length (w .buffer)) used (s .1 .0) }
@@ -53,6 +53,7 @@ passed w misplaced own used h =
 pub record Invariant (done : List ℕ) (w : Config) (x : Model Argument) : Type 0 where
   pub fit : w .state .used ≤ length (w .buffer)
   pub short : length (w .buffer) ≤ longestBuffer
+  pub depth : w .state .depth ≤ mostOpen
   pub flag : w .state .waiting ≡ isSome (x .waiting)
   pub records : length (w .state .containers) ≡ mostOpen
   pub layout : LayoutOf done (live w) (openContainers (w .state)) x
@@ -64,14 +65,15 @@ fits-outside w h f n = rw (f, n, le-leb (w .state .used) (length (w .buffer)) h,
 -- a call that puts `out` at p, behind the bytes pre
 put-keeps : (done out pre : List ℕ) (w : Config) (x : Model Argument) (y : Config) (z : Model Argument) (inv : Invariant done w x)
     → (p : ℕ) → p ≤ w .state .used → p + length out ≤ length (w .buffer) → take p (w .buffer) ≡ pre
-    → y .state .used ≡ p + length out → y .buffer ≡ splice (w .state .used) p out (w .buffer) → y .state .waiting ≡ isSome (z .waiting)
+    → y .state .used ≡ p + length out → y .buffer ≡ splice (w .state .used) p out (w .buffer) → y .state .depth ≤ mostOpen → y .state .waiting ≡ isSome (z .waiting)
     → length (y .state .containers) ≡ mostOpen → LayoutOf done (pre ++ out) (openContainers (y .state)) z → Invariant done y z
-put-keeps done out pre w x y z inv p hp room front eu eb ef es c =
+put-keeps done out pre w x y z inv p hp room front eu eb ed ef es c =
     let lp : p ≤ length (w .buffer) = omega (arith, inv .fit) in
     let l : length (y .buffer) ≡ length (w .buffer) = ap length eb ∙ length-splice (w .state .used) p out (w .buffer) lp (inv .fit) room in
     record {
       fit = omega arith;
       short = omega (arith, inv .short);
+      depth = ed;
       flag = ef;
       records = es;
       layout = rw (eu, eb, take-splice (w .state .used) p out (w .buffer) lp, front) c;
@@ -81,25 +83,27 @@ abbrev spellArguments : Call → Model Argument → Model Argument
 spellArguments c x = spell (λ a. a) c x
 
 module _ (done : List ℕ) (w : Config) (x : Model Argument) (inv : Invariant done w x) where
-  length-live : length (live w) ≡ w .state .used
+  pub length-live : length (live w) ≡ w .state .used
   length-live = simp length-take (omega (arith, inv .fit))
 
   -- line 3 of a value
-  can : lacksName (w .state) ≡ false → isSome (x .waiting) ≡ insideStruct (x .stack)
+  pub can : lacksName (w .state) ≡ false → isSome (x .waiting) ≡ insideStruct (x .stack)
   can e = ready done (live w) (openContainers (w .state)) (x .items) (x .stack) (x .waiting) (inv .layout) (rw (inv .flag) at e)
 
   -- what `out` at the end of the used bytes needs
   at-end : (out : List ℕ) (y : Config) (z : Model Argument) → w .state .used + length out ≤ length (w .buffer) → y .state .used ≡ w .state .used + length out
-      → y .buffer ≡ splice (w .state .used) (w .state .used) out (w .buffer) → y .state .waiting ≡ isSome (z .waiting) → length (y .state .containers) ≡ mostOpen → LayoutOf done (live w ++ out) (openContainers (y .state)) z → Invariant done y z
-  at-end out y z room eu eb ef es c = put-keeps done out (live w) w x y z inv (w .state .used) (omega arith) room refl eu eb ef es c
+      → y .buffer ≡ splice (w .state .used) (w .state .used) out (w .buffer) → y .state .depth ≤ mostOpen → y .state .waiting ≡ isSome (z .waiting) → length (y .state .containers) ≡ mostOpen → LayoutOf done (live w ++ out) (openContainers (y .state)) z → Invariant done y z
+  at-end out y z room eu eb ed ef es c = put-keeps done out (live w) w x y z inv (w .state .used) (omega arith) room refl eu eb ed ef es c
 
   write-keeps : (an : List ℕ) (a : Argument) → NoneHolds (checks (write an a) w) → Invariant done (effect (write an a) w) (spellArguments (write an a) x)
   unfolding treeBytes
   write-keeps an a h =
       let k = passed w (lacksName (w .state)) (argumentChecks a) (effect (write an a) w .state .used) h in
       let r = can (k .place) in
-      at-end (annotatedBytes an (argumentBytes a)) (effect (write an a) w) (spellArguments (write an a) x) (k .room) refl refl (sym (add-quiet (x .items) (x .stack) (x .waiting) (scalar an a) r)) (inv .records)
-      (add-layout done (live w) (openContainers (w .state)) (x .items) (x .stack) (x .waiting) (scalar an a) (inv .layout) r)
+      at-end (annotatedBytes an (argumentBytes a)) (effect (write an a) w) (spellArguments (write an a) x) (k .room) refl refl (inv .depth) (sym (add-quiet (x .items) (x .stack) (x .waiting) (scalar an a) r))
+      (length-counted (w .state .containers) (w .state .depth) ∙ inv .records)
+      (rw (counted-containers (w .state .containers) (w .state .depth) (omega (arith, inv .depth, inv .records)))
+      (add-layout done (live w) (openContainers (w .state)) (x .items) (x .stack) (x .waiting) (scalar an a) (inv .layout) r))
 
   write-writable : (an : List ℕ) (a : Argument) → NoneHolds (checks (write an a) w) → TypedCall (write an a) → WritableOf x → WritableOf (spellArguments (write an a) x)
   unfolding treeBytes Writable
@@ -110,15 +114,16 @@ module _ (done : List ℕ) (w : Config) (x : Model Argument) (inv : Invariant do
   name-keeps : (n : ℕ) → NoneHolds (checks (name n) w) → Invariant done (effect (name n) w) (spellArguments (name n) x)
   name-keeps n h =
       let k = passed w (not (inStruct (openContainers (w .state))) || w .state .waiting) [] (effect (name n) w .state .used) h in
-      at-end (varUIntBytes n) (effect (name n) w) (spellArguments (name n) x) (k .room) refl refl refl (inv .records)
+      at-end (varUIntBytes n) (effect (name n) w) (spellArguments (name n) x) (k .room) refl refl (inv .depth) refl (inv .records)
       (name-layout done (live w) (openContainers (w .state)) (x .items) (x .stack) (x .waiting) (inv .layout) n (rw (inv .flag) at (k .place)))
 
   opening-keeps : (an : List ℕ) (t : ContainerType) → NoneHolds (checks (opening an t) w) → Invariant done (effect (opening an t) w) (spellArguments (opening an t) x)
   opening-keeps an t h =
       let k = passed w (lacksName (w .state)) ((leb mostOpen (w .state .depth), 4) ∷ []) (effect (opening an t) w .state .used) h in
-      let c = containerAt (w .state .used) an t in
-      let d : w .state .depth < length (w .state .containers) = omega (arith, leb-false mostOpen (w .state .depth) (k .own .0), inv .records) in
-      at-end (reserve an) (effect (opening an t) w) (spellArguments (opening an t) x) (k .room) refl refl refl (length-set (w .state .containers) (w .state .depth) c ∙ inv .records)
+      let c = containerAt (w .state .used) an t 0 in
+      let m : w .state .depth < mostOpen = leb-false mostOpen (w .state .depth) (k .own .0) in
+      let d : w .state .depth < length (w .state .containers) = omega (arith, m, inv .records) in
+      at-end (reserve an) (effect (opening an t) w) (spellArguments (opening an t) x) (k .room) refl refl (omega arith) refl (length-set (w .state .containers) (w .state .depth) c ∙ inv .records)
       (rw (opened-containers (w .state .containers) (w .state .depth) c d) (rw length-live at (opening-layout done (live w) (openContainers (w .state)) (x .items) (x .stack) (x .waiting) (inv .layout) an t (can (k .place)))))
 
   -- the innermost container, for a closing and an abandonment
@@ -128,21 +133,23 @@ module _ (done : List ℕ) (w : Config) (x : Model Argument) (inv : Invariant do
   -- what `out` in the place of the innermost container needs
   in-place : (out : List ℕ) (y : Config) (z : Model Argument) (d : Innermost done (live w) (openContainers (w .state)) (x .items) (x .stack) (x .waiting)) → innermostStart (openContainers (w .state)) (w .state .used) + length out ≤ length (w .buffer)
       → y .state .used ≡ innermostStart (openContainers (w .state)) (w .state .used) + length out → y .buffer ≡ splice (w .state .used) (innermostStart (openContainers (w .state)) (w .state .used)) out (w .buffer)
-      → y .state .waiting ≡ isSome (z .waiting) → length (y .state .containers) ≡ mostOpen → LayoutOf done (d .pre ++ out) (openContainers (y .state)) z → Invariant done y z
-  in-place out y z d room eu eb ef es c =
+      → y .state .depth ≤ mostOpen → y .state .waiting ≡ isSome (z .waiting) → length (y .state .containers) ≡ mostOpen → LayoutOf done (d .pre ++ out) (openContainers (y .state)) z → Invariant done y z
+  in-place out y z d room eu eb ed ef es c =
       let p = innermostStart (openContainers (w .state)) (w .state .used) in
       let at : p ≡ length (d .pre) = d .starts (w .state .used) in
       let le : p ≤ w .state .used = omega (arith, d .within, length-live) in
       let front : take p (w .buffer) ≡ d .pre = sym (take-take p (w .state .used) (w .buffer) le) ∙ rw at (d .front) in
-      put-keeps done out (d .pre) w x y z inv p le room front eu eb ef es c
+      put-keeps done out (d .pre) w x y z inv p le room front eu eb ed ef es c
 
   closing-keeps : NoneHolds (checks closing w) → Invariant done (effect closing w) (spellArguments closing x)
   closing-keeps h =
       let k = passed w (not (isOpen (openContainers (w .state))) || w .state .waiting) [] (effect closing w .state .used) h in
       let b = or-false (isOpen (openContainers (w .state))) (w .state .waiting) (k .place) in
       let d = inner (b .0) in
-      in-place (closedInnermost (openContainers (w .state)) (live w)) (effect closing w) (spellArguments closing x) d (k .room) refl refl (sym (d .quiet)) (inv .records)
-      (rw (closed-containers (w .state .containers) (w .state .depth)) (d .closes (sym (inv .flag) ∙ b .1)))
+      in-place (closedInnermost (openContainers (w .state)) (live w)) (effect closing w) (spellArguments closing x) d (k .room) refl refl (omega (arith, inv .depth)) (sym (d .quiet))
+      (length-counted (w .state .containers) (w .state .depth - 1) ∙ inv .records)
+      (rw (counted-containers (w .state .containers) (w .state .depth - 1) (omega (arith, inv .depth, inv .records)), closed-containers (w .state .containers) (w .state .depth))
+      (d .closes (sym (inv .flag) ∙ b .1)))
 
   closing-writable : NoneHolds (checks closing w) → WritableOf x → WritableOf (spellArguments closing x)
   closing-writable h o =
@@ -154,13 +161,13 @@ module _ (done : List ℕ) (w : Config) (x : Model Argument) (inv : Invariant do
   abandonment-keeps h =
       let k = passed w (not (isOpen (openContainers (w .state)))) [] (effect abandonment w .state .used) h in
       let d = inner (not-false (isOpen (openContainers (w .state))) (k .place)) in
-      in-place [] (effect abandonment w) (spellArguments abandonment x) d (k .room) refl refl (d .again) (inv .records)
+      in-place [] (effect abandonment w) (spellArguments abandonment x) d (k .room) refl refl (omega (arith, inv .depth)) (d .again) (inv .records)
       (rw (append-nil, closed-containers (w .state .containers) (w .state .depth)) (d .abandoned))
 
   marker-keeps : NoneHolds (checks versionMarker w) → Invariant done (effect versionMarker w) (spellArguments versionMarker x)
   marker-keeps h =
       let k = passed w (isOpen (openContainers (w .state))) [] (effect versionMarker w .state .used) h in
-      at-end markerBytes (effect versionMarker w) (spellArguments versionMarker x) (k .room) refl refl (inv .flag) (inv .records)
+      at-end markerBytes (effect versionMarker w) (spellArguments versionMarker x) (k .room) refl refl (inv .depth) (inv .flag) (inv .records)
       (marker-layout done (live w) (openContainers (w .state)) (x .items) (x .stack) (x .waiting) (inv .layout) (k .place))
 
   -- ---- takings and emptyings
@@ -186,6 +193,7 @@ module _ (done : List ℕ) (w : Config) (x : Model Argument) (inv : Invariant do
       record {
         fit = omega arith;
         short = inv .short;
+        depth = inv .depth;
         flag = inv .flag;
         records = inv .records;
         layout = rw (taken-live (k .place)) (emptying-layout done (live w) (openContainers (w .state)) (x .items) (x .stack) (x .waiting) (inv .layout) (k .place));

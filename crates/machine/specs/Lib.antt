@@ -3,3 +3,4 @@ pub mod Machine
 pub mod Numbers
 pub mod Model
 pub mod Demands
+pub mod Counts

@@ -34,7 +34,7 @@ longestBuffer = 16777215
 -- ---- the open containers
 
 abbrev pub noContainer : Container
-noContainer = record { start = 0; header = 0; code = 0 }
+noContainer = record { start = 0; header = 0; code = 0; members = 0 }
 
 -- the first n records of the array, the last of them, which is the innermost, first
 abbrev pub innermostFirst : List Container → ℕ → List Container
@@ -57,6 +57,19 @@ abbrev pub outer : List Container → List Container
 outer [] = []
 outer (c ∷ cs) = cs
 
+-- one member more (document 02, Item 3): a scalar, or an inner container that is closed; in a struct with its name
+abbrev pub withMember : Container → Container
+withMember c = record { start = c .start; header = c .header; code = c .code; members = c .members + 1 }
+
+-- the innermost of the first n records has one member more; with none open there is none to count it
+abbrev pub counted : List Container → ℕ → List Container
+counted l zero = l
+counted l (suc n) = set l n (withMember (getD l n noContainer))
+
+abbrev pub innermostMembers : List Container → ℕ
+innermostMembers [] = 0
+innermostMembers (c ∷ cs) = c .members
+
 -- ---- the bytes that an opening reserves, and that a closing puts in their place
 
 abbrev pub containerCode : ContainerType → ℕ
@@ -75,17 +88,17 @@ headerPlace p [] = p
 headerPlace p (a ∷ an) = p + 2 + length (annotationBytes (a ∷ an))
 
 -- The body lies behind the header's reserve, the annotations between the two reserves. The wrapper's length counts the final inner header.
-unfoldable pub closedBytes : Container → List ℕ → List ℕ
-closedBytes c live =
-    elim (eqb (c .header) (c .start)) [
-      | true ↦ framedBytes (c .code) (drop (c .header + 2) live)
-      | false ↦ framedBytes (typeByte annotationCode) (slice (c .start + 2) (c .header) live ++ framedBytes (c .code) (drop (c .header + 2) live))
+unfoldable pub closedBytes : ℕ → ℕ → ℕ → List ℕ → List ℕ
+closedBytes start header code live =
+    elim (eqb header start) [
+      | true ↦ framedBytes code (drop (header + 2) live)
+      | false ↦ framedBytes (typeByte annotationCode) (slice (start + 2) header live ++ framedBytes code (drop (header + 2) live))
     ]
 
 -- with none open there is nothing to close, and the call is refused
 abbrev pub closedInnermost : List Container → List ℕ → List ℕ
 closedInnermost [] live = []
-closedInnermost (c ∷ cs) live = closedBytes c live
+closedInnermost (c ∷ cs) live = closedBytes (c .start) (c .header) (c .code) live
 
 abbrev pub innermostStart : List Container → ℕ → ℕ
 innermostStart [] used = used
@@ -116,28 +129,28 @@ put w x = record {
   buffer = splice (w .state .used) (x .place) (x .out) (w .buffer);
 }
 
--- `out` at the end of the used bytes, with the containers as they are
-abbrev pub atEnd : State → List ℕ → Bool → Change
-atEnd s out waits = record { place = s .used; out = out; depth = s .depth; waiting = waits; containers = s .containers }
+-- `out` at the end of the used bytes, with the records cs
+abbrev pub atEnd : State → List ℕ → Bool → List Container → Change
+atEnd s out waits cs = record { place = s .used; out = out; depth = s .depth; waiting = waits; containers = cs }
 
--- an opening sets the record at the depth
+-- an opening sets the record at the depth; it is no member of the outer container before it is closed
 abbrev pub openingOf : State → List ℕ → ContainerType → Change
 openingOf s an k = record {
   place = s .used;
   out = reserve an;
   depth = s .depth + 1;
   waiting = false;
-  containers = set (s .containers) (s .depth) (record { start = s .used; header = headerPlace (s .used) an; code = containerCode k });
+  containers = set (s .containers) (s .depth) (record { start = s .used; header = headerPlace (s .used) an; code = containerCode k; members = 0 });
 }
 
--- `out` in the place of the innermost container: a closing and an abandonment lower the depth and leave the array
-abbrev pub inPlace : State → List ℕ → Bool → Change
-inPlace s out waits = record {
+-- `out` in the place of the innermost container, with the records cs: a closing and an abandonment lower the depth
+abbrev pub inPlace : State → List ℕ → Bool → List Container → Change
+inPlace s out waits cs = record {
   place = innermostStart (openContainers s) (s .used);
   out = out;
   depth = s .depth - 1;
   waiting = waits;
-  containers = s .containers;
+  containers = cs;
 }
 
 -- an emptying sets the used length to 0, and alters no byte
@@ -149,11 +162,13 @@ emptied w = record {
 
 -- ---- "Checks by place"
 
--- each type code B0, C0 or D0; header equals start or lies 4 or more beyond it; header plus 2 at most `limit`
+-- each type code B0, C0 or D0; header equals start or lies 4 or more beyond it; header plus 2 at most `limit`;
+-- no more members than bytes from there to `limit` (document 02, Item 3)
 unfoldable pub containerFits : ℕ → Container → Bool
 containerFits limit c =
     (eqb (c .code) (typeByte listCode) || (eqb (c .code) (typeByte sexpCode) || eqb (c .code) (typeByte structCode)))
-    && ((eqb (c .header) (c .start) || leb (c .start + 4) (c .header)) && leb (c .header + 2) limit)
+    && ((eqb (c .header) (c .start) || leb (c .start + 4) (c .header))
+    && (leb (c .header + 2) limit && leb (c .members) (limit - (c .header + 2))))
 
 -- the limit is the next start, or used for the innermost
 unfoldable pub containersFit : ℕ → List Container → Bool
@@ -193,12 +208,14 @@ taken w = take (finishedLength (w .state) (length (w .buffer))) (w .buffer)
 
 -- ---- the calls
 
--- What a closing answers of the container that it closes: the bytes that it takes, headers and annotations counted.
+-- What a closing answers of the container that it closes: the bytes that it takes, headers and annotations counted, and how many members it has.
 pub record Figures : Type 0 where
   pub size : ℕ
+  pub members : ℕ
 
+-- what stands in their place where a closing is refused, and in any other call
 abbrev pub noFigures : Figures
-noFigures = record { size = 0 }
+noFigures = record { size = 0; members = 0 }
 
 -- What is said of a call: the lines of the table that it has, in their order; and where none of them fails, what it leaves, which finished bytes it lets go,
 -- and what it answers of a container.
@@ -215,16 +232,20 @@ puts w misplaced own x f = record { checks = lines w misplaced own (put w x .sta
 -- After an abandonment a name waits again exactly if the container that is then innermost is a struct.
 -- A taking has no number: it hands back a part, which may be empty.
 abbrev pub ruleOf : Call → Config → Rule
-ruleOf (write an a) w = puts w (lacksName (w .state)) (argumentChecks a) (atEnd (w .state) (annotatedBytes an (argumentBytes a)) false) noFigures
+ruleOf (write an a) w =
+    let cs = counted (w .state .containers) (w .state .depth) in
+    puts w (lacksName (w .state)) (argumentChecks a) (atEnd (w .state) (annotatedBytes an (argumentBytes a)) false cs) noFigures
 ruleOf (name n) w =
-    puts w (not (inStruct (openContainers (w .state))) || w .state .waiting) [] (atEnd (w .state) (varUIntBytes n) true) noFigures
+    puts w (not (inStruct (openContainers (w .state))) || w .state .waiting) [] (atEnd (w .state) (varUIntBytes n) true (w .state .containers)) noFigures
 ruleOf (opening an k) w = puts w (lacksName (w .state)) ((leb mostOpen (w .state .depth), 4) ∷ []) (openingOf (w .state) an k) noFigures
 ruleOf closing w =
     let out = closedInnermost (openContainers (w .state)) (live w) in
-    puts w (not (isOpen (openContainers (w .state))) || w .state .waiting) [] (inPlace (w .state) out false) (record { size = length out })
+    let cs = counted (w .state .containers) (w .state .depth - 1) in
+    puts w (not (isOpen (openContainers (w .state))) || w .state .waiting) [] (inPlace (w .state) out false cs)
+    (record { size = length out; members = innermostMembers (openContainers (w .state)) })
 ruleOf abandonment w =
-    puts w (not (isOpen (openContainers (w .state)))) [] (inPlace (w .state) [] (inStruct (outer (openContainers (w .state))))) noFigures
-ruleOf versionMarker w = puts w (isOpen (openContainers (w .state))) [] (atEnd (w .state) markerBytes (w .state .waiting)) noFigures
+    puts w (not (isOpen (openContainers (w .state)))) [] (inPlace (w .state) [] (inStruct (outer (openContainers (w .state)))) (w .state .containers)) noFigures
+ruleOf versionMarker w = puts w (isOpen (openContainers (w .state))) [] (atEnd (w .state) markerBytes (w .state .waiting) (w .state .containers)) noFigures
 ruleOf taking w = record { checks = []; effect = w; flushes = []; figures = noFigures }
 ruleOf emptying w = record { checks = lines w (isOpen (openContainers (w .state))) [] 0; effect = emptied w; flushes = taken w; figures = noFigures }
 

@@ -16,12 +16,14 @@ pub const STRUCT: u8 = 0xD0;
 // A version marker.
 pub const MARKER: [u8; 4] = [0xE0, 0x01, 0x00, 0xEA];
 
-// An open container: where it starts, where the reserve of its header lies, and its type code: B0 for a list, C0 for an s-expression, D0 for a struct.
+// An open container: where it starts, where the reserve of its header lies, its type code (B0 for a list, C0 for an s-expression, D0 for a struct),
+// and how many direct members it has; a struct counts its name and value pairs.
 // Without annotations the header lies at the start; with them it lies behind the wrapper's reserve and the annotations.
 pub struct Container {
     pub start: usize,
     pub header: usize,
     pub code: u8,
+    pub members: usize,
 }
 
 // The used length of the lent buffer, how many containers are open, whether a field name waits for its value, and the containers, outermost first.
@@ -58,9 +60,11 @@ pub struct Written {
     pub state: State,
 }
 
-// What a closing answers: the same, and how many bytes the closed container takes, headers and annotations counted; 0 where it is refused.
+// What a closing answers: the same, how many bytes the closed container takes, headers and annotations counted, and how many members it has;
+// both are 0 where it is refused.
 pub struct Closed {
     pub answer: Answer,
     pub state: State,
     pub size: usize,
+    pub members: usize,
 }

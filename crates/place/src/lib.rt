@@ -30,10 +30,13 @@ pub fn container_fits(c: Container, limit: usize) -> bool
         return false;
     }
     let beyond = header - start;
-    let body = limit - header;
+    let held = limit - header;
+    if held < 2 {
+        return false;
+    }
     ((code == LIST) | (code == SEXP) | (code == STRUCT))
         & ((beyond == 0) | (4 <= beyond))
-        & (2 <= body)
+        & (c.members <= held - 2)
 }
 
 // Whether the innermost container is a struct; of a state with too many containers it says nothing.

@@ -6,18 +6,19 @@ use native.Mathlib.Nat.{add-zero, add-suc, suc-add, zero-add, add-mul-div-left, 
 use mathlib.Core.Path.{_≡_, refl, sym, _∙_, ap}
 use mathlib.Core.Bool.{Bool, true, false, false≢true, not, _&&_, _||_, and-false, and-true}
 use mathlib.Core.List.{List, [], _∷_, _++_}
-use lib.Dec.{eqb, ltb, leb}
-use lib.ListN.{length, getD, set, List·getD-eq-default, replicate}
+use lib.Dec.{eqb, ltb, leb, eqb·suc-zero}
+use lib.ListN.{length, getD, take, set, List·getD-append, List·getD-eq-default, replicate}
+use lib.Seq.{getD-take, getD-set-same, length-take-le}
 use mir.Val.{boolByte}
 use borrow.Author.Tests.{eq-eqb, ne-eqb, eqb-true, eqb-false, lt-ltb, le-ltb, lt-leb, le-leb, leb-true, leb-false, ltb-true, ltb-false}
 use Rattle.ion.proofs.Tests.{by-cases, both}
-use Rattle.buffer.specs.Laid.{laid}
-use Rattle.buffer.proofs.Laid.{laid-one, laid-snoc, laid-more}
+use Rattle.buffer.specs.Laid.{laid, placed}
+use Rattle.buffer.proofs.Laid.{laid-one, laid-snoc, length-laid, laid-more, placed-fits, placed-full}
 use Rattle.machine.specs.declared.Container.{Container}
 use Rattle.machine.specs.declared.State.{State}
-use Rattle.machine.specs.Machine.{mostOpen, longestBuffer, noContainer, innermostFirst, openContainers, inStruct, outer, containersFit, fits, placeVerdict, isAccepted}
-use Rattle.place.proofs.Laws.{innermost-step, innermost-none, fits-overused, fits-overopen}
-use Rattle.state_bytes.specs.StateBytes.{headSize, recordSize, stateSize, four, placeOf, containerAt, containersFrom, unfitState, stateOf, fourBytes, flag, storedHead, storedContainer}
+use Rattle.machine.specs.Machine.{mostOpen, longestBuffer, noContainer, innermostFirst, openContainers, inStruct, outer, withMember, counted, containerFits, containersFit, fits, placeVerdict, isAccepted}
+use Rattle.place.proofs.Laws.{same-test, same-leb, innermost-step, innermost-none, chain-step, fits-overused, fits-overopen}
+use Rattle.state_bytes.specs.StateBytes.{headSize, recordSize, stateSize, four, placeOf, containerAt, containersFrom, unfitState, stateOf, fourBytes, flag, storedHead, storedContainer, storedMembers, storedCount, numbersLaid}
 
 -- ---- the state
 
@@ -73,15 +74,19 @@ inStruct-step l n h = rw (innermost-step l n h)
 pub inStruct-none : (l : List Container) (n : ℕ) → n ≤ 0 → false ≡ inStruct (innermostFirst l n)
 inStruct-none l n h = rw (innermost-none l n h)
 
--- the code of the container below d; at 0 the byte there belongs to none
-pub struct-below : (b : List ℕ) (d : ℕ) → length b ≡ stateSize → d ≤ mostOpen → (not (eqb d 0) && eqb (getD b (headSize + recordSize * d - 1) 0) 0xD0) ≡ inStruct (innermostFirst (stateOf b .containers) d)
-struct-below b d h k =
+-- the code of the container below d; at 0 the byte there is the highest of the used length
+pub struct-below : (b : List ℕ) (d : ℕ) → length b ≡ stateSize → d ≤ mostOpen → stateOf b .used ≤ longestBuffer
+    → eqb (getD b (headSize + recordSize * d - 5) 0) 0xD0 ≡ inStruct (innermostFirst (stateOf b .containers) d)
+struct-below b d h k u =
     by-cases (eqb d 0)
-    (λ p. rw p (inStruct-none (stateOf b .containers) d (omega (arith, eqb-true d 0 p))))
+    (λ p.
+    let e : headSize + recordSize * d - 5 ≡ 3 = omega (arith, eqb-true d 0 p) in
+    let f : four b 0 ≤ longestBuffer = rw (state-is b h) at u in
+    rw (e, ne-eqb (getD b 3 0) 0xD0 (λ q. omega (arith, f, q))) (inStruct-none (stateOf b .containers) d (omega (arith, eqb-true d 0 p))))
     (λ p.
     let q : 0 < d = positive (eqb-false d 0 p) in
-    let e : headSize + recordSize * d - 1 ≡ placeOf (d - 1) + 8 = omega arith in
-    rw (p, e) (sym (ap (λ (c : Container). eqb (c .code) 0xD0) (ap (λ (s : State). getD (s .containers) (d - 1) noContainer) (state-is b h) ∙ container-is b (d - 1) (omega arith))) ∙ inStruct-step (stateOf b .containers) d q))
+    let e : headSize + recordSize * d - 5 ≡ placeOf (d - 1) + 8 = omega arith in
+    rw e (sym (ap (λ (c : Container). eqb (c .code) 0xD0) (ap (λ (s : State). getD (s .containers) (d - 1) noContainer) (state-is b h) ∙ container-is b (d - 1) (omega arith))) ∙ inStruct-step (stateOf b .containers) d q))
   where
     positive : (d ≡ 0 → ⊥) → 0 < d
     positive n = omega (arith, n)
@@ -94,6 +99,31 @@ outer-none l n h = rw (innermost-none l n h)
 
 -- ---- whether it fits
 
+-- the codes with their halves exchanged are 11, 12 and 13
+module _ (code : ℕ) where
+  abbrev exchanged : ℕ
+  exchanged = code / 16 + code % 16 * 16
+
+  named : (leb 11 exchanged && leb exchanged 13) ≡ true → (eqb code 0xB0 || (eqb code 0xC0 || eqb code 0xD0)) ≡ true
+  named e =
+      let p = leb-true 11 exchanged (both {a = leb 11 exchanged} e .0) in
+      let q = leb-true exchanged 13 (both {a = leb 11 exchanged} e .1) in
+      let z : code % 16 ≡ 0 = omega (arith, q) in
+      let m : code ≡ 16 * (code / 16) = omega arith in
+      by-cases (eqb code 0xB0) (λ s. rw s)
+      (λ s. by-cases (eqb code 0xC0) (λ t. rw (s, t)) (λ t. rw (s, t) (eq-eqb code 0xD0 (omega (arith, p, q, eqb-false code 0xB0 s, eqb-false code 0xC0 t)))))
+
+  among : (n : ℕ) → code ≡ 16 * n → 11 ≤ n → n ≤ 13 → (leb 11 exchanged && leb exchanged 13) ≡ true
+  among n e p q = rw (le-leb 11 exchanged (omega arith), le-leb exchanged 13 (omega arith))
+
+  pub exchanged-code : (leb 11 exchanged && leb exchanged 13) ≡ (eqb code 0xB0 || (eqb code 0xC0 || eqb code 0xD0))
+  exchanged-code =
+      same-test (leb 11 exchanged && leb exchanged 13) (eqb code 0xB0 || (eqb code 0xC0 || eqb code 0xD0)) named
+      (λ e.
+      by-cases (eqb code 0xB0) (λ s. among 11 (eqb-true code 0xB0 s) (omega arith) (omega arith))
+      (λ s. by-cases (eqb code 0xC0) (λ t. among 12 (eqb-true code 0xC0 t) (omega arith) (omega arith))
+      (λ t. among 13 (eqb-true code 0xD0 (rw (s, t) at e)) (omega arith) (omega arith))))
+
 -- a slice of another length
 pub unfit : (b : List ℕ) (room : ℕ) → (length b ≡ stateSize → ⊥) → false ≡ fits (stateOf b) room
 unfit b room h = rw (state-none b h) (fits-overopen unfitState room (omega arith) (omega arith))
@@ -101,6 +131,13 @@ unfit b room h = rw (state-none b h) (fits-overopen unfitState room (omega arith
 -- what can be read has the right length
 pub readable-size : (b : List ℕ) → leb (stateOf b .depth) mostOpen ≡ true → length b ≡ stateSize
 readable-size b e = by-cases (eqb (length b) stateSize) (λ p. eqb-true (length b) stateSize p) (λ p. absurd (false≢true (rw (state-none b (eqb-false (length b) stateSize p)) at e)))
+
+-- members within what is left of the limit
+pub within : (end members limit : ℕ) → (leb end limit && leb members (limit - end)) ≡ leb (end + members) limit
+within end members limit =
+    by-cases (leb end limit)
+    (λ p. let h = leb-true end limit p in rw p (same-leb members (limit - end) (end + members) limit (λ k. omega arith) (λ k. omega arith)))
+    (λ p. rw (p, lt-leb (end + members) limit (omega (arith, leb-false end limit p))))
 
 -- a header that is the start or lies four beyond it
 pub apart : (header start : ℕ) → (not (eqb header start) && ltb header (start + 4)) ≡ false → (eqb header start || leb (start + 4) header) ≡ true
@@ -112,6 +149,19 @@ pub between : (header start : ℕ) → (not (eqb header start) && ltb header (st
 between header start e =
     by-cases (eqb header start) (λ p. let q : false ≡ true = rw p at e in absurd (false≢true q))
     (λ p. let q : ltb header (start + 4) ≡ true = rw p at e in rw (p, lt-leb (start + 4) header (ltb-true header (start + 4) q)))
+
+-- ---- the containers, one by one
+
+-- c is the container below i
+module _ (b : List ℕ) (i limit : ℕ) (c : Container) (h : length b ≡ stateSize) (some : 0 < i) (most : i ≤ mostOpen) (e : c ≡ containerAt b (placeOf (i - 1))) where
+  chain-by : containersFit limit (innermostFirst (stateOf b .containers) i) ≡ (containerFits limit c && containersFit (c .start) (innermostFirst (stateOf b .containers) (i - 1)))
+  chain-by = chain-step (stateOf b .containers) i limit some ∙ rw (← (container-at b i c h some most e))
+
+  pub chain-unfit : containerFits limit c ≡ false → containersFit limit (innermostFirst (stateOf b .containers) i) ≡ false
+  chain-unfit n = chain-by ∙ rw n
+
+  pub chain-fit : containerFits limit c ≡ true → containersFit limit (innermostFirst (stateOf b .containers) i) ≡ containersFit (c .start) (innermostFirst (stateOf b .containers) (i - 1))
+  chain-fit n = chain-by ∙ rw n
 
 -- ---- stores
 
@@ -130,12 +180,108 @@ stored-head b l m n used depth f waiting h p q r e =
     let a : m ≡ laid b 0 (fourBytes used ++ (depth % 256 ∷ [])) = q ∙ ap (λ (x : List ℕ). laid x 4 (depth % 256 ∷ [])) p ∙ laid-more b 0 (fourBytes used) (omega arith) (depth % 256 ∷ []) in
     rw (eq-eqb (length b) stateSize h, storedHead, ← e) (r ∙ ap (λ (x : List ℕ). laid x 5 (f ∷ [])) a ∙ laid-more b 0 (fourBytes used ++ (depth % 256 ∷ [])) (omega arith) (f ∷ []))
 
-pub stored-container : (b l m n : List ℕ) (i : ℕ) (c : Container) → length b ≡ stateSize → i < mostOpen → l ≡ laid b (placeOf i) (fourBytes (c .start)) → m ≡ laid l (placeOf i + 4) (fourBytes (c .header)) → n ≡ laid m (placeOf i + 8) (c .code ∷ []) → n ≡ storedContainer i c b
+pub stored-container : (b l m n o : List ℕ) (i : ℕ) (c : Container) → length b ≡ stateSize → i < mostOpen → l ≡ laid b (placeOf i) (fourBytes (c .start)) → m ≡ laid l (placeOf i + 4) (fourBytes (c .header)) → n ≡ laid m (placeOf i + 8) (c .code ∷ []) → o ≡ laid n (placeOf i + 9) (fourBytes (c .members)) → o ≡ storedContainer i c b
 unfolding storedContainer
-stored-container b l m n i c h k p q r =
+stored-container b l m n o i c h k p q r s =
     let a : m ≡ laid b (placeOf i) (fourBytes (c .start) ++ fourBytes (c .header)) = q ∙ ap (λ (x : List ℕ). laid x (placeOf i + 4) (fourBytes (c .header))) p ∙ laid-more b (placeOf i) (fourBytes (c .start)) (omega arith) (fourBytes (c .header)) in
+    let e : n ≡ laid b (placeOf i) (fourBytes (c .start) ++ (fourBytes (c .header) ++ (c .code ∷ []))) = r ∙ ap (λ (x : List ℕ). laid x (placeOf i + 8) (c .code ∷ [])) a ∙ laid-more b (placeOf i) (fourBytes (c .start) ++ fourBytes (c .header)) (omega arith) (c .code ∷ []) in
     rw (eq-eqb (length b) stateSize h, lt-ltb i mostOpen k, storedContainer)
-    (r ∙ ap (λ (x : List ℕ). laid x (placeOf i + 8) (c .code ∷ [])) a ∙ laid-more b (placeOf i) (fourBytes (c .start) ++ fourBytes (c .header)) (omega arith) (c .code ∷ []))
+    (s ∙ ap (λ (x : List ℕ). laid x (placeOf i + 9) (fourBytes (c .members))) e ∙ laid-more b (placeOf i) (fourBytes (c .start) ++ (fourBytes (c .header) ++ (c .code ∷ []))) (omega arith) (fourBytes (c .members)))
+
+-- a count lies behind the head
+module _ (b : List ℕ) (i n : ℕ) where
+  head-byte : (p : ℕ) → length b ≡ stateSize → i < mostOpen → p < headSize → getD (laid b (placeOf i + 9) (fourBytes n)) p 0 ≡ getD b p 0
+  unfolding laid
+  head-byte p h k q =
+      List·getD-append (take (placeOf i + 9) b) _ 0 p (rw (length-take-le (placeOf i + 9) b (omega arith)) (omega arith)) ∙ getD-take (placeOf i + 9) b p 0 (omega arith)
+
+  length-members : length (storedMembers i n b) ≡ length b
+  unfolding storedMembers
+  length-members =
+      by-cases (eqb (length b) stateSize)
+      (λ p. by-cases (ltb i mostOpen)
+      (λ q. rw (p, q, storedMembers) (length-laid b (placeOf i + 9) (fourBytes n) (omega (arith, eqb-true (length b) stateSize p, ltb-true i mostOpen q))))
+      (λ q. rw (p, q, storedMembers)))
+      (λ p. rw (p, storedMembers))
+
+  members-byte : (p : ℕ) → length b ≡ stateSize → p < headSize → getD (storedMembers i n b) p 0 ≡ getD b p 0
+  unfolding storedMembers
+  members-byte p h q =
+      by-cases (ltb i mostOpen)
+      (λ t. rw (eq-eqb (length b) stateSize h, t, storedMembers) (head-byte p h (ltb-true i mostOpen t) q))
+      (λ t. rw (eq-eqb (length b) stateSize h, t, storedMembers))
+
+  members-used : stateOf (storedMembers i n b) .used ≡ stateOf b .used
+  members-used =
+      by-cases (eqb (length b) stateSize)
+      (λ p.
+      let h = eqb-true (length b) stateSize p in
+      rw (state-is (storedMembers i n b) (length-members ∙ h), state-is b h, members-byte 0 h (omega arith), members-byte 1 h (omega arith), members-byte 2 h (omega arith), members-byte 3 h (omega arith)))
+      (λ p. let k = eqb-false (length b) stateSize p in rw (state-none (storedMembers i n b) (λ q. k (sym length-members ∙ q)), state-none b k))
+
+  members-depth : stateOf (storedMembers i n b) .depth ≡ stateOf b .depth
+  members-depth =
+      by-cases (eqb (length b) stateSize)
+      (λ p. let h = eqb-true (length b) stateSize p in rw (state-is (storedMembers i n b) (length-members ∙ h), state-is b h) (members-byte 4 h (omega arith)))
+      (λ p. let k = eqb-false (length b) stateSize p in rw (state-none (storedMembers i n b) (λ q. k (sym length-members ∙ q)), state-none b k))
+
+pub counted-used : (b : List ℕ) (d : ℕ) (cs : List Container) → stateOf (storedCount d cs b) .used ≡ stateOf b .used
+counted-used b zero cs = refl
+counted-used b (suc i) cs = members-used b i (getD cs i noContainer .members)
+
+pub counted-depth : (b : List ℕ) (d : ℕ) (cs : List Container) → stateOf (storedCount d cs b) .depth ≡ stateOf b .depth
+counted-depth b zero cs = refl
+counted-depth b (suc i) cs = members-depth b i (getD cs i noContainer .members)
+
+-- the count of the innermost of d containers
+module _ (b : List ℕ) (cs : List Container) where
+  pub uncounted-short : (d : ℕ) → (length b ≡ stateSize → ⊥) → b ≡ storedCount d cs b
+  unfolding storedMembers
+  uncounted-short zero h = refl
+  uncounted-short (suc i) h = rw (ne-eqb (length b) stateSize h, storedMembers)
+
+  pub uncounted : (d : ℕ) → (eqb d 0 || ltb mostOpen d) ≡ true → b ≡ storedCount d cs b
+  unfolding storedMembers
+  uncounted zero e = refl
+  uncounted (suc i) e =
+      let q : ltb mostOpen (suc i) ≡ true = rw (eqb·suc-zero i) at e in
+      rw (le-ltb i mostOpen (omega (arith, ltb-true mostOpen (suc i) q)), and-false (eqb (length b) stateSize), storedMembers)
+
+pub some-counted : (d : ℕ) → (eqb d 0 || ltb mostOpen d) ≡ false → (0 < d) × (d ≤ mostOpen)
+some-counted zero e = absurd (false≢true (sym e))
+some-counted (suc i) e = (omega arith, ltb-false mostOpen (suc i) (rw (eqb·suc-zero i) at e))
+
+pub stored-count : (b l : List ℕ) (d n : ℕ) → length b ≡ stateSize → (0 < d) × (d ≤ mostOpen) → n ≡ four b (headSize + recordSize * (d - 1) + 9) → l ≡ laid b (headSize + recordSize * (d - 1) + 9) (fourBytes (n + 1)) → l ≡ storedCount d (counted (stateOf b .containers) d) b
+unfolding storedMembers
+stored-count b l zero n h k e q = absurd (omega (arith, k .0))
+stored-count b l (suc i) n h k e q =
+    let j : i < mostOpen = omega (arith, k .1) in
+    let p : headSize + recordSize * (suc i - 1) + 9 ≡ placeOf i + 9 = omega arith in
+    let c : Container = containerAt b (placeOf i) in
+    let r : getD (stateOf b .containers) i noContainer ≡ c = ap (λ (s : State). getD (s .containers) i noContainer) (state-is b h) ∙ container-is b i j in
+    let g : getD (counted (stateOf b .containers) (suc i)) i noContainer ≡ withMember c =
+    getD-set-same (stateOf b .containers) i (withMember (getD (stateOf b .containers) i noContainer)) noContainer (rw (state-is b h) (omega (arith, length-containers b 0 mostOpen))) ∙ ap withMember r in
+    rw (eq-eqb (length b) stateSize h, lt-ltb i mostOpen j, storedMembers, g) (rw (e, p) at q)
+
+-- the numbers that a closing answers, by how many of them the slice holds
+module _ (b : List ℕ) (n m : ℕ) where
+  -- l is what the first number leaves, r what both leave
+  numbers-by : (k j : ℕ) (l r : List ℕ) → placed b 0 (fourBytes n) ≡ (k, l) → placed l 4 (fourBytes m) ≡ (j, r) → numbersLaid 0 (n ∷ m ∷ []) b ≡ r
+  unfolding numbersLaid
+  numbers-by k j l r p q = ap (λ (x : ℕ × List ℕ). placed (x .1) 4 (fourBytes m) .1) p ∙ ap (λ (x : ℕ × List ℕ). x .1) q
+
+  pub numbers-none : length b < 4 → numbersLaid 0 (n ∷ m ∷ []) b ≡ b
+  numbers-none h = numbers-by 0 0 b b (placed-full b 0 (fourBytes n) (omega arith)) (placed-full b 4 (fourBytes m) (omega arith))
+
+  pub numbers-one : 4 ≤ length b → length b < 8 → numbersLaid 0 (n ∷ m ∷ []) b ≡ laid b 0 (fourBytes n)
+  numbers-one h k =
+      let l : length (laid b 0 (fourBytes n)) ≡ length b = length-laid b 0 (fourBytes n) h in
+      numbers-by 4 0 _ _ (placed-fits b 0 (fourBytes n) h) (placed-full (laid b 0 (fourBytes n)) 4 (fourBytes m) (omega arith))
+
+  pub numbers-both : 8 ≤ length b → numbersLaid 0 (n ∷ m ∷ []) b ≡ laid (laid b 0 (fourBytes n)) 4 (fourBytes m)
+  numbers-both h =
+      let l : length (laid b 0 (fourBytes n)) ≡ length b = length-laid b 0 (fourBytes n) (omega arith) in
+      numbers-by 4 4 _ _ (placed-fits b 0 (fourBytes n) (omega arith)) (placed-fits (laid b 0 (fourBytes n)) 4 (fourBytes m) (omega arith))
 
 -- a multiple of 256 d leaves the byte behind d as it is
 byte-kept : (d x k : ℕ) → 0 < d → (x + d * (256 * k)) / d % 256 ≡ x / d % 256
@@ -201,7 +347,7 @@ module _ (s : State) (room : ℕ) (m : Bool) where
           (λ u. sym (fits-overused s room (leb-false (s .used) room u)))
 
   -- of a state with no more containers than fit: the lines in the order in which they are asked
-  pub passes-is : leb (s .depth) mostOpen ≡ true
+  passes-is : leb (s .depth) mostOpen ≡ true
       → isAccepted (placeVerdict s room m)
       ≡ (leb room longestBuffer && (leb (s .used) room && (not ((s .waiting && not (inStruct (openContainers s))) || m) && containersFit (s .used) (openContainers s))))
   unfolding fits
@@ -212,3 +358,14 @@ module _ (s : State) (room : ℕ) (m : Bool) where
       (by-cases (leb (s .used) room)
       (λ u. rw u (tests (containersFit (s .used) (openContainers s)) (s .waiting) (inStruct (openContainers s)) m))
       (λ u. rw u)))
+
+  -- what is behind the used length counts only where that is not too long
+  pub passes-by : (x : Bool) → leb (s .depth) mostOpen ≡ true
+      → (s .used ≤ longestBuffer → x ≡ (not ((s .waiting && not (inStruct (openContainers s))) || m) && containersFit (s .used) (openContainers s)))
+      → (leb room longestBuffer && (leb (s .used) room && x)) ≡ isAccepted (placeVerdict s room m)
+  passes-by x h e =
+      by-cases (leb room longestBuffer)
+      (λ p. by-cases (leb (s .used) room)
+      (λ q. rw (p, q, e (omega (arith, leb-true room longestBuffer p, leb-true (s .used) room q))) (sym (passes-is h ∙ rw (p, q))))
+      (λ q. rw (p, q) (sym (passes-is h ∙ rw (p, q)))))
+      (λ p. rw p (sym (passes-is h ∙ rw p)))

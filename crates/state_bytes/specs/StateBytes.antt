@@ -1,5 +1,6 @@
--- A writer's state as lent bytes. The head: used in four bytes, least significant first; how many containers are open; whether a name waits, zero for no;
--- two bytes that mean nothing. Then a record of each container: start and header in four bytes each, least significant first, and the type code.
+-- A writer's state as lent bytes. The head: used in four bytes; how many containers are open; whether a name waits, zero for no;
+-- two bytes that mean nothing. Then a record of each container: start and header in four bytes each, the type code, and how many members it has
+-- in four bytes. All numbers have their least significant byte first.
 -- Assumes nothing.
 use Prim.Native.Nat.{ℕ, zero, suc, _+_, _-_, _*_, _/_, _%_}
 use mathlib.Core.Bool.{Bool, true, false, not, _&&_}
@@ -16,7 +17,7 @@ abbrev pub headSize : ℕ
 headSize = 8
 
 abbrev pub recordSize : ℕ
-recordSize = 9
+recordSize = 13
 
 abbrev pub stateSize : ℕ
 stateSize = headSize + recordSize * mostOpen
@@ -31,7 +32,7 @@ abbrev pub placeOf : ℕ → ℕ
 placeOf i = headSize + recordSize * i
 
 abbrev pub containerAt : List ℕ → ℕ → Container
-containerAt b at = record { start = four b at; header = four b (at + 4); code = getD b (at + 8) 0 }
+containerAt b at = record { start = four b at; header = four b (at + 4); code = getD b (at + 8) 0; members = four b (at + 9) }
 
 -- n containers, from the i-th on
 unfoldable pub containersFrom : List ℕ → ℕ → ℕ → List Container
@@ -63,7 +64,7 @@ abbrev pub headBytes : ℕ → ℕ → Bool → List ℕ
 headBytes used depth waiting = fourBytes used ++ (depth % 256 ∷ flag waiting ∷ [])
 
 abbrev pub containerBytes : Container → List ℕ
-containerBytes c = fourBytes (c .start) ++ (fourBytes (c .header) ++ (c .code ∷ []))
+containerBytes c = fourBytes (c .start) ++ (fourBytes (c .header) ++ (c .code ∷ fourBytes (c .members)))
 
 -- used, depth and waiting stored; a slice of another length stays as it is
 unfoldable pub storedHead : ℕ → ℕ → Bool → List ℕ → List ℕ
@@ -72,6 +73,15 @@ storedHead used depth waiting b = elim (eqb (length b) stateSize) [ true ↦ lai
 -- the container i stored
 unfoldable pub storedContainer : ℕ → Container → List ℕ → List ℕ
 storedContainer i c b = elim (eqb (length b) stateSize && ltb i mostOpen) [ true ↦ laid b (placeOf i) (containerBytes c) | false ↦ b ]
+
+-- the number of members of the container i stored
+unfoldable pub storedMembers : ℕ → ℕ → List ℕ → List ℕ
+storedMembers i n b = elim (eqb (length b) stateSize && ltb i mostOpen) [ true ↦ laid b (placeOf i + 9) (fourBytes n) | false ↦ b ]
+
+-- that of the innermost of the first n records; with none open there is none
+abbrev pub storedCount : ℕ → List Container → List ℕ → List ℕ
+storedCount zero cs b = b
+storedCount (suc i) cs b = storedMembers i (getD cs i noContainer .members) b
 
 -- ---- a call over lent bytes
 
@@ -83,12 +93,13 @@ numberOf (refused n) = n
 abbrev pub storedState : State → List ℕ → List ℕ
 storedState s b = storedHead (s .used) (s .depth) (s .waiting) b
 
--- What an accepted call that leaves the state s stores: its head, and an opening the container that it opened. A taking stores nothing.
+-- What an accepted call that leaves the state s stores: its head; a scalar and a closing also the count of the container that they lie in,
+-- an opening the container that it opened. A taking stores nothing.
 abbrev pub storedBy : Call → State → List ℕ → List ℕ
-storedBy (write an a) s b = storedState s b
+storedBy (write an a) s b = storedState s (storedCount (s .depth) (s .containers) b)
 storedBy (name n) s b = storedState s b
 storedBy (opening an k) s b = storedState s (storedContainer (s .depth - 1) (getD (s .containers) (s .depth - 1) noContainer) b)
-storedBy closing s b = storedState s b
+storedBy closing s b = storedState s (storedCount (s .depth) (s .containers) b)
 storedBy abandonment s b = storedState s b
 storedBy versionMarker s b = storedState s b
 storedBy taking s b = b
@@ -113,7 +124,7 @@ entered c st b = enteredBy c st (run c (config (stateOf st) b))
 -- ---- what a closing answers in a slice that is lent for it
 
 abbrev pub numbers : Figures → List ℕ
-numbers f = f .size ∷ []
+numbers f = f .size ∷ f .members ∷ []
 
 -- four bytes each, least significant first, one behind the other, as many of them as the slice holds whole
 unfoldable pub numbersLaid : ℕ → List ℕ → List ℕ → List ℕ

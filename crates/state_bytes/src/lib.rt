@@ -1,27 +1,28 @@
 // A writer's state as lent bytes, and the checks by place on them. No State is made: what lies in an array at a computed place would be copied at every call.
 ghost use mathlib.Core.Path.{_≡_};
-ghost use mathlib.Core.Bool.{not, _&&_, _||_};
+ghost use mathlib.Core.Bool.{false, not, _&&_, _||_};
 ghost use mathlib.Core.List.{[], _∷_};
 ghost use Prim.Native.Nat.{_+_, _-_, _*_, _^_, _≤_, _<_};
-ghost use lib.Dec.{leb};
+ghost use lib.Dec.{eqb, leb};
 ghost use lib.ListN.{length, getD};
 ghost use Rattle.buffer.specs.Laid.{laid};
+ghost use Rattle.ion.specs.Value.{listCode, sexpCode, structCode};
+ghost use Rattle.encoding.specs.Headers.{typeByte};
 ghost use Rattle.machine.specs.Machine.{mostOpen, noContainer, innermostFirst, openContainers, isOpen, inStruct, outer, containerFits, containersFit};
-ghost use Rattle.machine.specs.Machine.{longestBuffer, fits, lacksName, placeVerdict, isAccepted, finishedLength};
+ghost use Rattle.machine.specs.Machine.{counted, longestBuffer, fits, lacksName, placeVerdict, isAccepted, finishedLength};
 ghost use Rattle.machine.specs.Numbers.{verdictOf};
-ghost use Rattle.state_bytes.specs.StateBytes.{stateSize, four, placeOf, containerAt, stateOf, fourBytes, storedHead, storedContainer, numbersLaid};
+ghost use Rattle.state_bytes.specs.StateBytes.{stateSize, four, placeOf, containerAt, stateOf, fourBytes, storedHead, storedContainer, storedCount, numbersLaid};
 use machine::Answer;
 use machine::Container;
 use machine::LIST;
 use machine::LONGEST_BUFFER;
 use machine::MOST_OPEN;
-use machine::SEXP;
 use machine::STRUCT;
 
 // The head, the record of a container, and the state whole.
 const HEAD_SIZE: usize = 8;
 
-const RECORD_SIZE: usize = 9;
+const RECORD_SIZE: usize = 13;
 
 pub const STATE_SIZE: usize = HEAD_SIZE + RECORD_SIZE * MOST_OPEN;
 
@@ -33,6 +34,8 @@ const WAITING: usize = 5;
 const HEADER: usize = 4;
 
 const CODE: usize = 8;
+
+const MEMBERS: usize = 9;
 
 // From the code on to the record's end.
 const CODE_AND_AFTER: usize = RECORD_SIZE - CODE;
@@ -61,13 +64,14 @@ fn get_four(st: &[u8], at: usize) -> usize
 
 fn get_container(st: &[u8], i: usize) -> Container
     requires { ⌜ (i < mostOpen) × (length (now st) ≡ stateSize) ⌝ }
-    ensures { λ r. ⌜ (r ≡ containerAt (now (st .entry)) (placeOf i)) × (r .start < 2 ^ 32) × (r .header < 2 ^ 32) ⌝ }
+    ensures { λ r. ⌜ (r ≡ containerAt (now (st .entry)) (placeOf i)) × (r .start < 2 ^ 32) × (r .header < 2 ^ 32) × (r .members < 2 ^ 32) ⌝ }
 {
     let at = HEAD_SIZE + RECORD_SIZE * i;
     Container {
         start: get_four(st, at),
         header: get_four(st, at + HEADER),
         code: st[at + CODE],
+        members: get_four(st, at + MEMBERS),
     }
 }
 
@@ -110,6 +114,7 @@ pub fn container(st: &[u8], i: usize) -> Container
             start: 0,
             header: 0,
             code: 0,
+            members: 0,
         };
     }
     if MOST_OPEN <= i {
@@ -117,6 +122,7 @@ pub fn container(st: &[u8], i: usize) -> Container
             start: 0,
             header: 0,
             code: 0,
+            members: 0,
         };
     }
     get_container(st, i)
@@ -144,25 +150,56 @@ pub fn outer_is_struct(st: &[u8]) -> bool
     in_struct(st, depth - 1)
 }
 
+// Whether it is a container's type code. With the high and the low four bits exchanged these are neighbours, so that one comparison does for three.
+fn is_code(code: u8) -> bool
+    ensures { λ r. ⌜ r ≡ (eqb code (typeByte listCode) || (eqb code (typeByte sexpCode) || eqb code (typeByte structCode))) ⌝ }
+{
+    let exchanged = code / 16 + code % 16 * 16;
+    (LIST / 16 <= exchanged) & (exchanged <= STRUCT / 16)
+}
+
 // A container by itself, with what follows it starting at `limit`. Its numbers come from four bytes each, so that no sum wraps.
 fn container_fits(c: Container, limit: usize) -> bool
-    requires { ⌜ (c .start < 2 ^ 32) × (c .header < 2 ^ 32) ⌝ }
+    requires { ⌜ (c .start < 2 ^ 32) × (c .header < 2 ^ 32) × (c .members < 2 ^ 32) ⌝ }
     ensures { λ r. ⌜ r ≡ containerFits limit c ⌝ }
 {
     let code = c.code;
     let start = c.start;
     let header = c.header;
-    if limit < header + 2 {
+    if limit < header + 2 + c.members {
         return false;
     }
     if (header != start) & (header < start + 4) {
         return false;
     }
-    (code == LIST) | ((code == SEXP) | (code == STRUCT))
+    is_code(code)
 }
 
 // From the innermost container outwards: each has to end before the next begins.
 fn containers_fit(st: &[u8], used: usize, depth: usize) -> bool
+    requires { ⌜ (depth ≤ mostOpen) × (length (now st) ≡ stateSize) ⌝ }
+    ensures { λ r. ⌜ r ≡ containersFit used (innermostFirst (stateOf (now (st .entry)) .containers) depth) ⌝ }
+{
+    if depth == 0 {
+        return true;
+    }
+    let mut i = depth;
+    let mut limit = used;
+    loop {
+        i -= 1;
+        let c = get_container(st, i);
+        if !container_fits(c, limit) {
+            return false;
+        }
+        if i == 0 {
+            return true;
+        }
+        limit = c.start;
+    }
+}
+
+// The same for a call that is refused: by other code, which the compiler leaves apart from the code of the calls that pass.
+fn each_fits(st: &[u8], used: usize, depth: usize) -> bool
     requires { ⌜ (depth ≤ mostOpen) × (length (now st) ≡ stateSize) ⌝ }
     ensures { λ r. ⌜ r ≡ containersFit used (innermostFirst (stateOf (now (st .entry)) .containers) depth) ⌝ }
 {
@@ -171,7 +208,7 @@ fn containers_fit(st: &[u8], used: usize, depth: usize) -> bool
     while 0 < i {
         i -= 1;
         let c = get_container(st, i);
-        if !container_fits(c, limit) {
+        if !place::container_fits(c, limit) {
             return false;
         }
         limit = c.start;
@@ -197,7 +234,7 @@ pub fn fits(st: &[u8], room: usize) -> bool
     if waiting(st) & !in_struct(st, depth) {
         return false;
     }
-    containers_fit(st, used, depth)
+    each_fits(st, used, depth)
 }
 
 // The first of the lines 1 to 3 that fails.
@@ -264,12 +301,13 @@ fn readable(st: &[u8]) -> bool
     wide(st[DEPTH]) <= MOST_OPEN
 }
 
-// Whether the container below `depth` is a struct. At depth 0 the byte that is read belongs to none.
+// Whether the container below `depth` is a struct. At depth 0 the byte that is read is the highest of the used length, which is 0 in a buffer that is
+// not too long; of another state it says nothing.
 fn innermost_is_struct(st: &[u8], depth: usize) -> bool
     requires { ⌜ (depth ≤ mostOpen) × (length (now st) ≡ stateSize) ⌝ }
-    ensures { λ r. ⌜ r ≡ inStruct (innermostFirst (stateOf (now (st .entry)) .containers) depth) ⌝ }
+    ensures { λ r. let s = stateOf (now (st .entry)) in ⌜ (s .used ≤ longestBuffer → r ≡ inStruct (innermostFirst (s .containers) depth)) ⌝ }
 {
-    (depth != 0) & (st[HEAD_SIZE + RECORD_SIZE * depth - CODE_AND_AFTER] == STRUCT)
+    st[HEAD_SIZE + RECORD_SIZE * depth - CODE_AND_AFTER] == STRUCT
 }
 
 // Whether no line fails; `barred` says that a name waits outside a struct or that line 3 fails.
@@ -278,10 +316,10 @@ fn passes(st: &[u8], room: usize, depth: usize, barred: bool) -> bool
     ensures { λ r. ⌜ r ≡ (leb room longestBuffer && (leb (stateOf (now (st .entry)) .used) room
         && (not barred && containersFit (stateOf (now (st .entry)) .used) (innermostFirst (stateOf (now (st .entry)) .containers) depth)))) ⌝ }
 {
+    let used = get_four(st, 0);
     if LONGEST_BUFFER < room {
         return false;
     }
-    let used = get_four(st, 0);
     if room < used {
         return false;
     }
@@ -427,14 +465,44 @@ pub fn store_container(st: &mut [u8], i: usize, c: Container)
     put_four(st, at, c.start);
     put_four(st, at + HEADER, c.header);
     put_one(st, at + CODE, c.code);
+    put_four(st, at + MEMBERS, c.members);
+}
+
+// The innermost of `depth` containers has one member more; with none open nothing alters.
+pub fn count(st: &mut [u8], depth: usize)
+    ensures { λ r. let b = now (st .entry) in ⌜ now (st .exit) ≡ storedCount depth (counted (stateOf b .containers) depth) b ⌝ }
+{
+    if st.len() != STATE_SIZE {
+        return;
+    }
+    if (depth == 0) | (MOST_OPEN < depth) {
+        return;
+    }
+    let at = HEAD_SIZE + RECORD_SIZE * (depth - 1) + MEMBERS;
+    let members = get_four(st, at);
+    put_four(st, at, members + 1);
+}
+
+// `put` more bytes are used, by a scalar: no name waits, and the innermost container has one member more.
+pub fn grow_by_scalar(st: &mut [u8], put: usize)
+    ensures { λ r. let b = now (st .entry) in ⌜ now (st .exit)
+        ≡ storedHead (stateOf b .used + put) (stateOf b .depth) false (storedCount (stateOf b .depth) (counted (stateOf b .containers) (stateOf b .depth)) b) ⌝ }
+{
+    let depth = depth(st);
+    count(st, depth);
+    grow(st, put, false);
 }
 
 // The numbers that a closing answers, in a slice that is lent for them.
-pub fn answer(lent: &mut [u8], size: usize)
-    ensures { λ r. ⌜ now (lent .exit) ≡ numbersLaid 0 (size ∷ []) (now (lent .entry)) ⌝ }
+pub fn answer(lent: &mut [u8], size: usize, members: usize)
+    ensures { λ r. ⌜ now (lent .exit) ≡ numbersLaid 0 (size ∷ members ∷ []) (now (lent .entry)) ⌝ }
 {
     if lent.len() < NUMBER_SIZE {
         return;
     }
     put_four(lent, 0, size);
+    if lent.len() < 2 * NUMBER_SIZE {
+        return;
+    }
+    put_four(lent, NUMBER_SIZE, members);
 }

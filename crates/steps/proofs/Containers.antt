@@ -4,7 +4,6 @@ use Prim.Native.Nat.{ℕ, zero, suc, _+_, _-_, _<_, _≤_}
 use native.Mathlib.Omega.{arith}
 use mathlib.Core.Path.{_≡_, refl, sym, _∙_, ap, ap₂}
 use mathlib.Core.Bool.{Bool, true, false, false≢true, not, _||_}
-use mathlib.Core.Logic.{⊎-elim}
 use mathlib.Core.List.{List, [], _∷_, _++_}
 use lib.Dec.{ltb, leb, eqb}
 use lib.Seq.{slice}
@@ -16,13 +15,14 @@ use Rattle.encoding.specs.Headers.{typeByte, framedBytes, annotationBytes}
 use Rattle.machine.specs.declared.State.{State}
 use Rattle.machine.specs.declared.Container.{Container}
 use Rattle.machine.specs.Call.{ContainerType, opening, closing, abandonment}
-use Rattle.machine.specs.Machine.{Config, config, mostOpen, longestBuffer, noContainer, innermostFirst, openContainers, isOpen, inStruct, reserve, headerPlace, containerCode, closedBytes, splice, put, noFigures, ruleOf, effect, containerFits, containersFit, fits, checks, accepted, refused, firstFailing, isAccepted, placeVerdict, run}
+use Rattle.machine.specs.Machine.{Config, config, mostOpen, longestBuffer, noContainer, innermostFirst, openContainers, isOpen, inStruct, counted, reserve, headerPlace, containerCode, closedBytes, splice, put, noFigures, ruleOf, effect, containerFits, fits, checks, accepted, refused, firstFailing, isAccepted, placeVerdict, run}
 use Rattle.place.proofs.Laws.{innermost-step, fits-used, chain-step}
 use Rattle.buffer.specs.Laid.{placed}
-use Rattle.containers.proofs.Closed.{fit, closedOn-fits, abandonedOn-fits}
+use Rattle.containers.proofs.Closed.{closedOn-fits, abandonedOn-fits}
 use Rattle.containers.specs.Containers.{spliced, closedOn, abandonedOn}
+use Rattle.steps.proofs.Members.{fits-chain, start-before}
 use Rattle.steps.proofs.Run.{outcome, accepted-with, run-refused, run-accepted, past-place, placed-some, end-refused, end-accepted}
-use Rattle.scalars.proofs.Bytes.{framed-some}
+use Rattle.encoding.proofs.Least.{framed-some}
 
 -- ---- what a place that is accepted says
 
@@ -65,15 +65,10 @@ module _ (s : State) (room : ℕ) (f : fits s room ≡ true) (o : isOpen (openCo
   open-first = innermost-step (s .containers) (s .depth) some-open
 
   pub innermost-fits : containerFits (s .used) (innermost s) ≡ true
-  unfolding fits
-  innermost-fits =
-      let g : containersFit (s .used) (openContainers s) ≡ true = both {a = containersFit (s .used) (openContainers s)} (both {a = leb (s .depth) mostOpen} (both {a = leb (s .used) room} f .1) .1) .0 in
-      both {a = containerFits (s .used) (innermost s)} (sym (chain-step (s .containers) (s .depth) (s .used) some-open) ∙ g) .0
+  innermost-fits = both {a = containerFits (s .used) (innermost s)} (sym (chain-step (s .containers) (s .depth) (s .used) some-open) ∙ fits-chain s room f) .0
 
   pub innermost-before : innermost s .start ≤ s .used
-  innermost-before =
-      let g = fit (innermost s) (s .used) innermost-fits in
-      ⊎-elim (λ e. omega (arith, e, g .within)) (λ e. omega (arith, e, g .within)) (g .apart)
+  innermost-before = start-before (innermost s) (s .used) innermost-fits
 
 -- ---- an opening
 
@@ -96,7 +91,7 @@ openedState s n code = record {
   used = s .used + n;
   depth = s .depth + 1;
   waiting = false;
-  containers = set (s .containers) (s .depth) (record { start = s .used; header = s .used + (n - 2); code = code });
+  containers = set (s .containers) (s .depth) (record { start = s .used; header = s .used + (n - 2); code = code; members = 0 });
 }
 
 module _ (an : List ℕ) (k : ContainerType) (s : State) (b : List ℕ) (n : ℕ) (l : List ℕ)
@@ -113,7 +108,7 @@ module _ (an : List ℕ) (k : ContainerType) (s : State) (b : List ℕ) (n : ℕ
   opening-accepted h =
       let w = placed-some b (s .used) (reserve an) n l e h in
       let q : s .used + (n - 2) ≡ headerPlace (s .used) an = ap (λ (x : ℕ). s .used + (x - 2)) (w .1) ∙ sym (header-last (s .used) an) in
-      ap (λ (x : ℕ). outcome accepted (record { used = s .used + n; depth = s .depth + 1; waiting = false; containers = set (s .containers) (s .depth) (record { start = s .used; header = x; code = containerCode k }) }) l) q
+      ap (λ (x : ℕ). outcome accepted (record { used = s .used + n; depth = s .depth + 1; waiting = false; containers = set (s .containers) (s .depth) (record { start = s .used; header = x; code = containerCode k; members = 0 }) }) l) q
       ∙ end-accepted (opening an k) s b (reserve an) n l e shallow (s .depth + 1) false _ refl refl h
 
 pub opening-deep : (an : List ℕ) (k : ContainerType) (s : State) (b : List ℕ)
@@ -123,12 +118,12 @@ opening-deep an k s b past d = sym (run-refused (opening an k) s b 4 (past ∙ r
 
 -- ---- a closing
 
-closed-least : (c : Container) (live : List ℕ) → 0 < length (closedBytes c live)
+closed-least : (start header code : ℕ) (live : List ℕ) → 0 < length (closedBytes start header code live)
 unfolding closedBytes
-closed-least c live =
-    by-cases (eqb (c .header) (c .start))
-    (λ p. rw (p, closedBytes) (framed-some (c .code) (drop (c .header + 2) live)))
-    (λ p. rw (p, closedBytes) (framed-some (typeByte annotationCode) (slice (c .start + 2) (c .header) live ++ framedBytes (c .code) (drop (c .header + 2) live))))
+closed-least start header code live =
+    by-cases (eqb header start)
+    (λ p. rw (p, closedBytes) (framed-some code (drop (header + 2) live)))
+    (λ p. rw (p, closedBytes) (framed-some (typeByte annotationCode) (slice (start + 2) header live ++ framedBytes code (drop (header + 2) live))))
 
 module _ (s : State) (b : List ℕ) (n : ℕ) (l : List ℕ) (place : placeVerdict s (length b) (not (isOpen (openContainers s)) || s .waiting) ≡ accepted) (e : _≡_ {A = ℕ × List ℕ} (n, l) (closedOn (innermost s) (s .used) b)) where
   closing-fits : fits s (length b) ≡ true
@@ -138,13 +133,13 @@ module _ (s : State) (b : List ℕ) (n : ℕ) (l : List ℕ) (place : placeVerdi
   closing-open = either-not (isOpen (openContainers s)) (s .waiting) (accepted-placed s (length b) _ place)
 
   abbrev out : List ℕ
-  out = closedBytes (innermost s) (take (s .used) b)
+  out = closedBytes (innermost s .start) (innermost s .header) (innermost s .code) (take (s .used) b)
 
   closing-checks : firstFailing (checks closing (config s b)) ≡ firstFailing ((ltb (length b) (innermost s .start + length out), 10) ∷ [])
   closing-checks =
       past-place closing s b (not (isOpen (openContainers s)) || s .waiting) ((ltb (length b) (innermost s .start + length out), 10) ∷ []) (rw (open-first s (length b) closing-fits closing-open)) place
 
-  closing-effect : effect closing (config s b) ≡ put (config s b) (record { place = innermost s .start; out = out; depth = s .depth - 1; waiting = false; containers = s .containers })
+  closing-effect : effect closing (config s b) ≡ put (config s b) (record { place = innermost s .start; out = out; depth = s .depth - 1; waiting = false; containers = counted (s .containers) (s .depth - 1) })
   closing-effect = rw (open-first s (length b) closing-fits closing-open)
 
   closing-spliced : _≡_ {A = ℕ × List ℕ} (n, l) (spliced (s .used) (innermost s .start) out b)
@@ -159,9 +154,9 @@ module _ (s : State) (b : List ℕ) (n : ℕ) (l : List ℕ) (place : placeVerdi
       ap (outcome (refused 10) s) q ∙ sym (run-refused closing s b 10 (closing-checks ∙ rw (lt-ltb (length b) (innermost s .start + length out) (leb-false (innermost s .start + length out) (length b) p)))))
     where
       never : n ≡ innermost s .start + length out → ⊥
-      never q = let w = closed-least (innermost s) (take (s .used) b) in omega (arith, q, z, w)
+      never q = let w = closed-least (innermost s .start) (innermost s .header) (innermost s .code) (take (s .used) b) in omega (arith, q, z, w)
 
-  closing-figures : ruleOf closing (config s b) .figures ≡ record { size = length out }
+  closing-figures : ruleOf closing (config s b) .figures ≡ record { size = length out; members = innermost s .members }
   closing-figures = rw (open-first s (length b) closing-fits closing-open)
 
   closing-grown : (n ≡ 0 → ⊥) → (innermost s .start + length out ≤ length b) × (n ≡ innermost s .start + length out) × (l ≡ splice (s .used) (innermost s .start) out b)
@@ -177,7 +172,8 @@ module _ (s : State) (b : List ℕ) (n : ℕ) (l : List ℕ) (place : placeVerdi
   closing-start h = omega (arith, closing-grown h .1)
 
   pub closing-accepted : (n ≡ 0 → ⊥)
-      → accepted-with (config (record { used = n; depth = s .depth - 1; waiting = false; containers = s .containers }) l) (record { size = n - innermost s .start })
+      → accepted-with (config (record { used = n; depth = s .depth - 1; waiting = false; containers = counted (s .containers) (s .depth - 1) }) l)
+      (record { size = n - innermost s .start; members = innermost s .members })
       ≡ run closing (config s b)
   closing-accepted h =
       let g = closing-grown h in

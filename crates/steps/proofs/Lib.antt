@@ -1,4 +1,5 @@
 pub mod Containers
+pub mod Members
 pub mod Run
 pub mod Scalars
 pub mod Started

@@ -141,39 +141,40 @@ module _ (c : Call) (s : State) (b out : List ℕ) (n : ℕ) (l : List ℕ) (e :
 
 -- ---- a call that could put n bytes at the end of the used ones, or none
 
-abbrev pub grown : State → ℕ → Bool → State
-grown s n waits = record { used = s .used + n; depth = s .depth; waiting = waits; containers = s .containers }
+-- the state with n bytes more, and the records cs
+abbrev pub grown : State → ℕ → Bool → List Container → State
+grown s n waits cs = record { used = s .used + n; depth = s .depth; waiting = waits; containers = cs }
 
 -- what it leaves, l being the buffer after it: `why` is why it could put none
-pub record Ends (c : Call) (s : State) (b : List ℕ) (n : ℕ) (l : List ℕ) (waits : Bool) (why : Refusal) : Type 0 where
+pub record Ends (c : Call) (s : State) (b : List ℕ) (n : ℕ) (l : List ℕ) (waits : Bool) (cs : List Container) (why : Refusal) : Type 0 where
   pub none : n ≡ 0 → outcome (refused (number why)) s l ≡ run c (config s b)
-  pub some : (n ≡ 0 → ⊥) → outcome accepted (grown s n waits) l ≡ run c (config s b)
+  pub some : (n ≡ 0 → ⊥) → outcome accepted (grown s n waits cs) l ≡ run c (config s b)
 
 -- bytes that are never none, with no check of their own but 10
-pub end-run : (c : Call) (s : State) (b out : List ℕ) (n : ℕ) (l : List ℕ) (waits : Bool) → _≡_ {A = ℕ × List ℕ} (n, l) (placed b (s .used) out)
+pub end-run : (c : Call) (s : State) (b out : List ℕ) (n : ℕ) (l : List ℕ) (waits : Bool) (cs : List Container) → _≡_ {A = ℕ × List ℕ} (n, l) (placed b (s .used) out)
     → firstFailing (checks c (config s b)) ≡ firstFailing ((ltb (length b) (s .used + length out), 10) ∷ [])
-    → 0 < length out → effect c (config s b) ≡ put (config s b) (atEnd s out waits) → ruleOf c (config s b) .figures ≡ noFigures → Ends c s b n l waits NoRoom
-end-run c s b out n l waits e past pos f g = record {
+    → 0 < length out → effect c (config s b) ≡ put (config s b) (atEnd s out waits cs) → ruleOf c (config s b) .figures ≡ noFigures → Ends c s b n l waits cs NoRoom
+end-run c s b out n l waits cs e past pos f g = record {
   none = λ z. end-refused c s b out n l e past z pos;
-  some = λ h. end-accepted c s b out n l e past (s .depth) waits (s .containers) f g h;
+  some = λ h. end-accepted c s b out n l e past (s .depth) waits cs f g h;
 }
 
--- what `ended` says of its answer: the used length is cut to 64 bits, which alters none that fits
-abbrev pub Ended : Written → State → ℕ → Bool → Refusal → Type 0
-Ended r s n waits why =
+-- what `ended` and `scalar_ended` say of their answers: the used length is cut to 64 bits, which alters none that fits
+abbrev pub Ended : Written → State → ℕ → Bool → List Container → Refusal → Type 0
+Ended r s n waits cs why =
     (n ≡ 0 → r ≡ record { answer = Refused why; state = s })
     × ((n ≡ 0 → ⊥) → r ≡ record {
       answer = Accepted;
-      state = record { used = (s .used + n) % 2 ^ 64; depth = s .depth; waiting = waits; containers = s .containers };
+      state = record { used = (s .used + n) % 2 ^ 64; depth = s .depth; waiting = waits; containers = cs };
     })
 
-pub ended-run : (r : Written) (c : Call) (s : State) (b : List ℕ) (n : ℕ) (l : List ℕ) (waits : Bool) (why : Refusal)
-    → ((n ≡ 0 → ⊥) → s .used + n < 2 ^ 64) → Ended r s n waits why → Ends c s b n l waits why → outcomeOf r l ≡ run c (config s b)
-ended-run r c s b n l waits why small e h =
+pub ended-run : (r : Written) (c : Call) (s : State) (b : List ℕ) (n : ℕ) (l : List ℕ) (waits : Bool) (cs : List Container) (why : Refusal)
+    → ((n ≡ 0 → ⊥) → s .used + n < 2 ^ 64) → Ended r s n waits cs why → Ends c s b n l waits cs why → outcomeOf r l ≡ run c (config s b)
+ended-run r c s b n l waits cs why small e h =
     by-cases (eqb n 0)
     (λ p. let z = eqb-true n 0 p in ap (λ (x : Written). outcomeOf x l) (e .0 z) ∙ h .none z)
     (λ p.
     let z = eqb-false n 0 p in
     ap (λ (x : Written). outcomeOf x l) (e .1 z)
-    ∙ ap (λ (u : ℕ). outcome accepted (record { used = u; depth = s .depth; waiting = waits; containers = s .containers }) l) (mod-eq-of-lt (small z))
+    ∙ ap (λ (u : ℕ). outcome accepted (record { used = u; depth = s .depth; waiting = waits; containers = cs }) l) (mod-eq-of-lt (small z))
     ∙ h .some z)

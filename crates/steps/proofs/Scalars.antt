@@ -23,7 +23,7 @@ use Rattle.timestamp.proofs.Checked.{timestampBody-most}
 use Rattle.scalars.specs.declared.Scalar.{Scalar}
 use Rattle.scalars.specs.declared.Scalar.the-variants as scalar
 use Rattle.scalars.specs.Types.{scalarArgument}
-use Rattle.scalars.proofs.Bytes.{argument-some}
+use Rattle.encoding.proofs.Least.{argument-some}
 use Rattle.values.specs.Values.{annotatedChecked}
 use Rattle.values.proofs.Checked.{annotated-refused, annotated-accepted}
 use Rattle.buffer.specs.Laid.{placed}
@@ -31,7 +31,7 @@ use Rattle.buffer.proofs.Laid.{placed-nil}
 use Rattle.machine.specs.declared.State.{State}
 use Rattle.machine.specs.declared.Refusal.{Refusal}
 use Rattle.machine.specs.Call.{write}
-use Rattle.machine.specs.Machine.{config, checks, refused, firstFailing, run}
+use Rattle.machine.specs.Machine.{config, counted, checks, refused, firstFailing, run}
 use Rattle.machine.specs.Numbers.{number}
 use Rattle.steps.specs.Refused.{ownRefusal}
 use Rattle.steps.proofs.Run.{outcome, run-refused, own-refusal, own-only, placed-none, Ends, end-accepted}
@@ -70,14 +70,14 @@ module _ (an : List ℕ) (a : Argument) (s : State) (b : List ℕ) (n : ℕ) (l 
   passing : (n ≡ 0 → ⊥) → anyHolds (argumentChecks a) ≡ false
   passing h = by-cases (anyHolds (argumentChecks a)) (λ t. absurd (h (nothing-put t .0))) (λ t. t)
 
-  -- `why` says why nothing was put, where nothing was
-  pub scalar-run : (why : Refusal) → (n ≡ 0 → refused (number why) ≡ ownRefusal a) → Ends (write an a) s b n l false why
+  -- `why` says why nothing was put, where nothing was; a scalar that is put counts in the innermost container
+  pub scalar-run : (why : Refusal) → (n ≡ 0 → refused (number why) ≡ ownRefusal a) → Ends (write an a) s b n l false (counted (s .containers) (s .depth)) why
   scalar-run why r = record {
     none = λ z. refused-as why z (r z);
     some = λ h.
         let t = passing h in
         let room = past ∙ own-only a ((ltb (length b) (s .used + length out), 10) ∷ []) t in
-        end-accepted (write an a) s b out n l (all-put t) room (s .depth) false (s .containers) refl refl h;
+        end-accepted (write an a) s b out n l (all-put t) room (s .depth) false _ refl refl h;
   }
 
 -- ---- no check of its own

@@ -1,3 +1,4 @@
+pub mod Counted
 pub mod Kinds
 pub mod Refused
 pub mod Start

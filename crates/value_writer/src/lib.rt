@@ -30,7 +30,7 @@ fn write_scalar(s: State, buf: &mut [u8], annotations: &[u8], value: Scalar) -> 
         };
     };
     let put = values::write_scalar(buf, s.used, annotations, value);
-    steps::ended(s, put, false, Refusal::NoRoom)
+    steps::scalar_ended(s, put, Refusal::NoRoom)
 }
 
 // A null of each type.
@@ -79,7 +79,7 @@ pub fn write_int(
             state: s,
         };
     }
-    steps::ended(s, put, false, Refusal::NoRoom)
+    steps::scalar_ended(s, put, Refusal::NoRoom)
 }
 
 // A float by the bits of binary32; a NaN keeps its own.
@@ -136,7 +136,7 @@ pub fn write_decimal(
             state: s,
         };
     }
-    steps::ended(s, put, false, Refusal::NoRoom)
+    steps::scalar_ended(s, put, Refusal::NoRoom)
 }
 
 // A timestamp by its local fields and its offset.
@@ -157,7 +157,7 @@ pub fn write_timestamp(s: State, buf: &mut [u8], annotations: &[u8], value: Time
             state: s,
         };
     }
-    steps::ended(s, put, false, Refusal::NoRoom)
+    steps::scalar_ended(s, put, Refusal::NoRoom)
 }
 
 // A symbol by its sid.
@@ -185,7 +185,7 @@ pub fn write_string(s: State, buf: &mut [u8], annotations: &[u8], bytes: &[u8]) 
             state: s,
         };
     }
-    steps::ended(s, put, false, Refusal::NoRoom)
+    steps::scalar_ended(s, put, Refusal::NoRoom)
 }
 
 // A clob.
@@ -200,7 +200,7 @@ pub fn write_clob(s: State, buf: &mut [u8], annotations: &[u8], bytes: &[u8]) ->
         };
     };
     let put = values::write_clob(buf, s.used, annotations, bytes);
-    steps::ended(s, put, false, Refusal::NoRoom)
+    steps::scalar_ended(s, put, Refusal::NoRoom)
 }
 
 // A blob.
@@ -215,5 +215,5 @@ pub fn write_blob(s: State, buf: &mut [u8], annotations: &[u8], bytes: &[u8]) ->
         };
     };
     let put = values::write_blob(buf, s.used, annotations, bytes);
-    steps::ended(s, put, false, Refusal::NoRoom)
+    steps::scalar_ended(s, put, Refusal::NoRoom)
 }

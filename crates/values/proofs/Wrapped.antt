@@ -19,7 +19,7 @@ use Rattle.annotations.specs.Prefix.{prefixBytes, placedBefore}
 use Rattle.annotations.proofs.Sids.{annotations-least, sids-none, sids-some}
 use Rattle.annotations.proofs.Prefix.{annotated-prefix, length-prefix, placedBefore-fits, placedBefore-full, prefix-then}
 use Rattle.decimal.proofs.Values.{checkedBytes-refused, checkedBytes-accepted}
-use Rattle.scalars.proofs.Bytes.{argument-some}
+use Rattle.encoding.proofs.Least.{argument-some}
 use Rattle.values.specs.Values.{annotatedChecked, prefixFor, placedWrapper}
 use Rattle.values.proofs.Checked.{annotated-refused, annotated-accepted, unannotated}
 

@@ -47,6 +47,7 @@ fn empty_state(used: usize) -> State
             start: 0,
             header: 0,
             code: 0,
+            members: 0,
         }; MOST_OPEN],
     }
 }
@@ -96,7 +97,7 @@ fn opened(s: State, put: usize, code: u8) -> State
       used = s .used + put;
       depth = s .depth + 1;
       waiting = false;
-      containers = set (s .containers) (s .depth) (record { start = s .used; header = s .used + (put - 2); code = code });
+      containers = set (s .containers) (s .depth) (record { start = s .used; header = s .used + (put - 2); code = code; members = 0 });
     } ⌝ }
 {
     let used = s.used;
@@ -106,6 +107,7 @@ fn opened(s: State, put: usize, code: u8) -> State
         start: used,
         header: used + (put - 2),
         code,
+        members: 0,
     };
     next.used = used + put;
     next.depth = depth + 1;
@@ -143,7 +145,7 @@ pub fn open(s: State, buf: &mut [u8], annotations: &[u8], kind: ContainerType) -
     }
 }
 
-// A closing: the header, and the wrapper's, in their final form.
+// A closing: the header, and the wrapper's, in their final form. The container is then a member of the one that it lies in.
 pub fn close(s: State, buf: &mut [u8]) -> Closed
     ensures { λ r. ⌜ closedOutcome r (now (buf .exit)) ≡ run closing (config s (now (buf .entry))) ⌝ }
 {
@@ -153,6 +155,7 @@ pub fn close(s: State, buf: &mut [u8]) -> Closed
             answer: place,
             state: s,
             size: 0,
+            members: 0,
         };
     };
     let depth = s.depth;
@@ -163,6 +166,7 @@ pub fn close(s: State, buf: &mut [u8]) -> Closed
             answer: Answer::Refused(Refusal::NoRoom),
             state: s,
             size: 0,
+            members: 0,
         };
     }
     let mut next = s;
@@ -171,8 +175,9 @@ pub fn close(s: State, buf: &mut [u8]) -> Closed
     next.waiting = false;
     Closed {
         answer: Answer::Accepted,
-        state: next,
+        state: steps::counted(next),
         size: used - c.start,
+        members: c.members,
     }
 }
 

@@ -52,7 +52,7 @@ returns-2 c =
     let d = c .before .before .before .before .before .before in
     let a = d .before .before .before .args in
     let f = closedOn-fits (a .c) (a .used) (a .buf .now) (known d .flag) in
-    let out : ℕ → List ℕ = λ h. closedBytes (record { start = a .c .start; header = h; code = a .c .code }) (take (a .used) (a .buf .now)) in
+    let out : ℕ → List ℕ = λ h. closedBytes (a .c .start) h (a .c .code) (take (a .used) (a .buf .now)) in
     let e = ap (λ (h : ℕ). spliced (a .used) (a .c .start) (out h) (a .buf .now)) (c .before .before .before .before .if2 .taken) in
     c .before .before .close-plain .ensures ∙ sym (f ∙ e)
 

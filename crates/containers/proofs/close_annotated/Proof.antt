@@ -20,7 +20,7 @@ inner-most c = let m = header-most 0 (c .before .before .args .used - (c .before
 abbrev final : (c : tie.After-encoded-size-of2) → List ℕ
 final c =
     let a = c .before .before .before .args in
-    closedBytes (record { start = a .start; header = a .header; code = a .code }) (take (a .used) (a .buf .now))
+    closedBytes (a .start) (a .header) (a .code) (take (a .used) (a .buf .now))
 
 -- the wrapper as it ends up
 record Known (c : tie.After-encoded-size-of2) : Type 0 where

@@ -26,7 +26,7 @@ record Known (c : tie.After-encoded-size-of) : Type 0 where
   counted : length (body c) ≡ c .before .before .args .used - (c .before .before .args .start + 2)
   whole : length (framedBytes (c .before .before .args .code) (body c)) ≡ c .encoded-size-of .result + length (body c)
   final : let a = c .before .before .args in
-      closedBytes (record { start = a .start; header = a .start; code = a .code }) (take (a .used) (a .buf .now)) ≡ framedBytes (a .code) (body c)
+      closedBytes (a .start) (a .start) (a .code) (take (a .used) (a .buf .now)) ≡ framedBytes (a .code) (body c)
 
 known : (c : tie.After-encoded-size-of) → Known c
 known c =
@@ -38,7 +38,7 @@ known c =
       most = omega arith;
       counted = e;
       whole = length-framed (a .code) (body c) ∙ rw (e, c .encoded-size-of .ensures) refl;
-      final = closedBytes-plain (record { start = a .start; header = a .start; code = a .code }) (a .used) (a .buf .now) (omega arith) (omega arith) refl;
+      final = closedBytes-plain (a .start) (a .code) (a .used) (a .buf .now) (omega arith) (omega arith);
     }
 
 add-body : tie.Need-add-body

@@ -1,6 +1,6 @@
--- `entry_containers::gm_close` meets its contract: refused by place or for room, or closed and answered.
+-- `entry_containers::gm_close` meets its contract: refused by place or for room, or closed, answered and counted.
 -- Assumes nothing.
-use Prim.Native.Nat.{ℕ}
+use Prim.Native.Nat.{ℕ, _<_}
 use native.Mathlib.Omega.{arith}
 use mathlib.Core.Path.{_≡_, refl, sym, _∙_}
 use mathlib.Core.Bool.{true, not, _||_}
@@ -22,6 +22,13 @@ use Rattle.entry_containers.proofs.gm_close.Tie as tie
 passed : (c : tie.Else1) → let a = c .before .before .before .before .before .before .args in let s = stateOf (a .state .now) in
     isAccepted (placeVerdict s (length (a .buf .now)) (not (isOpen (openContainers s)) || s .waiting)) ≡ true
 passed c = sym (c .before .close-passes .ensures) ∙ not-false _ (c .if1 .left)
+
+-- so that a container is open
+nested : (c : tie.After-depth) → 0 < c .depth .result
+nested c =
+    let e = c .before .before in
+    let a = e .before .before .before .before .before .before .args in
+    omega (arith, c .depth .ensures, close-open (a .state .now) (a .buf .now) (passed e))
 
 -- what the leaf has closed
 spliced : (c : tie.After-close) → let a = c .before .before .before .before .before .before .before .before .before .before .before .before .before .before .args in let s = stateOf (a .state .now) in
@@ -55,10 +62,7 @@ depth-requires : tie.Need-depth-requires
 depth-requires c κs = search needs
 
 sub-container : tie.Need-sub-container
-sub-container c =
-    let e = c .before .before .before in
-    let a = e .before .before .before .before .before .before .args in
-    omega (arith, c .before .depth .ensures, close-open (a .state .now) (a .buf .now) (passed e))
+sub-container c = omega (arith, nested (c .before))
 
 container-requires : tie.Need-container-requires
 container-requires c κs = search needs
@@ -99,11 +103,14 @@ sub-answer c =
 answer-requires : tie.Need-answer-requires
 answer-requires c κs = search needs
 
+sub-count : tie.Need-sub-count
+sub-count c = omega (arith, nested (c .before .before .before .before .before .before .before .before .before .before .before .before .before .before .before))
+
+count-requires : tie.Need-count-requires
+count-requires c κs = search needs
+
 sub-store : tie.Need-sub-store
-sub-store c =
-    let e = c .before .before .before .before .before .before .before .before .before .before .before .before .before .before .before .before .before in
-    let a = e .before .before .before .before .before .before .args in
-    omega (arith, c .before .before .before .before .before .before .before .before .before .before .before .before .before .before .before .depth .ensures, close-open (a .state .now) (a .buf .now) (passed e))
+sub-store c = omega (arith, nested (c .before .before .before .before .before .before .before .before .before .before .before .before .before .before .before .before .before .before .before))
 
 store-requires : tie.Need-store-requires
 store-requires c κs = search needs
@@ -119,13 +126,15 @@ same-length-6 c = search needs
 
 returns-3 : tie.Need-returns-3
 returns-3 c =
-    let w = c .before .before .before .before .before .before .before .before .before .before .before .before in
+    let k = c .before .before .before .before .before .before in
+    let q = k .before .before .before .before in
+    let w = q .before .before .before .before .before .before in
     let e = w .before .before .before .before .before .before .before .before in
     let a = e .before .before .before .before .before .before .args in
-    let h = c .before .before .before .before .before .before .before .before .before .if2 .left in (
-      rw (c .before .before .store .ensures, w .before .before .before .before .before .before .depth .ensures)
+    let h = q .before .before .before .if2 .left in (
+      rw (c .before .before .store .ensures, k .count .ensures, w .before .before .before .before .before .before .depth .ensures)
           (close-done (a .state .now) (a .buf .now) (passed e) (w .close .result) (w .close .last .0) (spliced w) h),
-      c .before .before .before .before .before .before .answer .ensures
+      q .answer .ensures
           ∙ rw (w .before .before .before .before .container .ensures, w .before .before .before .before .before .before .depth .ensures)
           (close-answered (a .state .now) (a .buf .now) (passed e) (w .close .result) (w .close .last .0) (spliced w) h (a .closed .now)),
     )
@@ -150,6 +159,8 @@ gm-close-spec =
     returns-2
     sub-answer
     answer-requires
+    sub-count
+    count-requires
     sub-store
     store-requires
     same-length-4

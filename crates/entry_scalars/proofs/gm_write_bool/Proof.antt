@@ -36,8 +36,8 @@ used-requires c κs = search needs
 write-bool-requires : tie.Need-write-bool-requires
 write-bool-requires c κs = search needs
 
-ended-requires : tie.Need-ended-requires
-ended-requires c κs = search needs
+scalar-ended-requires : tie.Need-scalar-ended-requires
+scalar-ended-requires c κs = search needs
 
 same-length-2 : tie.Need-same-length-2
 same-length-2 c = search needs
@@ -49,7 +49,7 @@ returns-2 : tie.Need-returns-2
 unfolding ownRefusal
 returns-2 c =
     let a = c .before .before .before .before .before .before .before .before .before .before .before .before .before .before .before .before .args in
-    value-ended (sidsOf (a .annotations .now)) (writeBool (not (eqb (a .value) 0))) (a .state .now) (a .buf .now) (sym (c .before .before .before .before .before .before .before .before .before .before .before .value-passes .ensures) ∙ not-false _ (c .before .before .before .before .before .before .before .before .before .before .if1 .left)) (c .before .before .before .before .before .before .write-bool .result) (c .before .before .before .before .before .before .write-bool .last .0) (rw (c .before .before .before .before .before .before .before .used .ensures) at (c .before .before .before .before .before .before .write-bool .ensures)) NoRoom (λ z. refl) (c .before .before .ended .result) (c .before .before .ended .last .0) (c .before .before .ended .ensures .0) (c .before .before .ended .ensures .1)
+    value-ended (sidsOf (a .annotations .now)) (writeBool (not (eqb (a .value) 0))) (a .state .now) (a .buf .now) (sym (c .before .before .before .before .before .before .before .before .before .before .before .value-passes .ensures) ∙ not-false _ (c .before .before .before .before .before .before .before .before .before .before .if1 .left)) (c .before .before .before .before .before .before .write-bool .result) (c .before .before .before .before .before .before .write-bool .last .0) (rw (c .before .before .before .before .before .before .before .used .ensures) at (c .before .before .before .before .before .before .write-bool .ensures)) NoRoom (λ z. refl) (c .before .before .scalar-ended .result) (c .before .before .scalar-ended .last .0) (c .before .before .scalar-ended .ensures .0) (c .before .before .scalar-ended .ensures .1)
 
 pub gm-write-bool-spec : {M : Type 1} → statement M
 gm-write-bool-spec =
@@ -62,7 +62,7 @@ gm-write-bool-spec =
     returns
     used-requires
     write-bool-requires
-    ended-requires
+    scalar-ended-requires
     same-length-2
     same-length-3
     returns-2)

@@ -36,8 +36,8 @@ used-requires c κs = search needs
 write-i64-requires : tie.Need-write-i64-requires
 write-i64-requires c κs = search needs
 
-ended-requires : tie.Need-ended-requires
-ended-requires c κs = search needs
+scalar-ended-requires : tie.Need-scalar-ended-requires
+scalar-ended-requires c κs = search needs
 
 same-length-2 : tie.Need-same-length-2
 same-length-2 c = search needs
@@ -50,7 +50,7 @@ unfolding ownRefusal
 returns-2 c =
     let start = c .before .before .before .before .before .before .before .before .before .before .before .before .before .before .before .before in
     let a = start .args in
-    value-ended (sidsOf (a .annotations .now)) (writeI64 (a .value)) (a .state .now) (a .buf .now) (sym (c .before .before .before .before .before .before .before .before .before .before .before .value-passes .ensures) ∙ not-false _ (c .before .before .before .before .before .before .before .before .before .before .if1 .left)) (c .before .before .before .before .before .before .write-i64 .result) (c .before .before .before .before .before .before .write-i64 .last .0) (rw (c .before .before .before .before .before .before .before .used .ensures, toZ-ofZ w64 (a .value) (start .fits .value)) at (c .before .before .before .before .before .before .write-i64 .ensures)) NoRoom (λ z. refl) (c .before .before .ended .result) (c .before .before .ended .last .0) (c .before .before .ended .ensures .0) (c .before .before .ended .ensures .1)
+    value-ended (sidsOf (a .annotations .now)) (writeI64 (a .value)) (a .state .now) (a .buf .now) (sym (c .before .before .before .before .before .before .before .before .before .before .before .value-passes .ensures) ∙ not-false _ (c .before .before .before .before .before .before .before .before .before .before .if1 .left)) (c .before .before .before .before .before .before .write-i64 .result) (c .before .before .before .before .before .before .write-i64 .last .0) (rw (c .before .before .before .before .before .before .before .used .ensures, toZ-ofZ w64 (a .value) (start .fits .value)) at (c .before .before .before .before .before .before .write-i64 .ensures)) NoRoom (λ z. refl) (c .before .before .scalar-ended .result) (c .before .before .scalar-ended .last .0) (c .before .before .scalar-ended .ensures .0) (c .before .before .scalar-ended .ensures .1)
 
 pub gm-write-i64-spec : {M : Type 1} → statement M
 gm-write-i64-spec =
@@ -63,7 +63,7 @@ gm-write-i64-spec =
     returns
     used-requires
     write-i64-requires
-    ended-requires
+    scalar-ended-requires
     same-length-2
     same-length-3
     returns-2)

@@ -39,8 +39,8 @@ type-of-code-requires c κs = search needs
 write-null-requires : tie.Need-write-null-requires
 write-null-requires c κs = search needs
 
-ended-requires : tie.Need-ended-requires
-ended-requires c κs = search needs
+scalar-ended-requires : tie.Need-scalar-ended-requires
+scalar-ended-requires c κs = search needs
 
 same-length-2 : tie.Need-same-length-2
 same-length-2 c = search needs
@@ -52,7 +52,7 @@ returns-2 : tie.Need-returns-2
 unfolding ownRefusal
 returns-2 c =
     let a = c .before .before .before .before .before .before .before .before .before .before .before .before .before .before .before .before .before .args in
-    value-ended (sidsOf (a .annotations .now)) (writeNull (typeOf (typeCoded (a .code)))) (a .state .now) (a .buf .now) (sym (c .before .before .before .before .before .before .before .before .before .before .before .before .value-passes .ensures) ∙ not-false _ (c .before .before .before .before .before .before .before .before .before .before .before .if1 .left)) (c .before .before .before .before .before .before .write-null .result) (c .before .before .before .before .before .before .write-null .last .0) (rw (c .before .before .before .before .before .before .before .before .used .ensures, c .before .before .before .before .before .before .before .type-of-code .ensures) at (c .before .before .before .before .before .before .write-null .ensures)) NoRoom (λ z. refl) (c .before .before .ended .result) (c .before .before .ended .last .0) (c .before .before .ended .ensures .0) (c .before .before .ended .ensures .1)
+    value-ended (sidsOf (a .annotations .now)) (writeNull (typeOf (typeCoded (a .code)))) (a .state .now) (a .buf .now) (sym (c .before .before .before .before .before .before .before .before .before .before .before .before .value-passes .ensures) ∙ not-false _ (c .before .before .before .before .before .before .before .before .before .before .before .if1 .left)) (c .before .before .before .before .before .before .write-null .result) (c .before .before .before .before .before .before .write-null .last .0) (rw (c .before .before .before .before .before .before .before .before .used .ensures, c .before .before .before .before .before .before .before .type-of-code .ensures) at (c .before .before .before .before .before .before .write-null .ensures)) NoRoom (λ z. refl) (c .before .before .scalar-ended .result) (c .before .before .scalar-ended .last .0) (c .before .before .scalar-ended .ensures .0) (c .before .before .scalar-ended .ensures .1)
 
 pub gm-write-null-spec : {M : Type 1} → statement M
 gm-write-null-spec =
@@ -66,7 +66,7 @@ gm-write-null-spec =
     used-requires
     type-of-code-requires
     write-null-requires
-    ended-requires
+    scalar-ended-requires
     same-length-2
     same-length-3
     returns-2)

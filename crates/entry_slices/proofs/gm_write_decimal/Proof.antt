@@ -55,8 +55,8 @@ returns-2 c =
     let a = start .args in
     rw (c .number-of .ensures) (value-refused (sidsOf (a .annotations .now)) (writeDecimal (not (eqb (a .negative) 0)) (a .coefficient .now) (a .exponent)) (a .state .now) (a .buf .now) (sym (c .before .before .before .before .before .before .before .before .before .before .value-passes .ensures) ∙ not-false _ (c .before .before .before .before .before .before .before .before .before .if1 .left)) (c .before .before .before .before .before .write-decimal .result) (c .before .before .before .before .before .write-decimal .last .0) (rw (c .before .before .before .before .before .before .used .ensures, toZ-ofZ w64 (a .exponent) (start .fits .exponent)) at (c .before .before .before .before .before .write-decimal .ensures)) (c .before .decimal-refusal .result) (c .before .before .if2 .taken) (rw (toZ-ofZ w64 (a .exponent) (start .fits .exponent)) at (c .before .decimal-refusal .ensures)))
 
-ended-requires : tie.Need-ended-requires
-ended-requires c κs = search needs
+scalar-ended-requires : tie.Need-scalar-ended-requires
+scalar-ended-requires c κs = search needs
 
 same-length-4 : tie.Need-same-length-4
 same-length-4 c = search needs
@@ -68,7 +68,7 @@ returns-3 : tie.Need-returns-3
 returns-3 c =
     let start = c .before .before .before .before .before .before .before .before .before .before .before .before .before .before .before .before .before .before in
     let a = start .args in
-    value-ended (sidsOf (a .annotations .now)) (writeDecimal (not (eqb (a .negative) 0)) (a .coefficient .now) (a .exponent)) (a .state .now) (a .buf .now) (sym (c .before .before .before .before .before .before .before .before .before .before .before .before .value-passes .ensures) ∙ not-false _ (c .before .before .before .before .before .before .before .before .before .before .before .if1 .left)) (c .before .before .before .before .before .before .before .write-decimal .result) (c .before .before .before .before .before .before .before .write-decimal .last .0) (rw (c .before .before .before .before .before .before .before .before .used .ensures, toZ-ofZ w64 (a .exponent) (start .fits .exponent)) at (c .before .before .before .before .before .before .before .write-decimal .ensures)) NoRoom (λ z. absurd (c .before .before .before .before .if2 .left z)) (c .before .before .ended .result) (c .before .before .ended .last .0) (c .before .before .ended .ensures .0) (c .before .before .ended .ensures .1)
+    value-ended (sidsOf (a .annotations .now)) (writeDecimal (not (eqb (a .negative) 0)) (a .coefficient .now) (a .exponent)) (a .state .now) (a .buf .now) (sym (c .before .before .before .before .before .before .before .before .before .before .before .before .value-passes .ensures) ∙ not-false _ (c .before .before .before .before .before .before .before .before .before .before .before .if1 .left)) (c .before .before .before .before .before .before .before .write-decimal .result) (c .before .before .before .before .before .before .before .write-decimal .last .0) (rw (c .before .before .before .before .before .before .before .before .used .ensures, toZ-ofZ w64 (a .exponent) (start .fits .exponent)) at (c .before .before .before .before .before .before .before .write-decimal .ensures)) NoRoom (λ z. absurd (c .before .before .before .before .if2 .left z)) (c .before .before .scalar-ended .result) (c .before .before .scalar-ended .last .0) (c .before .before .scalar-ended .ensures .0) (c .before .before .scalar-ended .ensures .1)
 
 pub gm-write-decimal-spec : {M : Type 1} → statement M
 gm-write-decimal-spec =
@@ -86,7 +86,7 @@ gm-write-decimal-spec =
     same-length-2
     same-length-3
     returns-2
-    ended-requires
+    scalar-ended-requires
     same-length-4
     same-length-5
     returns-3)

@@ -50,8 +50,8 @@ returns-2 c =
     let a = c .before .before .before .before .before .before .before .before .before .before .before .before .before .before .before .before .args in
     rw (c .number-of .ensures) (value-refused (sidsOf (a .annotations .now)) (writeString (a .bytes .now)) (a .state .now) (a .buf .now) (sym (c .before .before .before .before .before .before .before .before .before .before .value-passes .ensures) ∙ not-false _ (c .before .before .before .before .before .before .before .before .before .if1 .left)) (c .before .before .before .before .before .write-string .result) (c .before .before .before .before .before .write-string .last .0) (rw (c .before .before .before .before .before .before .used .ensures) at (c .before .before .before .before .before .write-string .ensures)) (c .before .string-refusal .result) (c .before .before .if2 .taken) (c .before .string-refusal .ensures))
 
-ended-requires : tie.Need-ended-requires
-ended-requires c κs = search needs
+scalar-ended-requires : tie.Need-scalar-ended-requires
+scalar-ended-requires c κs = search needs
 
 same-length-4 : tie.Need-same-length-4
 same-length-4 c = search needs
@@ -62,7 +62,7 @@ same-length-5 c = search needs
 returns-3 : tie.Need-returns-3
 returns-3 c =
     let a = c .before .before .before .before .before .before .before .before .before .before .before .before .before .before .before .before .before .before .args in
-    value-ended (sidsOf (a .annotations .now)) (writeString (a .bytes .now)) (a .state .now) (a .buf .now) (sym (c .before .before .before .before .before .before .before .before .before .before .before .before .value-passes .ensures) ∙ not-false _ (c .before .before .before .before .before .before .before .before .before .before .before .if1 .left)) (c .before .before .before .before .before .before .before .write-string .result) (c .before .before .before .before .before .before .before .write-string .last .0) (rw (c .before .before .before .before .before .before .before .before .used .ensures) at (c .before .before .before .before .before .before .before .write-string .ensures)) NoRoom (λ z. absurd (c .before .before .before .before .if2 .left z)) (c .before .before .ended .result) (c .before .before .ended .last .0) (c .before .before .ended .ensures .0) (c .before .before .ended .ensures .1)
+    value-ended (sidsOf (a .annotations .now)) (writeString (a .bytes .now)) (a .state .now) (a .buf .now) (sym (c .before .before .before .before .before .before .before .before .before .before .before .before .value-passes .ensures) ∙ not-false _ (c .before .before .before .before .before .before .before .before .before .before .before .if1 .left)) (c .before .before .before .before .before .before .before .write-string .result) (c .before .before .before .before .before .before .before .write-string .last .0) (rw (c .before .before .before .before .before .before .before .before .used .ensures) at (c .before .before .before .before .before .before .before .write-string .ensures)) NoRoom (λ z. absurd (c .before .before .before .before .if2 .left z)) (c .before .before .scalar-ended .result) (c .before .before .scalar-ended .last .0) (c .before .before .scalar-ended .ensures .0) (c .before .before .scalar-ended .ensures .1)
 
 pub gm-write-string-spec : {M : Type 1} → statement M
 gm-write-string-spec =
@@ -80,7 +80,7 @@ gm-write-string-spec =
     same-length-2
     same-length-3
     returns-2
-    ended-requires
+    scalar-ended-requires
     same-length-4
     same-length-5
     returns-3)

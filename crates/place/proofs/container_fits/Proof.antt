@@ -2,8 +2,9 @@
 -- Assumes nothing.
 use Prim.Native.Nat.{_+_, _-_}
 use native.Mathlib.Omega.{arith}
+use mathlib.Core.Path.{_≡_}
 use mathlib.Core.Bool.{and-false, and-assoc, or-assoc}
-use borrow.Author.Tests.{lt-leb, ne-eqb}
+use borrow.Author.Tests.{le-leb, lt-leb, ne-eqb}
 use Rattle.machine.specs.Machine.{containerFits}
 use Rattle.place.proofs.Laws.{same-leb, same-eqb}
 use Rattle.place.proofs.container_fits.Statement.{statement}
@@ -24,8 +25,15 @@ returns-2 c =
 returns-3 : tie.Need-returns-3
 unfolding containerFits
 returns-3 c =
-    let a = c .before .before .args in
-    simp (same-leb 2 (a .limit - a .c .header) (a .c .header + 2) (a .limit) (λ h. omega arith) (λ h. omega arith), same-leb 4 (a .c .header - a .c .start) (a .c .start + 4) (a .c .header) (λ h. omega arith) (λ h. omega arith), same-eqb (a .c .header - a .c .start) 0 (a .c .header) (a .c .start) (λ h. omega arith) (λ h. omega arith), and-assoc, or-assoc)
+    let a = c .before .before .before .args in
+    simp (lt-leb (a .c .header + 2) (a .limit) (omega arith), and-false)
+
+returns-4 : tie.Need-returns-4
+unfolding containerFits
+returns-4 c =
+    let a = c .before .before .before .before .args in
+    let left : a .limit - a .c .header - 2 ≡ a .limit - (a .c .header + 2) = omega arith in
+    simp (le-leb (a .c .header + 2) (a .limit) (omega arith), left, same-leb 4 (a .c .header - a .c .start) (a .c .start + 4) (a .c .header) (λ h. omega arith) (λ h. omega arith), same-eqb (a .c .header - a .c .start) 0 (a .c .header) (a .c .start) (λ h. omega arith) (λ h. omega arith), and-assoc, or-assoc)
 
 pub container-fits-spec : {M : Type 1} → statement M
-container-fits-spec = tie.close (tie.spec returns returns-2 returns-3)
+container-fits-spec = tie.close (tie.spec returns returns-2 returns-3 returns-4)

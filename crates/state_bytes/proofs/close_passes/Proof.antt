@@ -6,7 +6,7 @@ use borrow.Author.Tests.{not-true, not-false, leb-true}
 use Rattle.machine.specs.Machine.{mostOpen, openContainers, isOpen}
 use Rattle.place.proofs.Laws.{closed-of}
 use Rattle.state_bytes.specs.StateBytes.{stateOf}
-use Rattle.state_bytes.proofs.Laws.{readable-size, unreadable, passes-is}
+use Rattle.state_bytes.proofs.Laws.{readable-size, unreadable, passes-by}
 use borrow.Author.Needs.{needs}
 use Rattle.state_bytes.proofs.close_passes.Statement.{statement}
 use Rattle.state_bytes.proofs.close_passes.Tie as tie
@@ -30,7 +30,14 @@ passes-requires : tie.Need-passes-requires
 passes-requires c κs = let h = sym (c .before .before .before .before .readable .ensures) ∙ not-false _ (c .before .before .before .if1 .left) in (rw (c .before .before .depth .ensures) (leb-true _ mostOpen h), readable-size (c .before .before .before .before .before .before .args .st .now) h)
 
 returns-2 : tie.Need-returns-2
-returns-2 c = c .passes .ensures ∙ (rw (c .before .before .innermost-is-struct .ensures, c .before .waiting .ensures, c .before .before .before .depth .ensures, closed-of (stateOf (c .before .before .before .before .before .before .before .args .st .now) .containers) (stateOf (c .before .before .before .before .before .before .before .args .st .now) .depth)) (sym (passes-is (stateOf (c .before .before .before .before .before .before .before .args .st .now)) (c .before .before .before .before .before .before .before .args .room) (not (isOpen (openContainers (stateOf (c .before .before .before .before .before .before .before .args .st .now)))) || stateOf (c .before .before .before .before .before .before .before .args .st .now) .waiting) (sym (c .before .before .before .before .before .readable .ensures) ∙ not-false _ (c .before .before .before .before .if1 .left)))))
+returns-2 c =
+    let a = c .before .before .before .before .before .before .before .args in
+    let s = stateOf (a .st .now) in
+    let d = c .before .before .before .depth .ensures in
+    c .passes .ensures
+    ∙ rw (c .before .waiting .ensures, d, closed-of (s .containers) (s .depth))
+    (passes-by s (a .room) (not (isOpen (openContainers s)) || s .waiting) _ (sym (c .before .before .before .before .before .readable .ensures) ∙ not-false _ (c .before .before .before .before .if1 .left))
+    (λ u. rw (c .before .before .innermost-is-struct .ensures u, d)))
 
 pub close-passes-spec : {M : Type 1} → statement M
 close-passes-spec =

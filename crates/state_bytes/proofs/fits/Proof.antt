@@ -39,13 +39,13 @@ returns-4 c =
     let a = c .before .before .before .before .before .before .before .before .before .args in
     (fits-nameless (stateOf (a .st .now)) (a .room) (omega (arith, c .before .before .before .before .before .before .used .ensures)) (omega (arith, c .before .before .before .before .before .depth .ensures)) (rw (c .before .before .waiting .ensures, c .before .in-struct .ensures, c .before .before .before .before .before .depth .ensures) at (c .if4 .taken)))
 
-containers-fit-requires : tie.Need-containers-fit-requires
-containers-fit-requires c κs = search needs
+each-fits-requires : tie.Need-each-fits-requires
+each-fits-requires c κs = search needs
 
 returns-5 : tie.Need-returns-5
 returns-5 c =
     let a = c .before .before .before .before .before .before .before .before .before .before .args in
-    (c .containers-fit .ensures
+    (c .each-fits .ensures
     ∙ (rw (c .before .before .before .before .before .before .before .used .ensures, c .before .before .before .before .before .before .depth .ensures)
     (sym (fits-containers (stateOf (a .st .now)) (a .room) (omega (arith, c .before .before .before .before .before .before .before .used .ensures)) (omega (arith, c .before .before .before .before .before .before .depth .ensures)) (rw (c .before .before .before .waiting .ensures, c .before .before .in-struct .ensures, c .before .before .before .before .before .before .depth .ensures) at (c .before .if4 .left))))))
 
@@ -61,5 +61,5 @@ fits-spec =
     waiting-requires
     in-struct-requires
     returns-4
-    containers-fit-requires
+    each-fits-requires
     returns-5)

@@ -25,8 +25,18 @@ add-t7 c = search needs
 shared-slice-read-t9 : tie.Need-shared-slice-read-t9
 shared-slice-read-t9 c = search needs
 
+add-get-four-2 : tie.Need-add-get-four-2
+add-get-four-2 c = search needs
+
+get-four-requires-3 : tie.Need-get-four-requires-3
+get-four-requires-3 c κs = search needs
+
 returns : tie.Need-returns
-returns c = (rw (c .before .before .get-four .ensures .0, c .before .get-four2 .ensures .0), c .before .before .get-four .ensures .1, c .before .get-four2 .ensures .1)
+returns c =
+    let start = c .before .before .before .get-four .ensures in
+    let header = c .before .before .get-four2 .ensures in
+    let members = c .get-four3 .ensures in
+    (rw (start .0, header .0, members .0), start .1, header .1, members .1)
 
 pub get-container-spec : {M : Type 1} → statement M
 get-container-spec =
@@ -39,4 +49,6 @@ get-container-spec =
     get-four-requires-2
     add-t7
     shared-slice-read-t9
+    add-get-four-2
+    get-four-requires-3
     returns)

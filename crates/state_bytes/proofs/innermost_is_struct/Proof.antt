@@ -18,7 +18,7 @@ shared-slice-read-result : tie.Need-shared-slice-read-result
 shared-slice-read-result c = search needs
 
 returns : tie.Need-returns
-returns c = struct-below (c .before .args .st .now) (c .before .args .depth) (c .before .pre .1) (c .before .pre .0)
+returns c u = struct-below (c .before .args .st .now) (c .before .args .depth) (c .before .pre .1) (c .before .pre .0) u
 
 pub innermost-is-struct-spec : {M : Type 1} → statement M
 innermost-is-struct-spec =

@@ -1,4 +1,4 @@
--- `state_bytes::store_container` meets its contract: a container is laid in three parts, side by side.
+-- `state_bytes::store_container` meets its contract: a container is laid in four parts, side by side.
 -- Assumes nothing.
 use native.Mathlib.Omega.{arith}
 use Rattle.state_bytes.proofs.Laws.{stored-container, unstored-short, unstored-past}
@@ -33,13 +33,23 @@ add-put-one c = search needs
 put-one-requires : tie.Need-put-one-requires
 put-one-requires c κs = search needs
 
+add-put-four-2 : tie.Need-add-put-four-2
+add-put-four-2 c = search needs
+
+put-four-requires-3 : tie.Need-put-four-requires-3
+put-four-requires-3 c κs = search needs
+
 same-length : tie.Need-same-length
 same-length c = search needs
 
 returns-3 : tie.Need-returns-3
 returns-3 c =
-    let a = c .before .before .before .before .before .before .before .before .before .before .before .before .before .before .before .args in
-    stored-container (a .st .now) (c .before .before .before .before .before .before .before .before .before .before .put-four .last .0) (c .before .before .before .before .before .before .put-four2 .last .0) (c .before .before .put-one .last .0) (a .i) (a .c) (c .before .before .before .before .before .before .before .before .before .before .before .before .before .if1 .left) (omega arith) (c .before .before .before .before .before .before .before .before .before .before .put-four .ensures) (c .before .before .before .before .before .before .put-four2 .ensures) (c .before .before .put-one .ensures)
+    let members = c .before .before in
+    let code = members .before .before .before .before in
+    let header = code .before .before .before .before in
+    let start = header .before .before .before .before in
+    let a = start .before .before .before .before .before .args in
+    stored-container (a .st .now) (start .put-four .last .0) (header .put-four2 .last .0) (code .put-one .last .0) (members .put-four3 .last .0) (a .i) (a .c) (start .before .before .before .if1 .left) (omega arith) (start .put-four .ensures) (header .put-four2 .ensures) (code .put-one .ensures) (members .put-four3 .ensures)
 
 pub store-container-spec : {M : Type 1} → statement M
 store-container-spec =
@@ -54,5 +64,7 @@ store-container-spec =
     put-four-requires-2
     add-put-one
     put-one-requires
+    add-put-four-2
+    put-four-requires-3
     same-length
     returns-3)

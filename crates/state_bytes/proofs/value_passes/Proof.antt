@@ -4,7 +4,7 @@ use mathlib.Core.Path.{sym, _∙_}
 use borrow.Author.Tests.{not-true, not-false, leb-true}
 use Rattle.machine.specs.Machine.{mostOpen, lacksName}
 use Rattle.state_bytes.specs.StateBytes.{stateOf}
-use Rattle.state_bytes.proofs.Laws.{readable-size, unreadable, passes-is}
+use Rattle.state_bytes.proofs.Laws.{readable-size, unreadable, passes-by}
 use borrow.Author.Needs.{needs}
 use Rattle.state_bytes.proofs.value_passes.Statement.{statement}
 use Rattle.state_bytes.proofs.value_passes.Tie as tie
@@ -28,7 +28,14 @@ passes-requires : tie.Need-passes-requires
 passes-requires c κs = let h = sym (c .before .before .before .before .readable .ensures) ∙ not-false _ (c .before .before .before .if1 .left) in (rw (c .before .before .depth .ensures) (leb-true _ mostOpen h), readable-size (c .before .before .before .before .before .before .args .st .now) h)
 
 returns-2 : tie.Need-returns-2
-returns-2 c = c .passes .ensures ∙ (rw (c .before .before .innermost-is-struct .ensures, c .before .waiting .ensures, c .before .before .before .depth .ensures) (sym (passes-is (stateOf (c .before .before .before .before .before .before .before .args .st .now)) (c .before .before .before .before .before .before .before .args .room) (lacksName (stateOf (c .before .before .before .before .before .before .before .args .st .now))) (sym (c .before .before .before .before .before .readable .ensures) ∙ not-false _ (c .before .before .before .before .if1 .left)))))
+returns-2 c =
+    let a = c .before .before .before .before .before .before .before .args in
+    let s = stateOf (a .st .now) in
+    let d = c .before .before .before .depth .ensures in
+    c .passes .ensures
+    ∙ rw (c .before .waiting .ensures, d)
+    (passes-by s (a .room) (lacksName s) _ (sym (c .before .before .before .before .before .readable .ensures) ∙ not-false _ (c .before .before .before .before .if1 .left))
+    (λ u. rw (c .before .before .innermost-is-struct .ensures u, d)))
 
 pub value-passes-spec : {M : Type 1} → statement M
 value-passes-spec =

@@ -38,14 +38,14 @@ returns c =
 write-blob-requires : tie.Need-write-blob-requires
 write-blob-requires c κs = search needs
 
-ended-requires : tie.Need-ended-requires
-ended-requires c κs = search needs
+scalar-ended-requires : tie.Need-scalar-ended-requires
+scalar-ended-requires c κs = search needs
 
 same-length : tie.Need-same-length
 same-length c = search needs
 
 returns-2 : tie.Need-returns-2
-returns-2 c = value-ended (put (c .before .before .before)) (omega arith) NoRoom (λ z. unchecked _ refl) (c .ended .result) (c .ended .ensures)
+returns-2 c = value-ended (put (c .before .before .before)) (omega arith) NoRoom (λ z. unchecked _ refl) (c .scalar-ended .result) (c .scalar-ended .ensures)
 
 pub write-blob-spec : {M : Type 1} → statement M
 write-blob-spec =
@@ -56,6 +56,6 @@ write-blob-spec =
     enum-told-2
     returns
     write-blob-requires
-    ended-requires
+    scalar-ended-requires
     same-length
     returns-2)

@@ -38,14 +38,14 @@ returns c =
 write-clob-requires : tie.Need-write-clob-requires
 write-clob-requires c κs = search needs
 
-ended-requires : tie.Need-ended-requires
-ended-requires c κs = search needs
+scalar-ended-requires : tie.Need-scalar-ended-requires
+scalar-ended-requires c κs = search needs
 
 same-length : tie.Need-same-length
 same-length c = search needs
 
 returns-2 : tie.Need-returns-2
-returns-2 c = value-ended (put (c .before .before .before)) (omega arith) NoRoom (λ z. unchecked _ refl) (c .ended .result) (c .ended .ensures)
+returns-2 c = value-ended (put (c .before .before .before)) (omega arith) NoRoom (λ z. unchecked _ refl) (c .scalar-ended .result) (c .scalar-ended .ensures)
 
 pub write-clob-spec : {M : Type 1} → statement M
 write-clob-spec =
@@ -56,6 +56,6 @@ write-clob-spec =
     enum-told-2
     returns
     write-clob-requires
-    ended-requires
+    scalar-ended-requires
     same-length
     returns-2)

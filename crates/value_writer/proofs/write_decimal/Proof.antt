@@ -52,14 +52,14 @@ returns-2 c =
     let k = toZ-ofZ w64 (s .args .exponent) (s .fits .exponent) in
     value-refused (put (c .before .before .before .before)) (c .decimal-refusal .result) (c .before .if1 .taken) (rw (← k) (c .decimal-refusal .ensures))
 
-ended-requires : tie.Need-ended-requires
-ended-requires c κs = search needs
+scalar-ended-requires : tie.Need-scalar-ended-requires
+scalar-ended-requires c κs = search needs
 
 same-length-2 : tie.Need-same-length-2
 same-length-2 c = search needs
 
 returns-3 : tie.Need-returns-3
-returns-3 c = value-ended (put (c .before .before .before .before)) (omega arith) NoRoom (λ z. absurd (c .before .if1 .left z)) (c .ended .result) (c .ended .ensures)
+returns-3 c = value-ended (put (c .before .before .before .before)) (omega arith) NoRoom (λ z. absurd (c .before .if1 .left z)) (c .scalar-ended .result) (c .scalar-ended .ensures)
 
 pub write-decimal-spec : {M : Type 1} → statement M
 write-decimal-spec =
@@ -73,6 +73,6 @@ write-decimal-spec =
     decimal-refusal-requires
     same-length
     returns-2
-    ended-requires
+    scalar-ended-requires
     same-length-2
     returns-3)

@@ -45,14 +45,14 @@ same-length c = search needs
 returns-2 : tie.Need-returns-2
 returns-2 c = value-refused (put (c .before .before .before .before)) (c .int-refusal .result) (c .before .if1 .taken) (c .int-refusal .ensures)
 
-ended-requires : tie.Need-ended-requires
-ended-requires c κs = search needs
+scalar-ended-requires : tie.Need-scalar-ended-requires
+scalar-ended-requires c κs = search needs
 
 same-length-2 : tie.Need-same-length-2
 same-length-2 c = search needs
 
 returns-3 : tie.Need-returns-3
-returns-3 c = value-ended (put (c .before .before .before .before)) (omega arith) NoRoom (λ z. absurd (c .before .if1 .left z)) (c .ended .result) (c .ended .ensures)
+returns-3 c = value-ended (put (c .before .before .before .before)) (omega arith) NoRoom (λ z. absurd (c .before .if1 .left z)) (c .scalar-ended .result) (c .scalar-ended .ensures)
 
 pub write-int-spec : {M : Type 1} → statement M
 write-int-spec =
@@ -66,6 +66,6 @@ write-int-spec =
     int-refusal-requires
     same-length
     returns-2
-    ended-requires
+    scalar-ended-requires
     same-length-2
     returns-3)

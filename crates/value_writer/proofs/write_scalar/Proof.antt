@@ -37,14 +37,14 @@ returns c =
 write-scalar-requires : tie.Need-write-scalar-requires
 write-scalar-requires c κs = search needs
 
-ended-requires : tie.Need-ended-requires
-ended-requires c κs = search needs
+scalar-ended-requires : tie.Need-scalar-ended-requires
+scalar-ended-requires c κs = search needs
 
 same-length : tie.Need-same-length
 same-length c = search needs
 
 returns-2 : tie.Need-returns-2
-returns-2 c = value-ended (put (c .before .before .before)) (omega arith) NoRoom (λ z. unchecked _ (scalar-unchecked (c .before .before .before .before .before .before .before .before .before .before .args .value))) (c .ended .result) (c .ended .ensures)
+returns-2 c = value-ended (put (c .before .before .before)) (omega arith) NoRoom (λ z. unchecked _ (scalar-unchecked (c .before .before .before .before .before .before .before .before .before .before .args .value))) (c .scalar-ended .result) (c .scalar-ended .ensures)
 
 pub write-scalar-spec : {M : Type 1} → statement M
 write-scalar-spec =
@@ -55,6 +55,6 @@ write-scalar-spec =
     enum-told-2
     returns
     write-scalar-requires
-    ended-requires
+    scalar-ended-requires
     same-length
     returns-2)

@@ -4,7 +4,7 @@ use Prim.Native.Nat.{_*_, _/_}
 use native.Mathlib.Omega.{arith}
 use Rattle.encoding.specs.Headers.{framedBytes, annotatedBytes}
 use Rattle.annotations.specs.Sids.{sidsOf}
-use Rattle.scalars.proofs.Bytes.{framed-some}
+use Rattle.encoding.proofs.Least.{framed-some}
 use Rattle.annotations.proofs.Sids.{sids-none}
 use Rattle.values.proofs.Checked.{annotatedBytes-none}
 use Rattle.values.proofs.Wrapped.{Wrapped, wrapped-bytes}

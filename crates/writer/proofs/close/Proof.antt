@@ -1,17 +1,21 @@
--- `writer::close` meets its contract: refused by place, refused for room, or closed.
+-- `writer::close` meets its contract: refused by place, refused for room, or closed, and counted in the outer container, whose count is not cut.
 -- Assumes nothing.
-use Prim.Native.Nat.{_<_, _≤_}
+use Prim.Native.Nat.{_-_, _<_, _≤_}
 use native.Mathlib.Omega.{arith}
 use mathlib.Core.Path.{_≡_, refl, sym, _∙_, ap}
-use mathlib.Core.Bool.{not, _||_}
+use mathlib.Core.Bool.{false, not, _||_}
+use mathlib.Core.List.{List}
 use lib.ListN.{length}
 use Rattle.machine.specs.Call.{closing}
-use Rattle.machine.specs.Machine.{openContainers, isOpen, accepted}
+use Rattle.machine.specs.declared.State.{State}
+use Rattle.machine.specs.declared.Container.{Container}
+use Rattle.machine.specs.Machine.{config, openContainers, isOpen, accepted}
 use Rattle.machine.specs.Numbers.{verdictOf}
 use Rattle.machine.specs.Machine.{placeVerdict}
 use Rattle.place.proofs.Laws.{fits-depth}
-use Rattle.steps.proofs.Run.{roomLine, refused-place}
-use Rattle.steps.proofs.Containers.{accepted-fits, accepted-placed, either-not, some-open, closing-refused, closing-start, closing-accepted}
+use Rattle.steps.proofs.Run.{accepted-with, roomLine, refused-place}
+use Rattle.steps.proofs.Containers.{accepted-fits, accepted-placed, either-not, some-open, innermost, closing-refused, closing-start, closing-accepted}
+use Rattle.steps.proofs.Members.{counted-uncut}
 use borrow.Author.Needs.{needs}
 use Rattle.writer.proofs.close.Statement.{statement}
 use Rattle.writer.proofs.close.Tie as tie
@@ -74,22 +78,32 @@ returns-2 c =
 sub-next : tie.Need-sub-next
 sub-next c = let k = known (c .before .before .before .before .before .before) in omega arith
 
+counted-requires : tie.Need-counted-requires
+counted-requires c κs = search needs
+
 sub-t12 : tie.Need-sub-t12
 sub-t12 c =
-    let w = c .before .before .before .before in
+    let w = c .before .before .before .before .before in
     let d = w .before .before .before in
     let a = d .before .before .before .before .args in
-    omega (arith, closing-start (a .t1) (a .buf .now) (w .close .result) (w .close .last .0) (known d .place) (w .close .ensures) (c .before .if1 .left))
+    omega (arith, closing-start (a .t1) (a .buf .now) (w .close .result) (w .close .last .0) (known d .place) (w .close .ensures) (c .before .before .if1 .left))
 
 same-length-2 : tie.Need-same-length-2
 same-length-2 c = search needs
 
 returns-3 : tie.Need-returns-3
 returns-3 c =
-    let w = c .before .before .before .before in
+    let w = c .before .before .before .before .before in
     let d = w .before .before .before in
     let a = d .before .before .before .before .args in
-    closing-accepted (a .t1) (a .buf .now) (w .close .result) (w .close .last .0) (known d .place) (w .close .ensures) (c .before .if1 .left)
+    let s = a .t1 in
+    let n = w .close .result in
+    let l = w .close .last .0 in
+    let f = accepted-fits s (length (a .buf .now)) _ (known d .place) in
+    let q = counted-uncut s (length (a .buf .now)) f (omega arith) (s .depth - 1) (omega arith) in
+    ap (λ (x : State). accepted-with (config x l) (record { size = n - innermost s .start; members = innermost s .members }))
+    (c .before .counted .ensures ∙ ap (λ (cs : List Container). record { used = n; depth = s .depth - 1; waiting = false; containers = cs }) q)
+    ∙ closing-accepted s (a .buf .now) n l (known d .place) (w .close .ensures) (c .before .before .if1 .left)
 
 pub close-spec : {M : Type 1} → statement M
 close-spec =
@@ -106,6 +120,7 @@ close-spec =
     same-length
     returns-2
     sub-next
+    counted-requires
     sub-t12
     same-length-2
     returns-3)

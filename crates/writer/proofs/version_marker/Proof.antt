@@ -47,9 +47,9 @@ returns-2 c =
     let past =
     passed-place versionMarker (a .s) (a .buf .now) (isOpen (openContainers (a .s))) (roomLine versionMarker (a .s) (a .buf .now)) refl
     (p .top-place .result) (p .top-place .ensures) (w .before .before .before .enum-told .given .1) in
-    ended-run (c .ended .result) versionMarker (a .s) (a .buf .now) (w .copy .result) (w .copy .last .0) (a .s .waiting) NoRoom
+    ended-run (c .ended .result) versionMarker (a .s) (a .buf .now) (w .copy .result) (w .copy .last .0) (a .s .waiting) _ NoRoom
     (λ h. omega (arith, put-fits (a .buf .now) (a .s .used) markerBytes (w .copy .result) (w .copy .last .0) (w .copy .ensures) h)) (c .ended .ensures)
-    (end-run versionMarker (a .s) (a .buf .now) markerBytes _ _ (a .s .waiting) (w .copy .ensures) past (omega arith) refl refl)
+    (end-run versionMarker (a .s) (a .buf .now) markerBytes _ _ (a .s .waiting) _ (w .copy .ensures) past (omega arith) refl refl)
 
 pub version-marker-spec : {M : Type 1} → statement M
 version-marker-spec =
