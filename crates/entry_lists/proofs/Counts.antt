@@ -14,7 +14,7 @@ use Rattle.ion.specs.Grammar.{Reads}
 use Rattle.machine.specs.declared.Container.{Container}
 use Rattle.machine.specs.Call.{Call, write, name, opening, closing, abandonment, versionMarker, taking, emptying}
 use Rattle.machine.specs.Machine.{Config, noContainer, innermostFirst, openContainers, innermostMembers, fits, ruleOf, checks, Verdict, accepted, refused, verdict, isAccepted, after, Outcome, run, started}
-use Rattle.machine.specs.Counts.{Answers, noAnswers, answersClosed, answersStep, answersAfter, afterAll}
+use Rattle.machine.specs.Counts.{Answers, noAnswers, answersAccepted, answersStep, answersAfter, afterAll}
 use Rattle.machine.proofs.Steps.{none-failing}
 use Rattle.machine.proofs.Counts.{members-answered}
 use Rattle.machine.proofs.Fitting.{own-states-fit}
@@ -55,16 +55,17 @@ module _ (w : Lent) (s : Sound w) (closed : List ℕ) (long : 8 ≤ length close
 
   -- only an accepted closing's number is told
   answers-same : (c : Call) (x : Answers)
-      → answersStep c (isAccepted (verdict c (configOf w))) (membersLaid closed w) x ≡ answersStep c (isAccepted (verdict c (configOf w))) (run c (configOf w) .figures .members) x
+      → answersStep c (isAccepted (verdict c (configOf w))) (stateOf (w .state)) (membersLaid closed w) x
+      ≡ answersStep c (isAccepted (verdict c (configOf w))) (stateOf (w .state)) (run c (configOf w) .figures .members) x
   answers-same c x = by-verdict c (verdict c (configOf w)) refl
     where
       by-verdict : (k : Call) (v : Verdict) → verdict k (configOf w) ≡ v
-          → answersStep k (isAccepted v) (membersLaid closed w) x ≡ answersStep k (isAccepted v) (run k (configOf w) .figures .members) x
+          → answersStep k (isAccepted v) (stateOf (w .state)) (membersLaid closed w) x ≡ answersStep k (isAccepted v) (stateOf (w .state)) (run k (configOf w) .figures .members) x
       by-verdict k (refused n) e = refl
       by-verdict (write an a) accepted e = refl
       by-verdict (name n) accepted e = refl
       by-verdict (opening an t) accepted e = refl
-      by-verdict closing accepted e = ap (answersClosed (x .outside) (x .inside)) (members-laid e)
+      by-verdict closing accepted e = ap (λ (n : ℕ). answersAccepted closing (stateOf (w .state)) n x) (members-laid e)
       by-verdict abandonment accepted e = refl
       by-verdict versionMarker accepted e = refl
       by-verdict taking accepted e = refl
@@ -74,11 +75,12 @@ module _ (w : Lent) (s : Sound w) (closed : List ℕ) (long : 8 ≤ length close
 
 module _ (closed : Lent → List ℕ) (long : (w : Lent) → 8 ≤ length (closed w)) where
   step-answers : (w : Lent) (m : Config) → Spells w m → (c : Call) (x : Answers)
-      → answersStep c (eqb (entered c (w .state) (w .buffer) .number) 0) (membersLaid (closed w) w) x ≡ answersStep c (isAccepted (verdict c m)) (run c m .figures .members) x
+      → answersStep c (eqb (entered c (w .state) (w .buffer) .number) 0) (stateOf (w .state)) (membersLaid (closed w) w) x
+      ≡ answersStep c (isAccepted (verdict c m)) (m .state) (run c m .figures .members) x
   step-answers w m s c x =
-      ap (λ (t : Bool). answersStep c t (membersLaid (closed w) w) x) (answer-is c w)
+      ap (λ (t : Bool). answersStep c t (stateOf (w .state)) (membersLaid (closed w) w) x) (answer-is c w)
       ∙ (answers-same w (s .sound) (closed w) (long w) c x
-      ∙ ap (λ (y : Config). answersStep c (isAccepted (verdict c y)) (run c y .figures .members) x) (s .config))
+      ∙ ap (λ (y : Config). answersStep c (isAccepted (verdict c y)) (y .state) (run c y .figures .members) x) (s .config))
 
   answers-are : (hs : List HostCall) (w : Lent) (m : Config) (x : Answers) → Spells w m → lentAnswersAfter closed hs w x ≡ answersAfter (calls hs) m x
   unfolding lentAnswersAfter answersAfter
@@ -86,7 +88,7 @@ module _ (closed : Lent → List ℕ) (long : (w : Lent) → 8 ≤ length (close
   answers-are (h ∷ hs) w m x s =
       let c = callOf (h .entry) in
       ap (lentAnswersAfter closed hs (lentBy c w)) (step-answers w m s c x)
-      ∙ answers-are hs (lentBy c w) (after c m) (answersStep c (isAccepted (verdict c m)) (run c m .figures .members) x) (step w m s c)
+      ∙ answers-are hs (lentBy c w) (after c m) (answersStep c (isAccepted (verdict c m)) (m .state) (run c m .figures .members) x) (step w m s c)
 
 pub entry-members-answered : EntryMembersAnswered
 entry-members-answered closed long hs st b r x reading =

@@ -23,7 +23,7 @@ use Rattle.annotations.specs.Sids.{leastFirst, sidAt, sidsUpTo, sidsOf}
 use Rattle.machine.specs.Machine.{closedBytes, splice, containerFits, containersFit, fits, verdict, startVerdict, finishedLength, run}
 use Rattle.machine.specs.Demands.{ReadsOnlyAs}
 use Rattle.machine.specs.Counts.{counts, noAnswers}
-use Rattle.machine.proofs.Instances.{most, nines, bytes, items}
+use Rattle.machine.proofs.Instances.{most, nines, bytes, items, counted}
 use Rattle.state_bytes.specs.StateBytes.{stateSize, stateOf, containersFrom, storedHead, storedContainer, storedMembers, entered, numbersLaid, answered}
 use Rattle.entry_numbers.specs.Lent.{typeCoded, precisionNumbered, offsetLent, fractionLent}
 use Rattle.entry_numbers.specs.EntryCall.{gmWriteNull, gmWriteBool, gmWriteI64, gmWriteInt, gmWriteF32, gmWriteF64, gmWriteDecimal, gmWriteTimestamp, gmWriteSymbol}
@@ -147,7 +147,7 @@ pub record Limits : Type 0 where
   pub run : LentRun hostLimits sevens nines
   pub joined : lentJoined hostLimits (lentStarted sevens nines) ≡ bytes
   pub spelled : lentSpelling hostLimits sevens nines .items ≡ items
-  pub answered : lentAnswersAfter (λ w. eights) hostLimits (lentStarted sevens nines) noAnswers .outside ≡ 5 ∷ 4 ∷ 1 ∷ []
+  pub answered : lentAnswersAfter (λ w. eights) hostLimits (lentStarted sevens nines) noAnswers .outside ≡ counted
 
 pub limits : Limits
 unfolding lentJoined lentModelAfter lentAnswersAfter answered numbersLaid placed startEntered entered run stateOf containersFrom storedHead storedContainer storedMembers laid sidsOf sidsUpTo sidAt leastFirst
@@ -164,7 +164,7 @@ entry-instance3 : ReadsOnlyAs bytes items
 entry-instance3 = subst₂ ReadsOnlyAs (limits .joined) (limits .spelled) (entry-demand3 hostLimits sevens nines (limits .run))
 
 -- how many members these items have is what the closings answer: the list, the struct around it, the s-expression
-entry-instance-counts : counts items ≡ 5 ∷ 4 ∷ 1 ∷ []
+entry-instance-counts : counts items ≡ counted
 entry-instance-counts =
     sym (entry-members-answered (λ w. eights) (λ w. omega arith) hostLimits sevens nines (limits .run) items (rw (limits .joined) (entry-instance3 .reading)))
     ∙ limits .answered

@@ -97,8 +97,8 @@ members-figures : figures members (started nines)
 unfolding members figures run nines verdict startVerdict fits containerFits containersFit splice closedBytes argumentBytes annotatedBytes framedBytes headerBytes varUIntBytes digits digitCount countDigits lowDigits bigEndian
 members-figures = refl
 
--- without what was abandoned, they are those of the joined bytes' one reading
-members-answers : answersAfter members (started nines) noAnswers ≡ record { outside = 2 ∷ 3 ∷ []; inside = [] }
+-- without what was abandoned: the struct is the second member of the list, which is the item behind the marker
+members-answers : answersAfter members (started nines) noAnswers ≡ record { items = 2; outside = (1 ∷ 1 ∷ [], 2) ∷ (1 ∷ [], 3) ∷ []; inside = [] }
 unfolding answersAfter members run nines verdict startVerdict fits containerFits containersFit splice closedBytes argumentBytes annotatedBytes framedBytes headerBytes varUIntBytes digits digitCount countDigits lowDigits bigEndian
 members-answers = refl
 

@@ -26,7 +26,7 @@ use Rattle.encoding.specs.Stream.{treeBytes, streamBytes}
 use Rattle.machine.specs.Call.{sequenceType, structType, Call, write, name, opening, closing, abandonment, versionMarker, taking, emptying, AllTyped}
 use Rattle.machine.specs.Machine.{closedBytes, splice, containerFits, containersFit, fits, Verdict, accepted, refused, verdict, startVerdict, started, finishedLength}
 use Rattle.machine.specs.Demands.{joined, modelAfter, spelled, written, Run, ReadsOnlyAs}
-use Rattle.machine.specs.Counts.{treeCounts, counts, noAnswers, answersAfter}
+use Rattle.machine.specs.Counts.{Counted, treeCounts, countsFrom, counts, noAnswers, answersAfter}
 use Rattle.machine.proofs.Demands.{demand2, demand3}
 use Rattle.machine.proofs.Counts.{members-answered}
 use Rattle.machine.proofs.Examples.{verdicts}
@@ -164,10 +164,13 @@ instance2 = sym (demand2 limits nines run) ∙ joined-bytes
 pub instance3 : ReadsOnlyAs bytes items
 instance3 = subst₂ ReadsOnlyAs joined-bytes spelled-items (demand3 limits nines run typed)
 
--- what its closings answer of members is what these items have: the list five, the struct four pairs, the s-expression one
-pub instance-counts : counts items ≡ 5 ∷ 4 ∷ 1 ∷ []
-unfolding counts treeCounts
+-- what its closings answer of members is what these items have: the list in the struct five, the struct four pairs, the s-expression one
+abbrev pub counted : List Counted
+counted = (2 ∷ 1 ∷ [], 5) ∷ (2 ∷ [], 4) ∷ (7 ∷ [], 1) ∷ []
+
+pub instance-counts : counts items ≡ counted
+unfolding countsFrom treeCounts
 instance-counts = refl
 
-pub instance-answers : answersAfter limits (started nines) noAnswers .outside ≡ 5 ∷ 4 ∷ 1 ∷ []
+pub instance-answers : answersAfter limits (started nines) noAnswers .outside ≡ counted
 instance-answers = members-answered limits nines run typed items (rw joined-bytes (instance3 .reading)) ∙ instance-counts
