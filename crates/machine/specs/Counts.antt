@@ -57,7 +57,7 @@ counts is = countsFrom 0 is
 
 -- ---- of what the closings answer
 
--- What closings have answered, in their order: how many items the stream has so far; of the containers that lie in no open one;
+-- How many items the stream has so far; and what closings have answered, in their order, of the containers that lie in no open one,
 -- and for each open container, innermost first, of those in it.
 pub record Answers : Type 0 where
   pub items : ℕ
