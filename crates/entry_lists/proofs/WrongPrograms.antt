@@ -1,5 +1,6 @@
 -- Document 01's wrong programs, "Conditions of acceptance" 3: what the contracts of the entry points say of two bools written one after the other
--- into eight bytes of nines, computed, and that it differs from what each such program answers or leaves.
+-- into eight bytes of nines, computed, and that it differs from what each such program answers or leaves. Then the same of programs that count
+-- members at another call than document 02, Item 3.
 -- Assumes nothing.
 use Prim.Native.Nat.{ℕ, _+_}
 use native.Mathlib.Omega.{arith}
@@ -7,12 +8,14 @@ use mathlib.Core.Path.{_≡_, refl, sym, _∙_, ap}
 use mathlib.Core.List.{List, [], _∷_}
 use lib.ListN.{replicate, getD}
 use Rattle.buffer.specs.Laid.{laid}
-use Rattle.encoding.specs.Headers.{annotatedBytes}
+use Rattle.encoding.specs.Digits.{lowDigits, countDigits, digitCount, digits}
+use Rattle.encoding.specs.Fields.{varUIntBytes}
+use Rattle.encoding.specs.Headers.{headerBytes, framedBytes, annotatedBytes}
 use Rattle.encoding.specs.Argument.{argumentBytes}
 use Rattle.annotations.specs.Sids.{sidsUpTo, sidsOf}
-use Rattle.machine.specs.Machine.{splice, containersFit, fits, verdict, startVerdict, run}
-use Rattle.state_bytes.specs.StateBytes.{stateSize, four, stateOf, containersFrom, storedHead, entered}
-use Rattle.entry_numbers.specs.EntryCall.{gmWriteBool}
+use Rattle.machine.specs.Machine.{closedBytes, splice, containerFits, containersFit, fits, verdict, startVerdict, run}
+use Rattle.state_bytes.specs.StateBytes.{stateSize, four, placeOf, stateOf, containersFrom, storedHead, storedContainer, storedMembers, entered}
+use Rattle.entry_numbers.specs.EntryCall.{gmWriteBool, gmFieldName, gmOpenList, gmOpenStruct, gmClose, gmAbandon}
 use Rattle.entry_steps.specs.Entries.{startEntered}
 use Rattle.entry_lists.specs.Demands.{Lent, answer, lentAfter, lentStarted}
 
@@ -62,3 +65,50 @@ null-for-each e = let z : _≡_ {A = ℕ} 0x11 0x0F = ap (λ (b : List ℕ). get
 -- leaves the buffer untouched
 untouched : once .buffer ≡ started .buffer → ⊥
 untouched e = let z : _≡_ {A = ℕ} 0x11 9 = ap (λ (b : List ℕ). getD b 4 0) (sym (said .one) ∙ e ∙ said .begun) in omega arith
+
+-- ---- members: a list in a struct, abandoned, opened again and closed; then a pair of name and bool
+
+abbrev opened : Lent
+opened = lentAfter (gmOpenStruct []) (lentStarted (replicate stateSize 7) (replicate 16 9))
+
+abbrev named : Lent
+named = lentAfter (gmFieldName 4) opened
+
+abbrev inside : Lent
+inside = lentAfter (gmOpenList []) named
+
+abbrev abandoned : Lent
+abandoned = lentAfter gmAbandon inside
+
+abbrev closed : Lent
+closed = lentAfter gmClose (lentAfter (gmOpenList []) abandoned)
+
+abbrev paired : Lent
+paired = lentAfter (gmWriteBool [] 1) (lentAfter (gmFieldName 5) closed)
+
+abbrev structMembers : Lent → ℕ
+structMembers w = four (w .state) (placeOf 0 + 9)
+
+-- the struct's members behind each of them
+members-said : structMembers opened ∷ structMembers named ∷ structMembers inside ∷ structMembers abandoned ∷ structMembers closed ∷ structMembers paired ∷ []
+    ≡ 0 ∷ 0 ∷ 0 ∷ 0 ∷ 1 ∷ 2 ∷ []
+unfolding startEntered entered run stateOf containersFrom storedHead storedContainer storedMembers laid sidsOf sidsUpTo verdict startVerdict fits
+    containerFits containersFit splice closedBytes argumentBytes annotatedBytes framedBytes headerBytes varUIntBytes digits digitCount countDigits lowDigits
+members-said = refl
+
+-- counts a field name, a container at its opening, or one that is abandoned
+name-counted : structMembers named ≡ 1 → ⊥
+name-counted e = let z : _≡_ {A = ℕ} 0 1 = sym (ap (λ (b : List ℕ). getD b 1 0) members-said) ∙ e in omega arith
+
+opening-counted : structMembers inside ≡ 1 → ⊥
+opening-counted e = let z : _≡_ {A = ℕ} 0 1 = sym (ap (λ (b : List ℕ). getD b 2 0) members-said) ∙ e in omega arith
+
+abandonment-counted : structMembers abandoned ≡ 1 → ⊥
+abandonment-counted e = let z : _≡_ {A = ℕ} 0 1 = sym (ap (λ (b : List ℕ). getD b 3 0) members-said) ∙ e in omega arith
+
+-- counts no container that is closed, or no scalar
+closing-not-counted : structMembers closed ≡ 0 → ⊥
+closing-not-counted e = let z : _≡_ {A = ℕ} 1 0 = sym (ap (λ (b : List ℕ). getD b 4 0) members-said) ∙ e in omega arith
+
+scalar-not-counted : structMembers paired ≡ structMembers closed → ⊥
+scalar-not-counted e = let z : _≡_ {A = ℕ} 2 1 = sym (ap (λ (b : List ℕ). getD b 5 0) members-said) ∙ (e ∙ ap (λ (b : List ℕ). getD b 4 0) members-said) in omega arith
