@@ -59,9 +59,13 @@ fn left_out() {
 #[test]
 fn short_and_long_files() {
     let short = OURS.strip_suffix("!11\n").expect("six lines");
-    assert!(!judge("short", &[LINES, short, RUST]).0);
-    assert!(!judge("short-rust", &[LINES, OURS, "11\n"]).0);
-    assert!(!judge("long", &[LINES, &format!("{OURS}11\n"), RUST]).0);
+    let long = format!("{OURS}11\n");
+    for (name, files, lines) in
+        [("short", [LINES, short, RUST], 5), ("short-rust", [LINES, OURS, "11\n"], 1), ("long", [LINES, &long, RUST], 6)]
+    {
+        let (content, printed) = judge(name, &files);
+        assert!(!content && printed.ends_with(&format!("\n{lines} lines, 1 differences\n")), "{printed}");
+    }
 }
 
 #[test]
@@ -74,7 +78,8 @@ fn streams() {
     let moved = "e00100ea\ne00100ea\n11\nb22105\n";
     assert!(!judge("stream-order", &[LINES, OURS, RUST, stream, moved, rust]).0);
     let short = "e00100ea\n11\ne00100ea\n";
-    assert!(!judge("stream-short", &[LINES, OURS, RUST, stream, short, rust]).0);
+    let (content, printed) = judge("stream-short", &[LINES, OURS, RUST, stream, short, rust]);
+    assert!(!content && printed.ends_with("\n8 lines, 1 differences\n"), "{printed}");
     let more = "e00100ea11e00100eab2210511\n";
     assert!(!judge("stream-long", &[LINES, OURS, RUST, stream, ours, more]).0);
 }
