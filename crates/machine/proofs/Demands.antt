@@ -46,7 +46,7 @@ call-writable done w x c inv t o = by-verdict (verdict c w) refl
 -- ---- a list of calls
 
 -- with no container open by the model none is open by the state
-none-left : (done : List ℕ) (w : Config) (x : Model Argument) → Invariant done w x → x .stack ≡ [] → isOpen (openContainers (w .state)) ≡ false
+pub none-left : (done : List ℕ) (w : Config) (x : Model Argument) → Invariant done w x → x .stack ≡ [] → isOpen (openContainers (w .state)) ≡ false
 none-left done w x inv e = ap isOpen (inv .layout .placed) ∙ ap (λ (st : List (Open Argument)). isOpen (containersOf (inv .layout .base) st)) e
 
 joined-is : (cs : List Call) (done : List ℕ) (w : Config) (x : Model Argument) → Invariant done w x → modelAfter (λ a. a) cs w x .stack ≡ []

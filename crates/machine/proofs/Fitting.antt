@@ -81,16 +81,20 @@ named true true e = refl
 named true false e = absurd (true≢false e)
 named false inside e = refl
 
+pub invariant-chain : (done : List ℕ) (w : Config) (x : Model Argument) → Invariant done w x → containersFit (w .state .used) (openContainers (w .state)) ≡ true
+invariant-chain done w x inv =
+    let y = inv .layout in
+    let n : length (bytesTo (y .base) (x .stack)) ≤ w .state .used =
+    omega (arith, sym (length-live done w x inv) ∙ ap length (y .shown), length-append (bytesTo (y .base) (x .stack)) (nameBytes (x .waiting))) in
+    ap (containersFit (w .state .used)) (y .placed) ∙ chain-fits (y .base) (x .stack) (w .state .used) n
+
 pub invariant-fits : (done : List ℕ) (w : Config) (x : Model Argument) → Invariant done w x → fits (w .state) (length (w .buffer)) ≡ true
 unfolding fits
 invariant-fits done w x inv =
     let y = inv .layout in
-    let n : length (bytesTo (y .base) (x .stack)) ≤ w .state .used =
-    omega (arith, sym (length-live done w x inv) ∙ ap length (y .shown), length-append (bytesTo (y .base) (x .stack)) (nameBytes (x .waiting))) in
-    let c : containersFit (w .state .used) (openContainers (w .state)) ≡ true = ap (containersFit (w .state .used)) (y .placed) ∙ chain-fits (y .base) (x .stack) (w .state .used) n in
     let s : (not (w .state .waiting) || inStruct (openContainers (w .state))) ≡ true =
     rw (inv .flag, inStruct-layout done _ (openContainers (w .state)) (x .items) (x .stack) (x .waiting) y) (named (isSome (x .waiting)) (insideStruct (x .stack)) (y .waits)) in
-    rw (le-leb (w .state .used) (length (w .buffer)) (inv .fit), le-leb (w .state .depth) mostOpen (inv .depth), c) s
+    rw (le-leb (w .state .used) (length (w .buffer)) (inv .fit), le-leb (w .state .depth) mostOpen (inv .depth), invariant-chain done w x inv) s
 
 -- ---- a list of calls
 

@@ -5,6 +5,8 @@ pub mod Steps
 pub mod Meaning
 pub mod Demands
 pub mod Counts
+pub mod Fit
 pub mod Fitting
+pub mod Moves
 pub mod Examples
 pub mod Instances

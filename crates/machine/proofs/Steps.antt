@@ -40,7 +40,7 @@ split-holds (x ∷ l) r h = let s = split-holds l r (h .1) in ((h .0, s .0), s .
 pub record Passed (w : Config) (misplaced : Bool) (lines : List (Bool × ℕ)) (used : ℕ) : Type 0 where
   fit : fits (w .state) (length (w .buffer)) ≡ true
   pub place : misplaced ≡ false
-  own : NoneHolds lines
+  pub own : NoneHolds lines
   room : used ≤ length (w .buffer)
 
 pub passed : (w : Config) (misplaced : Bool) (own : List (Bool × ℕ)) (used : ℕ) → NoneHolds (lines w misplaced own used) → Passed w misplaced own used

@@ -4,3 +4,4 @@ pub mod Numbers
 pub mod Model
 pub mod Demands
 pub mod Counts
+pub mod Moves

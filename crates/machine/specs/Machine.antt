@@ -11,7 +11,7 @@ use Rattle.machine.specs.declared.State.{State}
 use Rattle.machine.specs.declared.Container.{Container}
 use Rattle.ion.specs.Value.{listCode, sexpCode, structCode, annotationCode, list, sexp}
 use Rattle.encoding.specs.Fields.{varUIntBytes}
-use Rattle.encoding.specs.Headers.{typeByte, framedBytes, annotationBytes, annotatedBytes, markerBytes}
+use Rattle.encoding.specs.Headers.{typeByte, headerBytes, framedBytes, annotationBytes, annotatedBytes, markerBytes}
 use Rattle.encoding.specs.Argument.{argumentBytes, argumentChecks}
 use Rattle.machine.specs.Call.{ContainerType, sequenceType, structType}
 use Rattle.machine.specs.Call.{Call, write, name, opening, closing, abandonment, versionMarker, taking, emptying}
@@ -99,6 +99,29 @@ closedBytes start header code live =
 abbrev pub closedInnermost : List Container → List ℕ → List ℕ
 closedInnermost [] live = []
 closedInnermost (c ∷ cs) live = closedBytes (c .start) (c .header) (c .code) live
+
+-- ---- how many bytes a closing moves (document 02, Item 10)
+
+-- the length n of a part, if it lies elsewhere than it lay
+abbrev pub lengthIfMoved : ℕ → ℕ → ℕ → ℕ
+lengthIfMoved from to n = elim (eqb from to) [ true ↦ 0 | false ↦ n ]
+
+-- The body lay behind the header's reserve, and lies behind the header; the annotation part, sum and sids, lay behind the wrapper's reserve,
+-- and lies behind the wrapper's header. Headers do not move.
+unfoldable pub movedBytes : ℕ → ℕ → ℕ → List ℕ → ℕ
+movedBytes start header code live =
+    let body = drop (header + 2) live in
+    let inner = headerBytes code (length body) in
+    let noted = slice (start + 2) header live in
+    let wrapper = headerBytes (typeByte annotationCode) (length (noted ++ (inner ++ body))) in
+    elim (eqb header start) [
+      | true ↦ lengthIfMoved (header + 2) (start + length inner) (length body)
+      | false ↦ lengthIfMoved (start + 2) (start + length wrapper) (length noted) + lengthIfMoved (header + 2) (start + length (wrapper ++ (noted ++ inner))) (length body)
+    ]
+
+abbrev pub innermostMoved : List Container → List ℕ → ℕ
+innermostMoved [] live = 0
+innermostMoved (c ∷ cs) live = movedBytes (c .start) (c .header) (c .code) live
 
 abbrev pub innermostStart : List Container → ℕ → ℕ
 innermostStart [] used = used
@@ -208,14 +231,16 @@ taken w = take (finishedLength (w .state) (length (w .buffer))) (w .buffer)
 
 -- ---- the calls
 
--- What a closing answers of the container that it closes: the bytes that it takes, headers and annotations counted, and how many members it has.
+-- What a closing answers of the container that it closes: the bytes that it takes, headers and annotations counted, how many members it has,
+-- and how many bytes moved.
 pub record Figures : Type 0 where
   pub size : ℕ
   pub members : ℕ
+  pub moved : ℕ
 
 -- what stands in their place where a closing is refused, and in any other call
 abbrev pub noFigures : Figures
-noFigures = record { size = 0; members = 0 }
+noFigures = record { size = 0; members = 0; moved = 0 }
 
 -- What is said of a call: the lines of the table that it has, in their order; and where none of them fails, what it leaves, which finished bytes it lets go,
 -- and what it answers of a container.
@@ -239,10 +264,11 @@ ruleOf (name n) w =
     puts w (not (inStruct (openContainers (w .state))) || w .state .waiting) [] (atEnd (w .state) (varUIntBytes n) true (w .state .containers)) noFigures
 ruleOf (opening an k) w = puts w (lacksName (w .state)) ((leb mostOpen (w .state .depth), 4) ∷ []) (openingOf (w .state) an k) noFigures
 ruleOf closing w =
-    let out = closedInnermost (openContainers (w .state)) (live w) in
+    let os = openContainers (w .state) in
+    let out = closedInnermost os (live w) in
     let cs = counted (w .state .containers) (w .state .depth - 1) in
-    puts w (not (isOpen (openContainers (w .state))) || w .state .waiting) [] (inPlace (w .state) out false cs)
-    (record { size = length out; members = innermostMembers (openContainers (w .state)) })
+    puts w (not (isOpen os) || w .state .waiting) [] (inPlace (w .state) out false cs)
+    (record { size = length out; members = innermostMembers os; moved = innermostMoved os (live w) })
 ruleOf abandonment w =
     puts w (not (isOpen (openContainers (w .state)))) [] (inPlace (w .state) [] (inStruct (outer (openContainers (w .state)))) (w .state .containers)) noFigures
 ruleOf versionMarker w = puts w (isOpen (openContainers (w .state))) [] (atEnd (w .state) markerBytes (w .state .waiting) (w .state .containers)) noFigures

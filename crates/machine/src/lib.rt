@@ -60,11 +60,12 @@ pub struct Written {
     pub state: State,
 }
 
-// What a closing answers: the same, how many bytes the closed container takes, headers and annotations counted, and how many members it has;
-// both are 0 where it is refused.
+// What a closing answers: the same, how many bytes the closed container takes, headers and annotations counted, how many members it has,
+// and how many bytes moved: the body's, if the body moved, and the annotations', if these moved. All three are 0 where it is refused.
 pub struct Closed {
     pub answer: Answer,
     pub state: State,
     pub size: usize,
     pub members: usize,
+    pub moved: usize,
 }

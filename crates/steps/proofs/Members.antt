@@ -16,7 +16,7 @@ use Rattle.machine.specs.declared.State.{State}
 use Rattle.machine.specs.declared.Container.{Container}
 use Rattle.machine.specs.Machine.{mostOpen, noContainer, innermostFirst, openContainers, counted, containerFits, containersFit, fits}
 use Rattle.place.proofs.Laws.{fits-used}
-use Rattle.containers.proofs.Closed.{fit}
+use Rattle.machine.proofs.Fit.{fit}
 use Rattle.steps.specs.Counted.{memberCut, countedCut}
 
 -- ---- the containers of a state that fits

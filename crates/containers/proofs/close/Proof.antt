@@ -11,7 +11,8 @@ use lib.ListN.{length, take}
 use borrow.Author.Tests.{not-true, not-false, leb-true}
 use Rattle.containers.specs.Containers.{spliced}
 use Rattle.machine.specs.Machine.{closedBytes, containerFits}
-use Rattle.containers.proofs.Closed.{Fit, fit, closedOn-fits, closedOn-not}
+use Rattle.machine.proofs.Fit.{Fit, fit}
+use Rattle.containers.proofs.Closed.{closedOn-fits, closedOn-not}
 use borrow.Author.Needs.{needs}
 use Rattle.containers.proofs.close.Statement.{statement}
 use Rattle.containers.proofs.close.Tie as tie
