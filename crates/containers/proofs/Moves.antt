@@ -7,6 +7,8 @@ use native.Mathlib.Omega.{arith}
 use native.Mathlib.Numerals.{add-one}
 use lib.ListN.{length, take, drop, getD, set, replicate, length-drop, length-replicate, replicate-append-replicate, take-append-drop}
 use lib.Seq.{slice, getD-drop, getD-take, take-suc, take-add, drop-at, drop-cons, length-take-le, drop-drop}
+use borrow.Author.Tests.{eq-eqb, ne-eqb}
+use Rattle.machine.specs.Machine.{lengthIfMoved}
 use Rattle.buffer.specs.Laid.{laid}
 use Rattle.buffer.proofs.Laid.{laid-is, laid-snoc, laid-cons, length-laid, take-before, drop-laid}
 
@@ -25,6 +27,13 @@ pub slice-part : (b : List ℕ) (from end : ℕ) → from ≤ end → end ≤ le
 slice-part b from end h k =
     let e : end ≡ from + (end - from) = omega arith in
     ap (λ (n : ℕ). slice from n b) e ∙ sym (part-slice b from (end - from) (omega arith))
+
+-- it counts as moved exactly if it lies elsewhere
+pub moved-away : (from to n : ℕ) → (from ≡ to → ⊥) → n ≡ lengthIfMoved from to n
+moved-away from to n h = rw (ne-eqb from to h, lengthIfMoved) refl
+
+pub moved-nowhere : (from to n : ℕ) → from ≡ to → 0 ≡ lengthIfMoved from to n
+moved-nowhere from to n e = rw (eq-eqb from to e, lengthIfMoved) refl
 
 -- a part where it lies
 pub laid-same : (b : List ℕ) (at count : ℕ) → at + count ≤ length b → b ≡ laid b at (part b at count)

@@ -11,7 +11,8 @@ use Rattle.machine.specs.Machine.{splice}
 use Rattle.buffer.specs.Laid.{laid}
 use Rattle.buffer.proofs.Laid.{laid-is, laid-more, laid-before}
 use Rattle.encoding.proofs.Headers.{length-header}
-use Rattle.containers.specs.Containers.{spliced}
+use Rattle.containers.specs.declared.Closing.{Closing}
+use Rattle.containers.specs.Containers.{notClosed, spliced}
 
 -- ---- two runs side by side, the second at a place that the code computes
 
@@ -47,18 +48,18 @@ module _ (used p : ℕ) (out b : List ℕ) where
   pub splice-laid : p + length out ≤ length b → laid (laid b p out) (p + length out) (zeros (used - (p + length out))) ≡ splice used p out b
   splice-laid h = laid-more b p out h (zeros (used - (p + length out))) ∙ sym (splice-run h)
 
-  pub spliced-fits : p + length out ≤ length b → spliced used p out b ≡ (p + length out, splice used p out b)
+  spliced-fits : (moved : ℕ) → p + length out ≤ length b → spliced used p out moved b ≡ (record { used = p + length out; moved = moved }, splice used p out b)
   unfolding spliced
-  spliced-fits h = rw (spliced, le-leb (p + length out) (length b) h) refl
+  spliced-fits moved h = rw (spliced, le-leb (p + length out) (length b) h) refl
 
-  pub spliced-full : length b < p + length out → spliced used p out b ≡ (0, b)
+  pub spliced-full : (moved : ℕ) → length b < p + length out → spliced used p out moved b ≡ (notClosed, b)
   unfolding spliced
-  spliced-full h = rw (spliced, lt-leb (p + length out) (length b) h) refl
+  spliced-full moved h = rw (spliced, lt-leb (p + length out) (length b) h) refl
 
   -- the run is laid, and the rest cleared
-  pub spliced-by : (end : ℕ) {l l′ : List ℕ} → end ≡ p + length out → end ≤ length b → l ≡ laid b p out → l′ ≡ laid l end (zeros (used - end)) →
-      _≡_ {A = ℕ × List ℕ} (end, l′) (spliced used p out b)
-  spliced-by end e h q q′ = rw (q′, q, e) (rw (splice-laid (omega arith)) (sym (spliced-fits (omega arith))))
+  pub spliced-by : (end moved n : ℕ) {l l′ : List ℕ} → end ≡ p + length out → end ≤ length b → n ≡ moved → l ≡ laid b p out → l′ ≡ laid l end (zeros (used - end)) →
+      _≡_ {A = Closing × List ℕ} (record { used = end; moved = n }, l′) (spliced used p out moved b)
+  spliced-by end moved n e h m q q′ = rw (q′, q, e, m) (rw (splice-laid (omega arith)) (sym (spliced-fits moved (omega arith))))
 
 -- a splice of nothing clears
 pub splice-nil : (used p : ℕ) (b : List ℕ) → p ≤ length b → splice used p [] b ≡ laid b p (zeros (used - p))

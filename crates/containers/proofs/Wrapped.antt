@@ -1,6 +1,6 @@
 -- The laws of an annotated container's close: the two orders in which its parts reach their final places.
 -- Each write is a run beside the last one, and what is still to be read lies outside the runs. Assumes nothing.
-use mathlib.Core.Path.{_≡_, refl, sym, _∙_, ap}
+use mathlib.Core.Path.{_≡_, refl, sym, _∙_, ap, ap₂}
 use mathlib.Core.List.{List, _++_, append-assoc}
 use mathlib.Core.Bool.{Bool, true, false}
 use Prim.Native.Nat.{ℕ, _+_, _-_, _≤_, _<_}
@@ -9,11 +9,11 @@ use lib.Dec.{ltb}
 use borrow.Author.Tests.{ltb-true, ltb-false}
 use lib.ListN.{length, take, length-append}
 use Rattle.encoding.specs.Headers.{headerBytes}
-use Rattle.machine.specs.Machine.{closedBytes}
+use Rattle.machine.specs.Machine.{closedBytes, lengthIfMoved, movedBytes}
 use Rattle.buffer.specs.Laid.{laid}
 use Rattle.encoding.proofs.Sizes.{varUInt-least}
 use Rattle.encoding.proofs.Headers.{header-short, header-long, length-header}
-use Rattle.containers.proofs.Closed.{closedBytes-wrapped}
+use Rattle.containers.proofs.Closed.{closedBytes-wrapped, moved-wrapped}
 use Rattle.containers.proofs.Moves.{part, length-part, part-before, part-behind}
 use Rattle.containers.proofs.Splice.{then-behind, then-before, framed-is}
 
@@ -78,6 +78,13 @@ module _ (b : List ℕ) (start header code len h w : ℕ)
 
   pub length-wrapped : length closed ≡ w + (header - (start + 2) + h + len)
   length-wrapped = let k = lengths in ap length (sym whole) ∙ (length-append W (A ++ (H ++ B)) ∙ omega arith)
+
+  -- the sum of what the two moves report
+  pub moved-both : {x y : ℕ} → x ≡ lengthIfMoved (start + 2) (start + w) (header - (start + 2)) → y ≡ lengthIfMoved (header + 2) (start + w + (header - (start + 2)) + h) len
+      → x + y ≡ movedBytes start header code (take (header + 2 + len) b)
+  moved-both p q =
+      let n : header + 2 + len - (header + 2) ≡ len = omega arith in
+      ap₂ _+_ p q ∙ rw n at (moved-wrapped header code (header + 2 + len) b (omega arith) f start h w s (rw n eh) (rw n ew))
 
   module _ (g : start + w + (header - (start + 2)) + h + len ≤ length b) where
     -- the wrapper's header before all else

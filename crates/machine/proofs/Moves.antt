@@ -32,7 +32,7 @@ use Rattle.machine.proofs.Fitting.{invariant-chain}
 
 -- ---- one closing
 
-if-moved : (from to n : ℕ) → lengthIfMoved from to n ≤ n
+pub if-moved : (from to n : ℕ) → lengthIfMoved from to n ≤ n
 if-moved from to n = by-cases (eqb from to) (λ p. rw (p, lengthIfMoved) (omega arith)) (λ p. rw (p, lengthIfMoved) (omega arith))
 
 length-framed : (code : ℕ) (body : List ℕ) → length body ≤ length (framedBytes code body)

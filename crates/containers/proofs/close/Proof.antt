@@ -10,7 +10,7 @@ use lib.Dec.{leb}
 use lib.ListN.{length, take}
 use borrow.Author.Tests.{not-true, not-false, leb-true}
 use Rattle.containers.specs.Containers.{spliced}
-use Rattle.machine.specs.Machine.{closedBytes, containerFits}
+use Rattle.machine.specs.Machine.{closedBytes, movedBytes, containerFits}
 use Rattle.machine.proofs.Fit.{Fit, fit}
 use Rattle.containers.proofs.Closed.{closedOn-fits, closedOn-not}
 use borrow.Author.Needs.{needs}
@@ -54,7 +54,8 @@ returns-2 c =
     let a = d .before .before .before .args in
     let f = closedOn-fits (a .c) (a .used) (a .buf .now) (known d .flag) in
     let out : ℕ → List ℕ = λ h. closedBytes (a .c .start) h (a .c .code) (take (a .used) (a .buf .now)) in
-    let e = ap (λ (h : ℕ). spliced (a .used) (a .c .start) (out h) (a .buf .now)) (c .before .before .before .before .if2 .taken) in
+    let moved : ℕ → ℕ = λ h. movedBytes (a .c .start) h (a .c .code) (take (a .used) (a .buf .now)) in
+    let e = ap (λ (h : ℕ). spliced (a .used) (a .c .start) (out h) (moved h) (a .buf .now)) (c .before .before .before .before .if2 .taken) in
     c .before .before .close-plain .ensures ∙ sym (f ∙ e)
 
 close-annotated-requires : tie.Need-close-annotated-requires

@@ -6,7 +6,7 @@ use native.Mathlib.Omega.{arith}
 use mathlib.Core.List.{List}
 use lib.ListN.{length, take}
 use Rattle.encoding.proofs.Headers.{header-most}
-use Rattle.machine.specs.Machine.{closedBytes}
+use Rattle.machine.specs.Machine.{closedBytes, movedBytes}
 use Rattle.containers.proofs.Splice.{spliced-by, spliced-full}
 use Rattle.containers.proofs.Wrapped.{length-wrapped}
 use borrow.Author.Needs.{needs}
@@ -21,6 +21,12 @@ abbrev final : (c : tie.After-encoded-size-of2) → List ℕ
 final c =
     let a = c .before .before .before .args in
     closedBytes (a .start) (a .header) (a .code) (take (a .used) (a .buf .now))
+
+-- what moves
+abbrev moved : (c : tie.After-encoded-size-of2) → ℕ
+moved c =
+    let a = c .before .before .before .args in
+    movedBytes (a .start) (a .header) (a .code) (take (a .used) (a .buf .now))
 
 -- the wrapper as it ends up
 record Known (c : tie.After-encoded-size-of2) : Type 0 where
@@ -79,7 +85,7 @@ returns : tie.Need-returns
 returns c =
     let k = known (c .before) in
     let a = c .before .before .before .before .args in
-    sym (spliced-full (a .used) (a .start) (final (c .before)) (a .buf .now) (omega arith))
+    sym (spliced-full (a .used) (a .start) (final (c .before)) (a .buf .now) (moved (c .before)) (omega arith))
 
 lay-wrapped-requires : tie.Need-lay-wrapped-requires
 lay-wrapped-requires c κs = search needs
@@ -95,8 +101,9 @@ returns-2 c =
     let d = c .before .before .before .before .before .before .before .before .before in
     let k = known d in
     let a = d .before .before .before .args in
-    let l = rw (k .end) at (c .before .before .before .before .before .before .lay-wrapped .ensures) in
-    spliced-by (a .used) (a .start) (final d) (a .buf .now) _ (omega arith) (omega arith) l (c .before .before .clear .ensures)
+    let l = c .before .before .before .before .before .before .lay-wrapped in
+    let q = rw (k .end) at (l .ensures) in
+    spliced-by (a .used) (a .start) (final d) (a .buf .now) _ (moved d) (l .result) (omega arith) (omega arith) (q .0) (q .1) (c .before .before .clear .ensures)
 
 pub close-annotated-spec : {M : Type 1} → statement M
 close-annotated-spec =

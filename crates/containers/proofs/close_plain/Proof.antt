@@ -8,8 +8,8 @@ use lib.ListN.{length, take}
 use Rattle.encoding.specs.Headers.{headerBytes, framedBytes}
 use Rattle.buffer.specs.Laid.{laid}
 use Rattle.encoding.proofs.Headers.{header-most, length-header}
-use Rattle.machine.specs.Machine.{closedBytes}
-use Rattle.containers.proofs.Closed.{closedBytes-plain}
+use Rattle.machine.specs.Machine.{closedBytes, movedBytes}
+use Rattle.containers.proofs.Closed.{closedBytes-plain, moved-plain}
 use Rattle.containers.proofs.Moves.{part, length-part}
 use Rattle.containers.proofs.Splice.{then-before, framed-is, length-framed, spliced-by, spliced-full}
 use borrow.Author.Needs.{needs}
@@ -60,7 +60,7 @@ returns : tie.Need-returns
 returns c =
     let k = known (c .before) in
     let a = c .before .before .before .args in
-    rw (k .final) (sym (spliced-full (a .used) (a .start) (framedBytes (a .code) (body (c .before))) (a .buf .now) (omega arith)))
+    rw (k .final) (sym (spliced-full (a .used) (a .start) (framedBytes (a .code) (body (c .before))) (a .buf .now) (movedBytes (a .start) (a .start) (a .code) (take (a .used) (a .buf .now))) (omega arith)))
 
 add-move-bytes : tie.Need-add-move-bytes
 add-move-bytes c = search needs
@@ -88,11 +88,14 @@ returns-2 c =
     let n = a .used - (a .start + 2) in
     let q = length-header (a .code) n in
     let m = c .before .before .before .before .before .before in
+    let v = m .before .before .before .before .move-bytes in
     let both =
     then-before (a .buf .now) (a .start) (headerBytes (a .code) n) (body d) (a .start + d .encoded-size-of .result) (omega arith) (omega arith)
-    (m .before .before .before .before .move-bytes .ensures) (m .put-header .ensures) in
+    (v .ensures .1) (m .put-header .ensures) in
     rw (k .final)
-    (spliced-by (a .used) (a .start) (framedBytes (a .code) (body d)) (a .buf .now) (a .start + d .encoded-size-of .result + n) (omega arith) (omega arith)
+    (spliced-by (a .used) (a .start) (framedBytes (a .code) (body d)) (a .buf .now) (a .start + d .encoded-size-of .result + n)
+    (movedBytes (a .start) (a .start) (a .code) (take (a .used) (a .buf .now))) (v .result) (omega arith) (omega arith)
+    (v .ensures .0 ∙ moved-plain (a .start) (a .code) (a .used) (a .buf .now) (omega arith) (omega arith) (d .encoded-size-of .result) (d .encoded-size-of .ensures))
     (both ∙ ap (laid (a .buf .now) (a .start)) (sym (framed-is (a .code) n (body d) (k .counted)))) (c .before .before .clear .ensures))
 
 pub close-plain-spec : {M : Type 1} → statement M

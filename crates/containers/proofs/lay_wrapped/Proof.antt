@@ -1,7 +1,9 @@
 -- `containers::lay_wrapped` meets its contract, in the order of the one branch and of the other.
 -- By the laws of the two orders. Assumes nothing.
 use native.Mathlib.Omega.{arith}
-use Rattle.containers.proofs.Wrapped.{from-the-left, from-the-right}
+use Prim.Native.Nat.{_+_, _-_}
+use Rattle.machine.proofs.Moves.{if-moved}
+use Rattle.containers.proofs.Wrapped.{moved-both, from-the-left, from-the-right}
 use borrow.Author.Needs.{needs}
 use Rattle.containers.proofs.lay_wrapped.Statement.{statement}
 use Rattle.containers.proofs.lay_wrapped.Tie as tie
@@ -48,6 +50,14 @@ add-put-header-2 c = search needs
 put-header-requires-2 : tie.Need-put-header-requires-2
 put-header-requires-2 c κs = search needs
 
+add-result : tie.Need-add-result
+add-result c =
+    let a = c .before .before .before .before .before .before .before .before .before .before .before .before .before .before .before .before .before .before .args in
+    let x = c .before .before .before .before .before .before .before .before .before .before .before .before .before .before .move-bytes in
+    let y = c .before .before .before .before .before .before .move-bytes2 in
+    omega (arith, x .ensures .0, y .ensures .0, if-moved (a .start + 2) (a .start + a .wrapper) (a .header - (a .start + 2)),
+    if-moved (a .header + 2) (a .start + a .wrapper + (a .header - (a .start + 2)) + a .inner) (a .body))
+
 same-length : tie.Need-same-length
 same-length c = search needs
 
@@ -55,8 +65,12 @@ returns : tie.Need-returns
 returns c =
     let s = c .before .before .before .before .before .before .before .before .before .before .before .before .before .before .before .before .before .before in
     let a = s .args in
-    from-the-left (a .buf .now) (a .start) (a .header) (a .code) (a .body) (a .inner) (a .wrapper) (omega arith) (omega arith) (s .pre .4) (s .pre .5) (omega arith)
-    (c .before .before .before .before .before .before .before .before .before .before .before .before .before .before .before .before .if1 .taken) (c .before .before .before .before .before .before .before .before .before .before .before .before .before .before .move-bytes .ensures) (c .before .before .before .before .before .before .before .before .before .before .put-header .ensures) (c .before .before .before .before .before .before .move-bytes2 .ensures) (c .before .before .put-header2 .ensures)
+    let x = c .before .before .before .before .before .before .before .before .before .before .before .before .before .before .move-bytes in
+    let y = c .before .before .before .before .before .before .move-bytes2 in (
+      moved-both (a .buf .now) (a .start) (a .header) (a .code) (a .body) (a .inner) (a .wrapper) (omega arith) (omega arith) (s .pre .4) (s .pre .5) (x .ensures .0) (y .ensures .0),
+      from-the-left (a .buf .now) (a .start) (a .header) (a .code) (a .body) (a .inner) (a .wrapper) (omega arith) (omega arith) (s .pre .4) (s .pre .5) (omega arith)
+          (c .before .before .before .before .before .before .before .before .before .before .before .before .before .before .before .before .if1 .taken) (x .ensures .1) (c .before .before .before .before .before .before .before .before .before .before .put-header .ensures) (y .ensures .1) (c .before .before .put-header2 .ensures),
+    )
 
 add-move-bytes-5 : tie.Need-add-move-bytes-5
 add-move-bytes-5 c = search needs
@@ -88,6 +102,14 @@ add-put-header-4 c = search needs
 put-header-requires-4 : tie.Need-put-header-requires-4
 put-header-requires-4 c κs = search needs
 
+add-result-2 : tie.Need-add-result-2
+add-result-2 c =
+    let a = c .before .before .before .before .before .before .before .before .before .before .before .before .before .before .before .before .before .before .args in
+    let y = c .before .before .before .before .before .before .before .before .before .before .before .before .before .before .move-bytes3 in
+    let x = c .before .before .before .before .before .before .move-bytes4 in
+    omega (arith, x .ensures .0, y .ensures .0, if-moved (a .start + 2) (a .start + a .wrapper) (a .header - (a .start + 2)),
+    if-moved (a .header + 2) (a .start + a .wrapper + (a .header - (a .start + 2)) + a .inner) (a .body))
+
 same-length-2 : tie.Need-same-length-2
 same-length-2 c = search needs
 
@@ -95,8 +117,12 @@ returns-2 : tie.Need-returns-2
 returns-2 c =
     let s = c .before .before .before .before .before .before .before .before .before .before .before .before .before .before .before .before .before .before in
     let a = s .args in
-    from-the-right (a .buf .now) (a .start) (a .header) (a .code) (a .body) (a .inner) (a .wrapper) (omega arith) (omega arith) (s .pre .4) (s .pre .5) (omega arith)
-    (c .before .before .before .before .before .before .before .before .before .before .before .before .before .before .before .before .if1 .left) (c .before .before .before .before .before .before .before .before .before .before .before .before .before .before .move-bytes3 .ensures) (c .before .before .before .before .before .before .before .before .before .before .put-header3 .ensures) (c .before .before .before .before .before .before .move-bytes4 .ensures) (c .before .before .put-header4 .ensures)
+    let y = c .before .before .before .before .before .before .before .before .before .before .before .before .before .before .move-bytes3 in
+    let x = c .before .before .before .before .before .before .move-bytes4 in (
+      moved-both (a .buf .now) (a .start) (a .header) (a .code) (a .body) (a .inner) (a .wrapper) (omega arith) (omega arith) (s .pre .4) (s .pre .5) (x .ensures .0) (y .ensures .0),
+      from-the-right (a .buf .now) (a .start) (a .header) (a .code) (a .body) (a .inner) (a .wrapper) (omega arith) (omega arith) (s .pre .4) (s .pre .5) (omega arith)
+          (c .before .before .before .before .before .before .before .before .before .before .before .before .before .before .before .before .if1 .left) (y .ensures .1) (c .before .before .before .before .before .before .before .before .before .before .put-header3 .ensures) (x .ensures .1) (c .before .before .put-header4 .ensures),
+    )
 
 pub lay-wrapped-spec : {M : Type 1} → statement M
 lay-wrapped-spec =
@@ -116,6 +142,7 @@ lay-wrapped-spec =
     add-put-header
     add-put-header-2
     put-header-requires-2
+    add-result
     same-length
     returns
     add-move-bytes-5
@@ -128,5 +155,6 @@ lay-wrapped-spec =
     add-put-header-3
     add-put-header-4
     put-header-requires-4
+    add-result-2
     same-length-2
     returns-2)

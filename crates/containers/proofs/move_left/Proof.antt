@@ -51,7 +51,7 @@ returns c =
     let a = c .before .before .args in
     let l = c .before .loop in
     let e : l .i ≡ a .count = omega arith in
-    l .inv .2 ∙ ap (λ (n : ℕ). laid (a .buf .now) (a .to) (part (a .buf .now) (a .from) n)) e
+    (e, l .inv .2 ∙ ap (λ (n : ℕ). laid (a .buf .now) (a .to) (part (a .buf .now) (a .from) n)) e)
 
 pub move-left-spec : {M : Type 1} → statement M
 move-left-spec =

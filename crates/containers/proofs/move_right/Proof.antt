@@ -50,6 +50,9 @@ loop-again c =
     l .inv .2 ∙ ap (λ (n : ℕ). laid (a .buf .now) (a .to + n) (rest (a .buf .now) (a .from) (a .count) n)) e in
     (omega arith, simp length-set (l .inv .1), rw q (right-turn (a .buf .now) (a .from) (a .to) (a .count) (l .i - 1) (omega arith) (omega arith) (omega arith)))
 
+sub-result : tie.Need-sub-result Inv-loop μ-loop
+sub-result c = omega arith
+
 same-length : tie.Need-same-length Inv-loop μ-loop
 same-length c = omega arith
 
@@ -58,7 +61,7 @@ returns c =
     let a = c .before .before .args in
     let l = c .before .loop in
     let e : l .i ≡ 0 = omega arith in
-    l .inv .2 ∙ rw (e, add-zero) refl
+    (omega arith, l .inv .2 ∙ rw (e, add-zero) refl)
 
 pub move-right-spec : {M : Type 1} → statement M
 move-right-spec =
@@ -74,5 +77,6 @@ move-right-spec =
     slice-write-buf
     loop-less
     loop-again
+    sub-result
     same-length
     returns)
