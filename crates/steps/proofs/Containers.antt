@@ -15,10 +15,11 @@ use Rattle.encoding.specs.Headers.{typeByte, framedBytes, annotationBytes}
 use Rattle.machine.specs.declared.State.{State}
 use Rattle.machine.specs.declared.Container.{Container}
 use Rattle.machine.specs.Call.{ContainerType, opening, closing, abandonment}
-use Rattle.machine.specs.Machine.{Config, config, mostOpen, longestBuffer, noContainer, innermostFirst, openContainers, isOpen, inStruct, counted, reserve, headerPlace, containerCode, closedBytes, splice, put, noFigures, ruleOf, effect, containerFits, fits, checks, accepted, refused, firstFailing, isAccepted, placeVerdict, run}
+use Rattle.machine.specs.Machine.{Config, config, mostOpen, longestBuffer, noContainer, innermostFirst, openContainers, isOpen, inStruct, counted, reserve, headerPlace, containerCode, closedBytes, movedBytes, splice, put, noFigures, ruleOf, effect, containerFits, fits, checks, accepted, refused, firstFailing, isAccepted, placeVerdict, run}
 use Rattle.place.proofs.Laws.{innermost-step, fits-used, chain-step}
 use Rattle.buffer.specs.Laid.{placed}
 use Rattle.containers.proofs.Closed.{closedOn-fits, abandonedOn-fits}
+use Rattle.containers.specs.declared.Closing.{Closing}
 use Rattle.containers.specs.Containers.{spliced, closedOn, abandonedOn}
 use Rattle.steps.proofs.Members.{fits-chain, start-before}
 use Rattle.steps.proofs.Run.{outcome, accepted-with, run-refused, run-accepted, past-place, placed-some, end-refused, end-accepted}
@@ -125,7 +126,7 @@ closed-least start header code live =
     (λ p. rw (p, closedBytes) (framed-some code (drop (header + 2) live)))
     (λ p. rw (p, closedBytes) (framed-some (typeByte annotationCode) (slice (start + 2) header live ++ framedBytes code (drop (header + 2) live))))
 
-module _ (s : State) (b : List ℕ) (n : ℕ) (l : List ℕ) (place : placeVerdict s (length b) (not (isOpen (openContainers s)) || s .waiting) ≡ accepted) (e : _≡_ {A = ℕ × List ℕ} (n, l) (closedOn (innermost s) (s .used) b)) where
+module _ (s : State) (b : List ℕ) (r : Closing) (l : List ℕ) (place : placeVerdict s (length b) (not (isOpen (openContainers s)) || s .waiting) ≡ accepted) (e : _≡_ {A = Closing × List ℕ} (r, l) (closedOn (innermost s) (s .used) b)) where
   closing-fits : fits s (length b) ≡ true
   closing-fits = accepted-fits s (length b) _ place
 
@@ -135,6 +136,9 @@ module _ (s : State) (b : List ℕ) (n : ℕ) (l : List ℕ) (place : placeVerdi
   abbrev out : List ℕ
   out = closedBytes (innermost s .start) (innermost s .header) (innermost s .code) (take (s .used) b)
 
+  abbrev moved : ℕ
+  moved = movedBytes (innermost s .start) (innermost s .header) (innermost s .code) (take (s .used) b)
+
   closing-checks : firstFailing (checks closing (config s b)) ≡ firstFailing ((ltb (length b) (innermost s .start + length out), 10) ∷ [])
   closing-checks =
       past-place closing s b (not (isOpen (openContainers s)) || s .waiting) ((ltb (length b) (innermost s .start + length out), 10) ∷ []) (rw (open-first s (length b) closing-fits closing-open)) place
@@ -142,38 +146,42 @@ module _ (s : State) (b : List ℕ) (n : ℕ) (l : List ℕ) (place : placeVerdi
   closing-effect : effect closing (config s b) ≡ put (config s b) (record { place = innermost s .start; out = out; depth = s .depth - 1; waiting = false; containers = counted (s .containers) (s .depth - 1) })
   closing-effect = rw (open-first s (length b) closing-fits closing-open)
 
-  closing-spliced : _≡_ {A = ℕ × List ℕ} (n, l) (spliced (s .used) (innermost s .start) out b)
+  closing-spliced : _≡_ {A = Closing × List ℕ} (r, l) (spliced (s .used) (innermost s .start) out moved b)
   closing-spliced = e ∙ closedOn-fits (innermost s) (s .used) b (rw (innermost-fits s (length b) closing-fits closing-open, le-leb (s .used) (length b) (fits-used s (length b) closing-fits)))
 
-  pub closing-refused : n ≡ 0 → outcome (refused 10) s l ≡ run closing (config s b)
+  pub closing-refused : r .used ≡ 0 → outcome (refused 10) s l ≡ run closing (config s b)
   unfolding spliced
   closing-refused z =
       by-cases (leb (innermost s .start + length out) (length b))
-      (λ p. let q : n ≡ innermost s .start + length out = ap (λ (x : ℕ × List ℕ). x .0) (rw (p, spliced) at closing-spliced) in absurd (never q))
-      (λ p. let q : l ≡ b = ap (λ (x : ℕ × List ℕ). x .1) (rw (p, spliced) at closing-spliced) in
+      (λ p. let q : r .used ≡ innermost s .start + length out = ap (λ (x : Closing × List ℕ). x .0 .used) (rw (p, spliced) at closing-spliced) in absurd (never q))
+      (λ p. let q : l ≡ b = ap (λ (x : Closing × List ℕ). x .1) (rw (p, spliced) at closing-spliced) in
       ap (outcome (refused 10) s) q ∙ sym (run-refused closing s b 10 (closing-checks ∙ rw (lt-ltb (length b) (innermost s .start + length out) (leb-false (innermost s .start + length out) (length b) p)))))
     where
-      never : n ≡ innermost s .start + length out → ⊥
+      never : r .used ≡ innermost s .start + length out → ⊥
       never q = let w = closed-least (innermost s .start) (innermost s .header) (innermost s .code) (take (s .used) b) in omega (arith, q, z, w)
 
-  closing-figures : ruleOf closing (config s b) .figures ≡ record { size = length out; members = innermost s .members }
+  closing-figures : ruleOf closing (config s b) .figures ≡ record { size = length out; members = innermost s .members; moved = moved }
   closing-figures = rw (open-first s (length b) closing-fits closing-open)
 
-  closing-grown : (n ≡ 0 → ⊥) → (innermost s .start + length out ≤ length b) × (n ≡ innermost s .start + length out) × (l ≡ splice (s .used) (innermost s .start) out b)
+  -- the answer of a close with room
+  abbrev grown : Closing
+  grown = record { used = innermost s .start + length out; moved = moved }
+
+  closing-grown : (r .used ≡ 0 → ⊥) → (innermost s .start + length out ≤ length b) × (r ≡ grown) × (l ≡ splice (s .used) (innermost s .start) out b)
   unfolding spliced
   closing-grown h =
       by-cases (leb (innermost s .start + length out) (length b))
       (λ p.
-      let q : _≡_ {A = ℕ × List ℕ} (n, l) (innermost s .start + length out, splice (s .used) (innermost s .start) out b) = rw (p, spliced) at closing-spliced in
-      (leb-true (innermost s .start + length out) (length b) p, ap (λ (x : ℕ × List ℕ). x .0) q, ap (λ (x : ℕ × List ℕ). x .1) q))
-      (λ p. absurd (h (ap (λ (x : ℕ × List ℕ). x .0) (rw (p, spliced) at closing-spliced))))
+      let q : _≡_ {A = Closing × List ℕ} (r, l) (grown, splice (s .used) (innermost s .start) out b) = rw (p, spliced) at closing-spliced in
+      (leb-true (innermost s .start + length out) (length b) p, ap (λ (x : Closing × List ℕ). x .0) q, ap (λ (x : Closing × List ℕ). x .1) q))
+      (λ p. absurd (h (ap (λ (x : Closing × List ℕ). x .0 .used) (rw (p, spliced) at closing-spliced))))
 
-  pub closing-start : (n ≡ 0 → ⊥) → innermost s .start ≤ n
-  closing-start h = omega (arith, closing-grown h .1)
+  pub closing-start : (r .used ≡ 0 → ⊥) → innermost s .start ≤ r .used
+  closing-start h = omega (arith, ap (λ (x : Closing). x .used) (closing-grown h .1))
 
-  pub closing-accepted : (n ≡ 0 → ⊥)
-      → accepted-with (config (record { used = n; depth = s .depth - 1; waiting = false; containers = counted (s .containers) (s .depth - 1) }) l)
-      (record { size = n - innermost s .start; members = innermost s .members })
+  pub closing-accepted : (r .used ≡ 0 → ⊥)
+      → accepted-with (config (record { used = r .used; depth = s .depth - 1; waiting = false; containers = counted (s .containers) (s .depth - 1) }) l)
+      (record { size = r .used - innermost s .start; members = innermost s .members; moved = r .moved })
       ≡ run closing (config s b)
   closing-accepted h =
       let g = closing-grown h in

@@ -156,28 +156,31 @@ pub fn close(s: State, buf: &mut [u8]) -> Closed
             state: s,
             size: 0,
             members: 0,
+            moved: 0,
         };
     };
     let depth = s.depth;
     let c = s.containers[depth - 1];
-    let used = containers::close(buf, s.used, c);
-    if used == 0 {
+    let closing = containers::close(buf, s.used, c);
+    if closing.used == 0 {
         return Closed {
             answer: Answer::Refused(Refusal::NoRoom),
             state: s,
             size: 0,
             members: 0,
+            moved: 0,
         };
     }
     let mut next = s;
-    next.used = used;
+    next.used = closing.used;
     next.depth = depth - 1;
     next.waiting = false;
     Closed {
         answer: Answer::Accepted,
         state: steps::counted(next),
-        size: used - c.start,
+        size: closing.used - c.start,
         members: c.members,
+        moved: closing.moved,
     }
 }
 

@@ -70,40 +70,40 @@ same-length c = search needs
 
 returns-2 : tie.Need-returns-2
 returns-2 c =
-    let w = c .before .before .before in
+    let w = c .before .before .before .before in
     let d = w .before .before .before in
     let a = d .before .before .before .before .args in
     closing-refused (a .t1) (a .buf .now) (w .close .result) (w .close .last .0) (known d .place) (w .close .ensures) (c .if1 .taken)
 
 sub-next : tie.Need-sub-next
-sub-next c = let k = known (c .before .before .before .before .before .before) in omega arith
+sub-next c = let k = known (c .before .before .before .before .before .before .before) in omega arith
 
 counted-requires : tie.Need-counted-requires
 counted-requires c κs = search needs
 
 sub-t12 : tie.Need-sub-t12
 sub-t12 c =
-    let w = c .before .before .before .before .before in
+    let w = c .before .before .before .before .before .before .before in
     let d = w .before .before .before in
     let a = d .before .before .before .before .args in
-    omega (arith, closing-start (a .t1) (a .buf .now) (w .close .result) (w .close .last .0) (known d .place) (w .close .ensures) (c .before .before .if1 .left))
+    omega (arith, closing-start (a .t1) (a .buf .now) (w .close .result) (w .close .last .0) (known d .place) (w .close .ensures) (c .before .before .before .if1 .left))
 
 same-length-2 : tie.Need-same-length-2
 same-length-2 c = search needs
 
 returns-3 : tie.Need-returns-3
 returns-3 c =
-    let w = c .before .before .before .before .before in
+    let w = c .before .before .before .before .before .before .before in
     let d = w .before .before .before in
     let a = d .before .before .before .before .args in
     let s = a .t1 in
-    let n = w .close .result in
+    let r = w .close .result in
     let l = w .close .last .0 in
     let f = accepted-fits s (length (a .buf .now)) _ (known d .place) in
     let q = counted-uncut s (length (a .buf .now)) f (omega arith) (s .depth - 1) (omega arith) in
-    ap (λ (x : State). accepted-with (config x l) (record { size = n - innermost s .start; members = innermost s .members }))
-    (c .before .counted .ensures ∙ ap (λ (cs : List Container). record { used = n; depth = s .depth - 1; waiting = false; containers = cs }) q)
-    ∙ closing-accepted s (a .buf .now) n l (known d .place) (w .close .ensures) (c .before .before .if1 .left)
+    ap (λ (x : State). accepted-with (config x l) (record { size = r .used - innermost s .start; members = innermost s .members; moved = r .moved }))
+    (c .before .before .counted .ensures ∙ ap (λ (cs : List Container). record { used = r .used; depth = s .depth - 1; waiting = false; containers = cs }) q)
+    ∙ closing-accepted s (a .buf .now) r l (known d .place) (w .close .ensures) (c .before .before .before .if1 .left)
 
 pub close-spec : {M : Type 1} → statement M
 close-spec =
