@@ -13,7 +13,7 @@ use mir.Val.{boolByte}
 use borrow.Author.Tests.{eq-eqb, ne-eqb, eqb-true, eqb-false, lt-ltb, le-ltb, lt-leb, le-leb, leb-true, leb-false, ltb-true, ltb-false}
 use Rattle.ion.proofs.Tests.{by-cases, both}
 use Rattle.buffer.specs.Laid.{laid, placed}
-use Rattle.buffer.proofs.Laid.{laid-one, laid-snoc, length-laid, laid-more, placed-fits, placed-full}
+use Rattle.buffer.proofs.Laid.{laid-one, laid-snoc, length-laid, laid-more}
 use Rattle.machine.specs.declared.Container.{Container}
 use Rattle.machine.specs.declared.State.{State}
 use Rattle.machine.specs.Machine.{mostOpen, longestBuffer, noContainer, innermostFirst, openContainers, inStruct, outer, withMember, counted, containerFits, containersFit, fits, placeVerdict, isAccepted}
@@ -264,24 +264,10 @@ stored-count b l (suc i) n h k e q =
     rw (eq-eqb (length b) stateSize h, lt-ltb i mostOpen j, storedMembers, g) (rw (e, p) at q)
 
 -- the numbers that a closing answers, by how many of them the slice holds
-module _ (b : List ℕ) (n m : ℕ) where
-  -- l is what the first number leaves, r what both leave
-  numbers-by : (k j : ℕ) (l r : List ℕ) → placed b 0 (fourBytes n) ≡ (k, l) → placed l 4 (fourBytes m) ≡ (j, r) → numbersLaid 0 (n ∷ m ∷ []) b ≡ r
-  unfolding numbersLaid
-  numbers-by k j l r p q = ap (λ (x : ℕ × List ℕ). placed (x .1) 4 (fourBytes m) .1) p ∙ ap (λ (x : ℕ × List ℕ). x .1) q
-
-  pub numbers-none : length b < 4 → numbersLaid 0 (n ∷ m ∷ []) b ≡ b
-  numbers-none h = numbers-by 0 0 b b (placed-full b 0 (fourBytes n) (omega arith)) (placed-full b 4 (fourBytes m) (omega arith))
-
-  pub numbers-one : 4 ≤ length b → length b < 8 → numbersLaid 0 (n ∷ m ∷ []) b ≡ laid b 0 (fourBytes n)
-  numbers-one h k =
-      let l : length (laid b 0 (fourBytes n)) ≡ length b = length-laid b 0 (fourBytes n) h in
-      numbers-by 4 0 _ _ (placed-fits b 0 (fourBytes n) h) (placed-full (laid b 0 (fourBytes n)) 4 (fourBytes m) (omega arith))
-
-  pub numbers-both : 8 ≤ length b → numbersLaid 0 (n ∷ m ∷ []) b ≡ laid (laid b 0 (fourBytes n)) 4 (fourBytes m)
-  numbers-both h =
-      let l : length (laid b 0 (fourBytes n)) ≡ length b = length-laid b 0 (fourBytes n) (omega arith) in
-      numbers-by 4 4 _ _ (placed-fits b 0 (fourBytes n) (omega arith)) (placed-fits (laid b 0 (fourBytes n)) 4 (fourBytes m) (omega arith))
+pub numbers-three : (b : List ℕ) (n m k : ℕ) {x y z : List ℕ} → x ≡ placed b 0 (fourBytes n) .1 → y ≡ placed x 4 (fourBytes m) .1 → z ≡ placed y 8 (fourBytes k) .1
+    → z ≡ numbersLaid 0 (n ∷ m ∷ k ∷ []) b
+unfolding numbersLaid
+numbers-three b n m k p q r = rw (r, q, p) refl
 
 -- a multiple of 256 d leaves the byte behind d as it is
 byte-kept : (d x k : ℕ) → 0 < d → (x + d * (256 * k)) / d % 256 ≡ x / d % 256

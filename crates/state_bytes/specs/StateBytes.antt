@@ -124,7 +124,7 @@ entered c st b = enteredBy c st (run c (config (stateOf st) b))
 -- ---- what a closing answers in a slice that is lent for it
 
 abbrev pub numbers : Figures → List ℕ
-numbers f = f .size ∷ f .members ∷ []
+numbers f = f .size ∷ f .members ∷ f .moved ∷ []
 
 -- four bytes each, least significant first, one behind the other, as many of them as the slice holds whole
 unfoldable pub numbersLaid : ℕ → List ℕ → List ℕ → List ℕ

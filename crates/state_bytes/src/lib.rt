@@ -5,7 +5,7 @@ ghost use mathlib.Core.List.{[], _∷_};
 ghost use Prim.Native.Nat.{_+_, _-_, _*_, _^_, _≤_, _<_};
 ghost use lib.Dec.{eqb, leb};
 ghost use lib.ListN.{length, getD};
-ghost use Rattle.buffer.specs.Laid.{laid};
+ghost use Rattle.buffer.specs.Laid.{laid, placed};
 ghost use Rattle.ion.specs.Value.{listCode, sexpCode, structCode};
 ghost use Rattle.encoding.specs.Headers.{typeByte};
 ghost use Rattle.machine.specs.Machine.{mostOpen, noContainer, innermostFirst, openContainers, isOpen, inStruct, outer, containerFits, containersFit};
@@ -493,16 +493,22 @@ pub fn grow_by_scalar(st: &mut [u8], put: usize)
     grow(st, put, false);
 }
 
-// The numbers that a closing answers, in a slice that is lent for them.
-pub fn answer(lent: &mut [u8], size: usize, members: usize)
-    ensures { λ r. ⌜ now (lent .exit) ≡ numbersLaid 0 (size ∷ members ∷ []) (now (lent .entry)) ⌝ }
+// A number of four bytes, where the slice holds it whole.
+fn put_number(lent: &mut [u8], at: usize, n: usize)
+    requires { ⌜ at ≤ 8 ⌝ }
+    ensures { λ r. ⌜ now (lent .exit) ≡ placed (now (lent .entry)) at (fourBytes n) .1 ⌝ }
 {
-    if lent.len() < NUMBER_SIZE {
+    if lent.len() < at + NUMBER_SIZE {
         return;
     }
-    put_four(lent, 0, size);
-    if lent.len() < 2 * NUMBER_SIZE {
-        return;
-    }
-    put_four(lent, NUMBER_SIZE, members);
+    put_four(lent, at, n);
+}
+
+// The numbers that a closing answers, in a slice that is lent for them.
+pub fn answer(lent: &mut [u8], size: usize, members: usize, moved: usize)
+    ensures { λ r. ⌜ now (lent .exit) ≡ numbersLaid 0 (size ∷ members ∷ moved ∷ []) (now (lent .entry)) ⌝ }
+{
+    put_number(lent, 0, size);
+    put_number(lent, NUMBER_SIZE, members);
+    put_number(lent, 2 * NUMBER_SIZE, moved);
 }
