@@ -82,7 +82,7 @@ pub extern "C" fn gm_open_struct(state: &mut [u8], buf: &mut [u8], annotations: 
 }
 
 // A closing: the header, and the wrapper's, in their final form. What it answers of the container, in four bytes each, least significant first:
-// how many bytes it takes, and how many members it has. It answers in the slice `closed`, as far as that holds the numbers whole.
+// how many bytes it takes, how many members it has, and how many bytes moved. It answers in the slice `closed`, as far as that holds the numbers whole.
 // The container is then a member of the one that it lies in.
 #[no_mangle]
 pub extern "C" fn gm_close(state: &mut [u8], buf: &mut [u8], closed: &mut [u8]) -> u8
@@ -94,13 +94,13 @@ pub extern "C" fn gm_close(state: &mut [u8], buf: &mut [u8], closed: &mut [u8]) 
     }
     let depth = state_bytes::depth(state);
     let c = state_bytes::container(state, depth - 1);
-    let used = containers::close(buf, state_bytes::used(state), c);
-    if used == 0 {
+    let closing = containers::close(buf, state_bytes::used(state), c);
+    if closing.used == 0 {
         return entry_numbers::number_of(Refusal::NoRoom);
     }
-    state_bytes::answer(closed, used - c.start, c.members);
+    state_bytes::answer(closed, closing.used - c.start, c.members, closing.moved);
     state_bytes::count(state, depth - 1);
-    state_bytes::store(state, used, depth - 1, false);
+    state_bytes::store(state, closing.used, depth - 1, false);
     0
 }
 

@@ -17,6 +17,7 @@ use Rattle.machine.specs.declared.Refusal.the-variants.{NoRoom}
 use Rattle.machine.specs.Call.{Call, ContainerType, opening, closing, abandonment, emptying}
 use Rattle.machine.specs.Machine.{mostOpen, noContainer, openContainers, isOpen, inStruct, counted, lacksName, reserve, containerCode, put, atEnd, effect}
 use Rattle.machine.specs.Machine.{config, noFigures, ruleOf, placeLines, checks, accepted, refused, firstFailing, isAccepted, outer, placeVerdict, Outcome, run}
+use Rattle.containers.specs.declared.Closing.{Closing}
 use Rattle.containers.specs.Containers.{closedOn, abandonedOn}
 use Rattle.steps.proofs.Run.{outcome, accepted-with, run-misplaced, run-accepted, past-place, placed-some, end-run}
 use Rattle.steps.proofs.Containers.{accepted-fits, accepted-placed, opened-not, either-not, some-open, innermost, reserve-least, openedState, opening-refused, opening-accepted, opening-deep, closing-refused, closing-start, closing-accepted, abandonment-run}
@@ -105,24 +106,24 @@ module _ (st b : List ℕ) (t : isAccepted (placeVerdict (stateOf st) (length b)
   pub close-open : 0 < stateOf st .depth
   close-open = some-open (stateOf st) (length b) (accepted-fits (stateOf st) (length b) _ closing-place) (either-not (isOpen (openContainers (stateOf st))) (stateOf st .waiting) (accepted-placed (stateOf st) (length b) _ closing-place))
 
-  module _ (n : ℕ) (l : List ℕ) (e : _≡_ {A = ℕ × List ℕ} (n, l) (closedOn (innermost (stateOf st)) (stateOf st .used) b)) where
+  module _ (r : Closing) (l : List ℕ) (e : _≡_ {A = Closing × List ℕ} (r, l) (closedOn (innermost (stateOf st)) (stateOf st .used) b)) where
     -- what it leaves in the slice that is lent for its answer
     close-answers : (o : Outcome) → o ≡ run closing (config (stateOf st) b) → (lent : List ℕ) → answeredBy o lent ≡ answered st b lent
     unfolding answered
-    close-answers o r lent = ap (λ (x : Outcome). answeredBy x lent) r
+    close-answers o e lent = ap (λ (x : Outcome). answeredBy x lent) e
 
-    full : n ≡ 0 → outcome (refused 10) (stateOf st) l ≡ run closing (config (stateOf st) b)
-    full z = closing-refused (stateOf st) b n l closing-place e z
+    full : r .used ≡ 0 → outcome (refused 10) (stateOf st) l ≡ run closing (config (stateOf st) b)
+    full z = closing-refused (stateOf st) b r l closing-place e z
 
-    pub close-full : n ≡ 0 → enteredAs 10 st l ≡ entered closing st b
+    pub close-full : r .used ≡ 0 → enteredAs 10 st l ≡ entered closing st b
     close-full z = closing-run (outcome (refused 10) (stateOf st) l) (full z)
 
-    pub close-silent : n ≡ 0 → (lent : List ℕ) → lent ≡ answered st b lent
+    pub close-silent : r .used ≡ 0 → (lent : List ℕ) → lent ≡ answered st b lent
     close-silent z lent = close-answers (outcome (refused 10) (stateOf st) l) (full z) lent
 
     -- the size that it answers is how far the used length lies behind the start
-    pub close-start : (n ≡ 0 → ⊥) → innermost (stateOf st) .start ≤ n
-    close-start h = closing-start (stateOf st) b n l closing-place e h
+    pub close-start : (r .used ≡ 0 → ⊥) → innermost (stateOf st) .start ≤ r .used
+    close-start h = closing-start (stateOf st) b r l closing-place e h
 
     -- the containers, with the closed one counted in the one that it lies in
     abbrev members : List Container
@@ -130,14 +131,15 @@ module _ (st b : List ℕ) (t : isAccepted (placeVerdict (stateOf st) (length b)
 
     abbrev done : Outcome
     done =
-        accepted-with (config (record { used = n; depth = stateOf st .depth - 1; waiting = false; containers = members }) l)
-        (record { size = n - innermost (stateOf st) .start; members = innermost (stateOf st) .members })
+        accepted-with (config (record { used = r .used; depth = stateOf st .depth - 1; waiting = false; containers = members }) l)
+        (record { size = r .used - innermost (stateOf st) .start; members = innermost (stateOf st) .members; moved = r .moved })
 
-    pub close-done : (n ≡ 0 → ⊥) → enteredAs 0 (storedHead n (stateOf st .depth - 1) false (storedCount (stateOf st .depth - 1) members st)) l ≡ entered closing st b
-    close-done h = closing-run done (closing-accepted (stateOf st) b n l closing-place e h)
+    pub close-done : (r .used ≡ 0 → ⊥) → enteredAs 0 (storedHead (r .used) (stateOf st .depth - 1) false (storedCount (stateOf st .depth - 1) members st)) l ≡ entered closing st b
+    close-done h = closing-run done (closing-accepted (stateOf st) b r l closing-place e h)
 
-    pub close-answered : (n ≡ 0 → ⊥) → (lent : List ℕ) → numbersLaid 0 ((n - innermost (stateOf st) .start) ∷ innermost (stateOf st) .members ∷ []) lent ≡ answered st b lent
-    close-answered h lent = close-answers done (closing-accepted (stateOf st) b n l closing-place e h) lent
+    pub close-answered : (r .used ≡ 0 → ⊥) → (lent : List ℕ)
+        → numbersLaid 0 ((r .used - innermost (stateOf st) .start) ∷ innermost (stateOf st) .members ∷ r .moved ∷ []) lent ≡ answered st b lent
+    close-answered h lent = close-answers done (closing-accepted (stateOf st) b r l closing-place e h) lent
 
 -- ---- an abandonment
 

@@ -9,6 +9,7 @@ use lib.ListN.{length}
 use borrow.Author.Tests.{not-true, not-false}
 use Rattle.machine.specs.Call.{closing}
 use Rattle.machine.specs.Machine.{openContainers, isOpen, placeVerdict, isAccepted}
+use Rattle.containers.specs.declared.Closing.{Closing}
 use Rattle.containers.specs.Containers.{closedOn}
 use Rattle.steps.proofs.Containers.{innermost}
 use Rattle.state_bytes.specs.StateBytes.{stateOf}
@@ -32,7 +33,7 @@ nested c =
 
 -- what the leaf has closed
 spliced : (c : tie.After-close) → let a = c .before .before .before .before .before .before .before .before .before .before .before .before .before .before .args in let s = stateOf (a .state .now) in
-    _≡_ {A = ℕ × List ℕ} (c .close .result, c .close .last .0) (closedOn (innermost s) (s .used) (a .buf .now))
+    _≡_ {A = Closing × List ℕ} (c .close .result, c .close .last .0) (closedOn (innermost s) (s .used) (a .buf .now))
 spliced c = rw (c .before .used .ensures, c .before .before .before .before .container .ensures, c .before .before .before .before .before .before .depth .ensures) at (c .close .ensures)
 
 close-passes-requires : tie.Need-close-passes-requires
@@ -84,7 +85,7 @@ same-length-3 c = search needs
 
 returns-2 : tie.Need-returns-2
 returns-2 c =
-    let w = c .before .before .before .before in
+    let w = c .before .before .before .before .before in
     let e = w .before .before .before .before .before .before .before .before in
     let a = e .before .before .before .before .before .before .args in
     let t = c .before .if2 .taken in (
@@ -94,23 +95,23 @@ returns-2 c =
 
 sub-answer : tie.Need-sub-answer
 sub-answer c =
-    let w = c .before .before .before .before .before in
+    let w = c .before .before .before .before .before .before .before in
     let e = w .before .before .before .before .before .before .before .before in
     let a = e .before .before .before .before .before .before .args in
-    let k = close-start (a .state .now) (a .buf .now) (passed e) (w .close .result) (w .close .last .0) (spliced w) (c .before .before .if2 .left) in
+    let k = close-start (a .state .now) (a .buf .now) (passed e) (w .close .result) (w .close .last .0) (spliced w) (c .before .before .before .if2 .left) in
     rw (w .before .before .before .before .container .ensures, w .before .before .before .before .before .before .depth .ensures) k
 
 answer-requires : tie.Need-answer-requires
 answer-requires c κs = search needs
 
 sub-count : tie.Need-sub-count
-sub-count c = omega (arith, nested (c .before .before .before .before .before .before .before .before .before .before .before .before .before .before .before))
+sub-count c = omega (arith, nested (c .before .before .before .before .before .before .before .before .before .before .before .before .before .before .before .before .before))
 
 count-requires : tie.Need-count-requires
 count-requires c κs = search needs
 
 sub-store : tie.Need-sub-store
-sub-store c = omega (arith, nested (c .before .before .before .before .before .before .before .before .before .before .before .before .before .before .before .before .before .before .before))
+sub-store c = omega (arith, nested (c .before .before .before .before .before .before .before .before .before .before .before .before .before .before .before .before .before .before .before .before .before))
 
 store-requires : tie.Need-store-requires
 store-requires c κs = search needs
@@ -128,10 +129,10 @@ returns-3 : tie.Need-returns-3
 returns-3 c =
     let k = c .before .before .before .before .before .before in
     let q = k .before .before .before .before in
-    let w = q .before .before .before .before .before .before in
+    let w = q .before .before .before .before .before .before .before .before in
     let e = w .before .before .before .before .before .before .before .before in
     let a = e .before .before .before .before .before .before .args in
-    let h = q .before .before .before .if2 .left in (
+    let h = q .before .before .before .before .if2 .left in (
       rw (c .before .before .store .ensures, k .count .ensures, w .before .before .before .before .before .before .depth .ensures)
           (close-done (a .state .now) (a .buf .now) (passed e) (w .close .result) (w .close .last .0) (spliced w) h),
       q .answer .ensures
