@@ -5,17 +5,18 @@ use native.Mathlib.Omega.{arith}
 use native.Mathlib.Nat.{mod-eq-of-lt}
 use mathlib.Core.Path.{_≡_, refl, sym, _∙_, ap}
 use mathlib.Core.Bool.{Bool, true, false, not}
+use mathlib.Core.Logic.{⊎-elim}
 use mathlib.Core.List.{List, [], _∷_, _++_}
 use lib.Dec.{eqb, ltb}
 use lib.ListN.{length, getD, take, drop, set, length-set, List·getD-append}
 use lib.Seq.{getD-take, getD-drop, getD-append-add, getD-set-same, getD-set-other, length-take-le, ext-getD}
 use borrow.Author.Tests.{eq-eqb, lt-ltb, eqb-true, eqb-false, ltb-true, ltb-false}
 use Rattle.ion.proofs.Tests.{by-cases}
-use Rattle.buffer.specs.Laid.{laid}
-use Rattle.buffer.proofs.Laid.{length-laid, drop-laid}
+use Rattle.buffer.specs.Laid.{laid, placed}
+use Rattle.buffer.proofs.Laid.{length-laid, drop-laid, placed-fits, placed-or}
 use Rattle.machine.specs.declared.Container.{Container}
 use Rattle.machine.specs.Machine.{mostOpen, noContainer, withMember, counted}
-use Rattle.state_bytes.specs.StateBytes.{recordSize, stateSize, four, placeOf, containerAt, containersFrom, stateOf, fourBytes, flag, headBytes, containerBytes, storedHead, storedContainer, storedMembers, storedCount}
+use Rattle.state_bytes.specs.StateBytes.{recordSize, stateSize, four, placeOf, containerAt, containersFrom, stateOf, fourBytes, flag, headBytes, containerBytes, storedHead, storedContainer, storedMembers, storedCount, numbersLaid}
 use Rattle.state_bytes.proofs.Laws.{state-is, container-is, length-containers}
 
 -- ---- a byte among laid ones
@@ -64,11 +65,44 @@ four-within b at xs h p j e k =
       byte-within b at xs h (p + 3) (j + 3) (omega arith) (omega arith),
     )
 
--- ---- containers that lie in the same bytes
-
 same-four : (b c : List ℕ) (at : ℕ) → ((p : ℕ) → at ≤ p → p < at + 4 → getD b p 0 ≡ getD c p 0) → four b at ≡ four c at
 same-four b c at f =
     rw (f at (omega arith) (omega arith), f (at + 1) (omega arith) (omega arith), f (at + 2) (omega arith) (omega arith), f (at + 3) (omega arith) (omega arith))
+
+-- ---- the numbers that a closing answers
+
+placed-kept : (b : List ℕ) (at p : ℕ) (xs : List ℕ) → p + 4 ≤ at → four (placed b at xs .1) p ≡ four b p
+placed-kept b at p xs h =
+    ⊎-elim
+    (λ q. ap (λ (x : ℕ × List ℕ). four (x .1) p) (q .1) ∙ same-four (laid b at xs) b p (λ k i j. byte-before b at xs (q .0) k (omega arith)))
+    (λ q. ap (λ (x : ℕ × List ℕ). four (x .1) p) (q .1))
+    (placed-or b at xs)
+
+length-placed : (b : List ℕ) (at : ℕ) (xs : List ℕ) → length (placed b at xs .1) ≡ length b
+length-placed b at xs =
+    ⊎-elim
+    (λ q. ap (λ (x : ℕ × List ℕ). length (x .1)) (q .1) ∙ length-laid b at xs (q .0))
+    (λ q. ap (λ (x : ℕ × List ℕ). length (x .1)) (q .1))
+    (placed-or b at xs)
+
+-- those behind leave it
+numbers-kept : (at p : ℕ) (ns b : List ℕ) → p + 4 ≤ at → four (numbersLaid at ns b) p ≡ four b p
+unfolding numbersLaid
+numbers-kept at p [] b h = refl
+numbers-kept at p (n ∷ ns) b h = numbers-kept (at + 4) p ns (placed b at (fourBytes n) .1) (omega arith) ∙ placed-kept b at p (fourBytes n) h
+
+-- the number n, with ms before it and ns behind it
+pub number-laid : (ms : List ℕ) (n : ℕ) (ns : List ℕ) (at p : ℕ) (b : List ℕ) → p ≡ at + 4 * length ms → p + 4 ≤ length b → n < 2 ^ 32
+    → four (numbersLaid at (ms ++ (n ∷ ns)) b) p ≡ n
+unfolding numbersLaid
+number-laid [] n ns at p b e h k =
+    let f = placed-fits b at (fourBytes n) (omega arith) in
+    numbers-kept (at + 4) p ns (placed b at (fourBytes n) .1) (omega arith)
+    ∙ (ap (λ (x : ℕ × List ℕ). four (x .1) p) f ∙ (four-within b at (fourBytes n) (omega arith) p 0 (omega arith) (omega arith) ∙ four-back n k))
+number-laid (m ∷ ms) n ns at p b e h k =
+    number-laid ms n ns (at + 4) p (placed b at (fourBytes m) .1) (omega arith) (omega (arith, length-placed b at (fourBytes m))) k
+
+-- ---- containers that lie in the same bytes
 
 same-container : (b c : List ℕ) (at : ℕ) → ((p : ℕ) → at ≤ p → p < at + recordSize → getD b p 0 ≡ getD c p 0) → containerAt b at ≡ containerAt c at
 same-container b c at f =

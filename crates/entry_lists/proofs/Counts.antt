@@ -20,38 +20,37 @@ use Rattle.machine.proofs.Counts.{members-answered}
 use Rattle.machine.proofs.Fitting.{own-states-fit}
 use Rattle.steps.proofs.Run.{run-accepted}
 use Rattle.steps.proofs.Members.{members-few}
-use Rattle.state_bytes.specs.StateBytes.{four, stateOf, fourBytes, entered, numbersLaid, answeredBy, answered}
-use Rattle.state_bytes.proofs.Laws.{numbers-both}
+use Rattle.state_bytes.specs.StateBytes.{four, stateOf, fourBytes, entered, numbers, numbersLaid, answeredBy, answered}
 use Rattle.entry_numbers.specs.EntryCall.{callOf, HostCall}
 use Rattle.entry_lists.specs.Demands.{Lent, configOf, lentStarted, membersLaid, lentAnswersAfter, EntryMembersAnswered, lentAfterAll, EntryOwnStatesFit}
-use Rattle.entry_lists.proofs.Bytes.{four-within, four-back}
+use Rattle.entry_lists.proofs.Bytes.{number-laid}
 use Rattle.entry_lists.proofs.Steps.{Sound, Spells, fits-line, answer-is, lentBy}
 use Rattle.entry_lists.proofs.Demands.{calls, all-typed, joined-is, step, start-accepted, started-spells, spells, run-of}
 
 -- ---- one closing
 
--- the second of two numbers in a slice that holds both
-second-laid : (b : List ℕ) (n m : ℕ) → 8 ≤ length b → m < 2 ^ 32 → four (numbersLaid 0 (n ∷ m ∷ []) b) 4 ≡ m
-second-laid b n m h k =
-    let l : length (laid b 0 (fourBytes n)) ≡ length b = length-laid b 0 (fourBytes n) (omega arith) in
-    ap (λ (x : List ℕ). four x 4) (numbers-both b n m h)
-    ∙ (four-within (laid b 0 (fourBytes n)) 4 (fourBytes m) (omega arith) 4 0 (omega arith) (omega arith) ∙ four-back m k)
-
 innermost-few : (cs : List Container) (d most : ℕ) → ((j : ℕ) → j < d → getD cs j noContainer .members + 2 ≤ most) → innermostMembers (innermostFirst cs d) ≤ most
 innermost-few cs zero most few = omega arith
 innermost-few cs (suc i) most few = omega (arith, few i (omega arith))
 
+-- an accepted one: its numbers are laid, one behind the other
+pub closing-laid : (w : Lent) (closed : List ℕ) → verdict closing (configOf w) ≡ accepted
+    → answered (w .state) (w .buffer) closed ≡ numbersLaid 0 (numbers (run closing (configOf w) .figures)) closed
+unfolding answered verdict
+closing-laid w closed e =
+    let r = run-accepted closing (stateOf (w .state)) (w .buffer) e in
+    ap (λ (o : Outcome). answeredBy o closed) r ∙ ap (λ (o : Outcome). numbersLaid 0 (numbers (o .figures)) closed) (sym r)
+
 module _ (w : Lent) (s : Sound w) (closed : List ℕ) (long : 8 ≤ length closed) where
-  -- an accepted one
   members-laid : verdict closing (configOf w) ≡ accepted → membersLaid closed w ≡ run closing (configOf w) .figures .members
-  unfolding answered verdict
+  unfolding verdict
   members-laid e =
       let r = run-accepted closing (stateOf (w .state)) (w .buffer) e in
       let f = fits-line (configOf w) _ [] _ (none-failing (checks closing (configOf w)) e) in
-      let g = ruleOf closing (configOf w) .figures in
+      let g = run closing (configOf w) .figures in
       let few : g .members < 2 ^ 32 =
-      omega (arith, innermost-few (stateOf (w .state) .containers) (stateOf (w .state) .depth) (length (w .buffer)) (members-few (stateOf (w .state)) (length (w .buffer)) f), s .short) in
-      ap (λ (o : Outcome). four (answeredBy o closed) 4) r ∙ (second-laid closed (g .size) (g .members) long few ∙ sym (ap (λ (o : Outcome). o .figures .members) r))
+      omega (arith, ap (λ (o : Outcome). o .figures .members) r, innermost-few (stateOf (w .state) .containers) (stateOf (w .state) .depth) (length (w .buffer)) (members-few (stateOf (w .state)) (length (w .buffer)) f), s .short) in
+      ap (λ (l : List ℕ). four l 4) (closing-laid w closed e) ∙ number-laid (g .size ∷ []) (g .members) (g .moved ∷ []) 0 4 closed (omega arith) (omega arith) few
 
   -- only an accepted closing's number is told
   answers-same : (c : Call) (x : Answers)

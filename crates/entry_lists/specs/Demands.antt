@@ -1,11 +1,11 @@
--- What is promised of what a host calls: demands 1, 2 and 3 over the entry points, and how many members closings answer, on one page.
--- The proofs are in proofs/Demands.antt and proofs/Counts.antt.
+-- What is promised of what a host calls: demands 1, 2 and 3 over the entry points, and what closings answer of members and of moved bytes, on one page.
+-- The proofs are in proofs/Demands.antt, proofs/Counts.antt and proofs/Moves.antt.
 -- Each entry point is lent the state's bytes and the buffer. Its contract says that it answers and leaves what `entered` does; `gm_start`'s names
 -- `startEntered`, and `gm_finished` answers `finishedLength`.
 -- Assumes nothing.
-use Prim.Native.Nat.{ℕ, _≤_}
+use Prim.Native.Nat.{ℕ, _+_, _*_, _≤_}
 use mathlib.Core.Path.{_≡_}
-use mathlib.Core.Bool.{Bool, true, not}
+use mathlib.Core.Bool.{Bool, true, false, not, _&&_}
 use mathlib.Core.List.{List, [], _∷_, _++_}
 use lib.Dec.{eqb}
 use lib.ListN.{length, take}
@@ -17,6 +17,7 @@ use Rattle.machine.specs.Machine.{Config, config, fits, ruleOf, checks, firstFa
 use Rattle.machine.specs.Model.{Model, modelStep, startedModel}
 use Rattle.machine.specs.Demands.{partOf, ReadsOnlyAs}
 use Rattle.machine.specs.Counts.{counts, Answers, noAnswers, answersStep}
+use Rattle.machine.specs.Moves.{isClosing, isAbandonment}
 use Rattle.state_bytes.specs.StateBytes.{four, stateOf, numberOf, Entered, entered, answered}
 use Rattle.entry_numbers.specs.EntryCall.{EntryCall, callOf, HostCall}
 use Rattle.entry_steps.specs.Entries.{startEntered}
@@ -128,3 +129,33 @@ abbrev pub EntryOwnStatesFit : Type 0
 EntryOwnStatesFit =
     (hs : List HostCall) (st b : List ℕ) → startEntered st b .number ≡ 0 →
     let w = lentAfterAll hs (lentStarted st b) in fits (stateOf (w .state)) (length (w .buffer)) ≡ true
+
+-- ---- how many bytes closings move (document 02, Item 10)
+
+-- the third of the numbers that `gm_close` leaves in the slice that is lent for its answer
+abbrev pub movedLaid : List ℕ → Lent → ℕ
+movedLaid closed w = four (answered (w .state) (w .buffer) closed) 8
+
+-- of an accepted closing; a refused one leaves no number, and no other call has one
+abbrev pub movedIf : Bool → ℕ → ℕ
+movedIf true n = n
+movedIf false n = 0
+
+-- the sum of what the closings of a list answer, `closed` being the slice that each is lent
+unfoldable pub lentMovedSum : (Lent → List ℕ) → List HostCall → Lent → ℕ
+lentMovedSum closed [] w = 0
+lentMovedSum closed (h ∷ hs) w =
+    movedIf (isClosing (callOf (h .entry)) && isEntered (h .entry) w) (movedLaid (closed w) w) + lentMovedSum closed hs (lentAfter (h .entry) w)
+
+-- an abandonment that is refused abandons nothing
+unfoldable pub lentNothingAbandoned : List HostCall → Lent → Bool
+lentNothingAbandoned [] w = true
+lentNothingAbandoned (h ∷ hs) w = not (isAbandonment (callOf (h .entry)) && isEntered (h .entry) w) && lentNothingAbandoned hs (lentAfter (h .entry) w)
+
+-- Whatever slices of twelve or more bytes are lent for the answers: over a list in which nothing is abandoned, and which leaves no container open,
+-- the closings move at most 32 times the bytes of the stream.
+abbrev pub EntryMovedAtMost : Type 0
+EntryMovedAtMost =
+    (closed : Lent → List ℕ) → ((w : Lent) → 12 ≤ length (closed w)) →
+    (hs : List HostCall) (st b : List ℕ) → LentRun hs st b → lentNothingAbandoned hs (lentStarted st b) ≡ true →
+    lentMovedSum closed hs (lentStarted st b) ≤ 32 * length (lentJoined hs (lentStarted st b))

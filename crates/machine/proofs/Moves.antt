@@ -115,6 +115,16 @@ most-closed (c ∷ cs) used bs l e d o =
     let m = rw (k, suc-mul (31 - length cs) n) at (most-more cs (c .start) n (both {a = containerFits used c} e .1)) in
     omega (arith, m, mul-le-mul-left (31 - length cs) b, moved-within (c .start) (c .header) (c .code) bs)
 
+-- it moves no more bytes than the buffer has
+innermost-within : (cs : List Container) (bs : List ℕ) → innermostMoved cs bs ≤ length (closedInnermost cs bs)
+innermost-within [] bs = omega arith
+innermost-within (c ∷ cs) bs = moved-within (c .start) (c .header) (c .code) bs
+
+pub moved-room : (w : Config) → NoneHolds (checks closing w) → ruleOf closing w .figures .moved ≤ length (w .buffer)
+moved-room w h =
+    let os = openContainers (w .state) in
+    omega (arith, innermost-within os (live w), passed w (not (isOpen os) || w .state .waiting) [] (effect closing w .state .used) h .room)
+
 -- ---- one call, accepted or refused
 
 abbrev mostOf : Config → ℕ

@@ -41,7 +41,7 @@ pub record Passed (w : Config) (misplaced : Bool) (lines : List (Bool × ℕ)) (
   fit : fits (w .state) (length (w .buffer)) ≡ true
   pub place : misplaced ≡ false
   pub own : NoneHolds lines
-  room : used ≤ length (w .buffer)
+  pub room : used ≤ length (w .buffer)
 
 pub passed : (w : Config) (misplaced : Bool) (own : List (Bool × ℕ)) (used : ℕ) → NoneHolds (lines w misplaced own used) → Passed w misplaced own used
 passed w misplaced own used h =

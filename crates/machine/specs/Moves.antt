@@ -14,6 +14,16 @@ unfoldable pub movedSum : List Call → Config → ℕ
 movedSum [] w = 0
 movedSum (c ∷ cs) w = run c w .figures .moved + movedSum cs (after c w)
 
+abbrev pub isClosing : Call → Bool
+isClosing (write an a) = false
+isClosing (name k) = false
+isClosing (opening an k) = false
+isClosing closing = true
+isClosing abandonment = false
+isClosing versionMarker = false
+isClosing taking = false
+isClosing emptying = false
+
 abbrev pub isAbandonment : Call → Bool
 isAbandonment (write an a) = false
 isAbandonment (name k) = false
