@@ -1,6 +1,6 @@
 -- Runs of calls, computed by the definitions: bytes, refusals and their order.
 -- Assumes nothing.
-use Prim.Native.Nat.{ℕ, zero, suc}
+use Prim.Native.Nat.{ℕ, zero, suc, _+_}
 use mathlib.Core.Path.{_≡_, refl}
 use mathlib.Core.Bool.{true, false}
 use mathlib.Core.List.{List, [], _∷_, _++_, map}
@@ -18,7 +18,7 @@ use Rattle.encoding.specs.Decimal.{decimalBody}
 use Rattle.encoding.specs.Timestamp.{dayBefore, dayAfter, isTimestamp, timestampBody}
 use Rattle.encoding.specs.Argument.{writeBool, writeI64, writeInt, writeDecimal, writeTimestamp, writeString, argumentBytes}
 use Rattle.machine.specs.Call.{sequenceType, structType, Call, write, name, opening, closing, abandonment, versionMarker, taking, emptying}
-use Rattle.machine.specs.Machine.{Config, closedBytes, splice, containerFits, containersFit, fits, Verdict, accepted, refused, verdict, after, emptyState, startVerdict, started, finishedLength, taken, run}
+use Rattle.machine.specs.Machine.{Config, closedBytes, movedBytes, Figures, noFigures, splice, containerFits, containersFit, fits, Verdict, accepted, refused, verdict, after, emptyState, startVerdict, started, finishedLength, taken, run}
 use Rattle.machine.specs.Demands.{joined}
 use Rattle.machine.specs.Counts.{noAnswers, answersAfter}
 
@@ -44,17 +44,17 @@ calls-verdicts : verdicts calls (started nines) ≡ accepted ∷ accepted ∷ ac
 unfolding verdicts calls nines verdict startVerdict fits containerFits containersFit splice closedBytes argumentBytes annotatedBytes annotationBytes framedBytes headerBytes uintBytes varUIntsBytes varUIntBytes digits digitCount countDigits lowDigits
 calls-verdicts = refl
 
--- what each call answers of a container, its size and how many members it has: only the closing does
-unfoldable pub figures : List Call → Config → List (ℕ × ℕ)
+-- what each call answers of a container, its size, how many members it has and how many bytes moved: only the closing does
+unfoldable pub figures : List Call → Config → List Figures
 figures [] w = []
-figures (c ∷ cs) w = (run c w .figures .size, run c w .figures .members) ∷ figures cs (after c w)
+figures (c ∷ cs) w = run c w .figures ∷ figures cs (after c w)
 
--- of a call that answers nothing of a container
-abbrev none-answered : ℕ × ℕ
-none-answered = (0, 0)
+abbrev figure : ℕ → ℕ → ℕ → Figures
+figure size members moved = record { size = size; members = members; moved = moved }
 
-calls-figures : figures calls (started nines) ≡ replicate 4 none-answered ++ ((6, 1) ∷ replicate 7 none-answered)
-unfolding figures run calls nines verdict startVerdict fits containerFits containersFit splice closedBytes argumentBytes annotatedBytes annotationBytes framedBytes headerBytes uintBytes varUIntsBytes varUIntBytes digits digitCount countDigits lowDigits
+-- the struct's two bytes move by two, its annotation part of two by one
+calls-figures : figures calls (started nines) ≡ replicate 4 noFigures ++ (figure 6 1 4 ∷ replicate 7 noFigures)
+unfolding figures run movedBytes calls nines verdict startVerdict fits containerFits containersFit splice closedBytes argumentBytes annotatedBytes annotationBytes framedBytes headerBytes uintBytes varUIntsBytes varUIntBytes digits digitCount countDigits lowDigits
 calls-figures = refl
 
 -- a list of 128 bytes: its header grows by one byte over the reserve
@@ -93,8 +93,8 @@ members =
     ∷ write [] (writeInt true []) ∷ write [] (writeBool false) ∷ closing ∷ closing ∷ []
 
 members-figures : figures members (started nines)
-    ≡ replicate 8 none-answered ++ ((5, 2) ∷ replicate 3 none-answered ++ ((2, 1) ∷ replicate 3 none-answered ++ ((8, 3) ∷ none-answered ∷ [])))
-unfolding members figures run nines verdict startVerdict fits containerFits containersFit splice closedBytes argumentBytes annotatedBytes framedBytes headerBytes varUIntBytes digits digitCount countDigits lowDigits bigEndian
+    ≡ replicate 8 noFigures ++ (figure 5 2 4 ∷ replicate 3 noFigures ++ (figure 2 1 1 ∷ replicate 3 noFigures ++ (figure 8 3 7 ∷ noFigures ∷ [])))
+unfolding members figures run movedBytes nines verdict startVerdict fits containerFits containersFit splice closedBytes argumentBytes annotatedBytes framedBytes headerBytes varUIntBytes digits digitCount countDigits lowDigits bigEndian
 members-figures = refl
 
 -- without what was abandoned: the struct is the second member of the list, which is the item behind the marker
@@ -124,6 +124,30 @@ members-fit : verdict closing (counting 2 0) ∷ verdict closing (counting 3 0) 
 unfolding nines verdict fits containerFits containersFit closedBytes framedBytes headerBytes
 members-fit = refl
 
-members-given : figures (closing ∷ closing ∷ []) (counting 2 0) ≡ (1, 0) ∷ (4, 3) ∷ []
-unfolding figures run nines verdict fits containerFits containersFit splice closedBytes framedBytes headerBytes
+members-given : figures (closing ∷ closing ∷ []) (counting 2 0) ≡ figure 1 0 0 ∷ figure 4 3 3 ∷ []
+unfolding figures run movedBytes nines verdict fits containerFits containersFit splice closedBytes framedBytes headerBytes
 members-given = refl
+
+-- ---- how many bytes moved
+
+-- a list at 4, closed: with a body of n bytes, and with an annotation part of a bytes before it
+abbrev plain : ℕ → ℕ
+plain n = movedBytes 4 4 0xB0 (replicate (6 + n) 0)
+
+abbrev annotated : ℕ → ℕ → ℕ
+annotated a n = movedBytes 4 (6 + a) 0xB0 (replicate (8 + a + n) 0)
+
+-- the header has one byte up to 13, two up to 127, then three; two were reserved
+moved-plain : map plain (0 ∷ 1 ∷ 13 ∷ 14 ∷ 127 ∷ 128 ∷ []) ≡ 0 ∷ 1 ∷ 13 ∷ 0 ∷ 0 ∷ 128 ∷ []
+unfolding movedBytes headerBytes varUIntBytes digits digitCount countDigits lowDigits
+moved-plain = refl
+
+-- the wrapper's header has one byte: both move; two: the body moves if its own header has one
+moved-annotated : map (annotated 2) (0 ∷ 10 ∷ 11 ∷ 13 ∷ 14 ∷ 123 ∷ []) ≡ 2 ∷ 12 ∷ 11 ∷ 13 ∷ 0 ∷ 0 ∷ []
+unfolding movedBytes headerBytes varUIntBytes digits digitCount countDigits lowDigits
+moved-annotated = refl
+
+-- it has three: both move, unless the body's header has one, so that growth and shrinking cancel
+moved-widely : map (annotated 2) (124 ∷ 128 ∷ []) ++ (annotated 113 13 ∷ annotated 114 13 ∷ annotated 113 14 ∷ annotated 127 0 ∷ []) ≡ 126 ∷ 130 ∷ 13 ∷ 114 ∷ 127 ∷ 127 ∷ []
+unfolding movedBytes headerBytes varUIntBytes digits digitCount countDigits lowDigits
+moved-widely = refl

@@ -10,3 +10,4 @@ pub mod Fitting
 pub mod Moves
 pub mod Examples
 pub mod Instances
+pub mod MovesInstances

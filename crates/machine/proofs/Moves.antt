@@ -4,13 +4,13 @@
 use Prim.Native.Nat.{ℕ, zero, suc, _+_, _-_, _*_, _≤_}
 use native.Mathlib.Omega.{arith}
 use native.Mathlib.Nat.{suc-mul, mul-add, mul-le-mul-left}
-use mathlib.Core.Path.{_≡_, refl, sym, _∙_, ap}
+use mathlib.Core.Path.{_≡_, refl, sym, _∙_, ap, ap₂}
 use mathlib.Core.Bool.{Bool, true, false, true≢false, false≢true, not, _&&_, _||_, and-true}
 use mathlib.Core.List.{List, [], _∷_, _++_}
 use lib.Dec.{leb, eqb}
-use lib.ListN.{length, take, drop, length-append, length-drop}
+use lib.ListN.{length, take, drop, length-append, length-drop, length-take}
 use lib.Seq.{slice}
-use borrow.Author.Tests.{leb-false, not-true}
+use borrow.Author.Tests.{leb-false, eqb-true, eqb-false, eq-eqb, ne-eqb, not-true}
 use Rattle.ion.specs.Value.{annotationCode}
 use Rattle.ion.proofs.Tests.{by-cases, both}
 use Rattle.encoding.specs.Headers.{typeByte, headerBytes, framedBytes}
@@ -75,6 +75,47 @@ module _ (start header code : ℕ) (bs : List ℕ) where
       by-cases (eqb header start)
       (λ p. rw (p, movedBytes) (omega (arith, body-within, length-drop (header + 2) bs, if-moved (header + 2) (start + length inner) (length body))))
       (λ p. rw (p, movedBytes) (omega (arith, parts (λ q. true≢false (sym q ∙ p)), if-moved (start + 2) (start + length wrapper) (length noted), if-moved (header + 2) (start + length (wrapper ++ (noted ++ inner))) (length body))))
+
+-- ---- what moves, told by the used length: the annotation part exactly if the wrapper's header has not two bytes, the body exactly if the used length alters
+
+-- by as much at both ends
+shifted : (from to n k x y : ℕ) → x ≡ from + k → y ≡ to + k → lengthIfMoved from to n ≡ lengthIfMoved x y n
+shifted from to n k x y e q =
+    by-cases (eqb from to)
+    (λ p. rw (p, lengthIfMoved, eq-eqb x y (omega (arith, eqb-true from to p))))
+    (λ p. rw (p, lengthIfMoved, ne-eqb x y (λ r. eqb-false from to p (omega arith))))
+
+none-moved : (from to : ℕ) → lengthIfMoved from to 0 ≡ 0
+none-moved from to = by-cases (eqb from to) (λ p. rw (p, lengthIfMoved)) (λ p. rw (p, lengthIfMoved))
+
+module _ (start header code : ℕ) (bs : List ℕ) (h : header + 2 ≤ length bs) where
+  abbrev B : List ℕ
+  B = body start header code bs
+
+  abbrev A : List ℕ
+  A = noted start header code bs
+
+  abbrev H : List ℕ
+  H = inner start header code bs
+
+  abbrev W : List ℕ
+  W = wrapper start header code bs
+
+  pub moved-is : movedBytes start header code bs ≡ lengthIfMoved 2 (length W) (length A) + lengthIfMoved (length bs) (start + size start header code bs) (length B)
+  unfolding movedBytes closedBytes framedBytes
+  moved-is =
+      let b = length-drop (header + 2) bs in
+      by-cases (eqb header start)
+      (λ p.
+      let n : length A ≡ 0 = length-drop (start + 2) (take header bs) ∙ omega (arith, length-take header bs, eqb-true header start p) in
+      rw (p, movedBytes, closedBytes, n, none-moved 2 (length W))
+      (shifted (header + 2) (start + length H) (length B) (length B) (length bs) (start + length (H ++ B)) (omega arith) (omega (arith, length-append H B))
+      ∙ omega arith))
+      (λ p.
+      rw (p, movedBytes, closedBytes)
+      (ap₂ _+_ (sym (shifted 2 (length W) (length A) start (start + 2) (start + length W) (omega arith) (omega arith)))
+      (shifted (header + 2) (start + length (W ++ (A ++ H))) (length B) (length B) (length bs) (start + length (W ++ (A ++ (H ++ B)))) (omega arith)
+      (omega (arith, length-append W (A ++ H), length-append A H, length-append W (A ++ (H ++ B)), length-append A (H ++ B), length-append H B)))))
 
 -- ---- how much can have been moved
 
