@@ -4,7 +4,7 @@
 //   set USED DEPTH WAITING                   the next call is given these in its state
 //   record INDEX START HEADER CODE MEMBERS   the next call is given this record of an open container in its state
 //   ROOM ANSWER USED DEPTH WAITING CALL ..   a call that is lent ROOM bytes, its answer (0, or the refusal's number) and the state behind it;
-//                                            behind `close` stand the size and the members that it answers, 0 0 if it is refused
+//                                            behind `close` stand the size, the members and the moved bytes that it answers, 0 0 0 if it is refused
 //   open INDEX START HEADER CODE MEMBERS     the record of an open container
 //   take ROOM LENGTH                         how many finished bytes are handed back
 //   bytes FROM HEX                           the bytes from FROM on
@@ -172,6 +172,7 @@ fn print_got(got: Closed) {
     print_number(state.waiting as usize);
     print_number(got.size);
     print_number(got.members);
+    print_number(got.moved);
 }
 
 fn report(is_right: bool) {
@@ -187,7 +188,9 @@ fn has_numbers(call: &[u8], got: Closed) -> bool {
     if !check::same(word(call, 0), b"close") {
         return true;
     }
-    (got.size == size(word(call, 1))) & (got.members == size(word(call, 2)))
+    (got.size == size(word(call, 1)))
+        & (got.members == size(word(call, 2)))
+        & (got.moved == size(word(call, 3)))
 }
 
 fn compare_call(line: &[u8], got: Closed) {

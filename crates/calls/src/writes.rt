@@ -229,6 +229,7 @@ fn without_numbers(written: Written) -> Closed {
         state,
         size: 0,
         members: 0,
+        moved: 0,
     }
 }
 

@@ -20,7 +20,7 @@ use Rattle.encoding.specs.Timestamp.{dayBefore, dayAfter, isTimestamp, timestam
 use Rattle.encoding.specs.Argument.{float32Bytes, narrows, float64Bytes, argumentBytes, meaning}
 use Rattle.encoding.specs.Stream.{streamBytes}
 use Rattle.annotations.specs.Sids.{leastFirst, sidAt, sidsUpTo, sidsOf}
-use Rattle.machine.specs.Machine.{closedBytes, splice, containerFits, containersFit, fits, verdict, startVerdict, finishedLength, run}
+use Rattle.machine.specs.Machine.{closedBytes, movedBytes, splice, containerFits, containersFit, fits, verdict, startVerdict, finishedLength, run}
 use Rattle.machine.specs.Demands.{ReadsOnlyAs}
 use Rattle.machine.specs.Counts.{counts, noAnswers}
 use Rattle.machine.proofs.Instances.{most, nines, bytes, items, counted}
@@ -151,7 +151,7 @@ pub record Limits : Type 0 where
 
 pub limits : Limits
 unfolding lentJoined lentModelAfter lentAnswersAfter answered numbersLaid placed startEntered entered run stateOf containersFrom storedHead storedContainer storedMembers laid sidsOf sidsUpTo sidAt leastFirst
-    typeCoded precisionNumbered offsetLent fractionLent verdict startVerdict finishedLength fits containerFits containersFit splice closedBytes
+    typeCoded precisionNumbered offsetLent fractionLent verdict startVerdict finishedLength fits containerFits containersFit splice closedBytes movedBytes
     meaning argumentBytes annotatedBytes annotationBytes framedBytes headerBytes float32Bytes narrows float64Bytes fixedBytes uintBytes trimmed
     intBytes decimalBody timestampBody isTimestamp areFields dayBefore dayAfter varIntBytes varIntGroups varUIntsBytes varUIntBytes digits digitCount
     countDigits lowDigits bigEndian begun utf8From utf8 floatOf ofBits toBits holds isNan
@@ -169,20 +169,21 @@ entry-instance-counts =
     sym (entry-members-answered (λ w. eights) (λ w. omega arith) hostLimits sevens nines (limits .run) items (rw (limits .joined) (entry-instance3 .reading)))
     ∙ limits .answered
 
--- ---- what a closing answers in the slice that is lent for it: E4 81 8A B1 10 is five bytes long, and has one member
+-- ---- what a closing answers in the slice that is lent for it: E4 81 8A B1 10 is five bytes long, and has one member; 10 moves, and 81 8A do
 
 abbrev held : Lent
 held = lentAfter (gmWriteBool [] 0) (lentAfter (gmOpenList (10 ∷ [])) (lentStarted sevens nines))
 
--- whole; a slice of seven bytes holds the first number, one of three none; with none open the closing is refused
+-- whole; a slice of eleven bytes holds the first two numbers, one of seven the first, one of three none; with none open the closing is refused
 record Answers : Type 0 where
-  whole : answered (held .state) (held .buffer) (9 ∷ 9 ∷ 9 ∷ 9 ∷ 9 ∷ 9 ∷ 9 ∷ 9 ∷ 9 ∷ []) ≡ 5 ∷ 0 ∷ 0 ∷ 0 ∷ 1 ∷ 0 ∷ 0 ∷ 0 ∷ 9 ∷ []
-  first : answered (held .state) (held .buffer) (9 ∷ 9 ∷ 9 ∷ 9 ∷ 9 ∷ 9 ∷ 9 ∷ []) ≡ 5 ∷ 0 ∷ 0 ∷ 0 ∷ 9 ∷ 9 ∷ 9 ∷ []
+  whole : answered (held .state) (held .buffer) (replicate 13 9) ≡ 5 ∷ 0 ∷ 0 ∷ 0 ∷ 1 ∷ 0 ∷ 0 ∷ 0 ∷ 3 ∷ 0 ∷ 0 ∷ 0 ∷ 9 ∷ []
+  two : answered (held .state) (held .buffer) (replicate 11 9) ≡ 5 ∷ 0 ∷ 0 ∷ 0 ∷ 1 ∷ 0 ∷ 0 ∷ 0 ∷ 9 ∷ 9 ∷ 9 ∷ []
+  first : answered (held .state) (held .buffer) (replicate 7 9) ≡ 5 ∷ 0 ∷ 0 ∷ 0 ∷ 9 ∷ 9 ∷ 9 ∷ []
   short : answered (held .state) (held .buffer) (9 ∷ 9 ∷ 9 ∷ []) ≡ 9 ∷ 9 ∷ 9 ∷ []
   refused : let w = lentStarted sevens nines in answered (w .state) (w .buffer) (9 ∷ 9 ∷ 9 ∷ 9 ∷ []) ≡ 9 ∷ 9 ∷ 9 ∷ 9 ∷ []
 
 answers : Answers
 unfolding answered numbersLaid placed entered startEntered run stateOf containersFrom storedHead storedContainer storedMembers laid sidsOf sidsUpTo sidAt
-    leastFirst argumentBytes verdict startVerdict fits containerFits containersFit splice closedBytes annotatedBytes annotationBytes framedBytes headerBytes varUIntsBytes
+    leastFirst argumentBytes verdict startVerdict fits containerFits containersFit splice closedBytes movedBytes annotatedBytes annotationBytes framedBytes headerBytes varUIntsBytes
     varUIntBytes digits digitCount countDigits lowDigits
-answers = record { whole = refl; first = refl; short = refl; refused = refl }
+answers = record { whole = refl; two = refl; first = refl; short = refl; refused = refl }

@@ -1,23 +1,23 @@
 -- Document 01's wrong programs, "Conditions of acceptance" 3: what the contracts of the entry points say of two bools written one after the other
 -- into eight bytes of nines, computed, and that it differs from what each such program answers or leaves. Then the same of programs that count
--- members at another call than document 02, Item 3.
+-- members at another call than document 02, Item 3, or moved bytes otherwise than Item 10.
 -- Assumes nothing.
-use Prim.Native.Nat.{ℕ, _+_}
+use Prim.Native.Nat.{ℕ, zero, suc, _+_, _*_}
 use native.Mathlib.Omega.{arith}
 use mathlib.Core.Path.{_≡_, refl, sym, _∙_, ap}
-use mathlib.Core.List.{List, [], _∷_}
+use mathlib.Core.List.{List, [], _∷_, _++_}
 use lib.ListN.{replicate, getD}
-use Rattle.buffer.specs.Laid.{laid}
+use Rattle.buffer.specs.Laid.{laid, placed}
 use Rattle.encoding.specs.Digits.{lowDigits, countDigits, digitCount, digits}
-use Rattle.encoding.specs.Fields.{varUIntBytes}
-use Rattle.encoding.specs.Headers.{headerBytes, framedBytes, annotatedBytes}
+use Rattle.encoding.specs.Fields.{varUIntBytes, varUIntsBytes}
+use Rattle.encoding.specs.Headers.{headerBytes, framedBytes, annotationBytes, annotatedBytes}
 use Rattle.encoding.specs.Argument.{argumentBytes}
-use Rattle.annotations.specs.Sids.{sidsUpTo, sidsOf}
-use Rattle.machine.specs.Machine.{closedBytes, splice, containerFits, containersFit, fits, verdict, startVerdict, run}
-use Rattle.state_bytes.specs.StateBytes.{stateSize, four, placeOf, stateOf, containersFrom, storedHead, storedContainer, storedMembers, entered}
-use Rattle.entry_numbers.specs.EntryCall.{gmWriteBool, gmFieldName, gmOpenList, gmOpenStruct, gmClose, gmAbandon}
+use Rattle.annotations.specs.Sids.{leastFirst, sidAt, sidsUpTo, sidsOf}
+use Rattle.machine.specs.Machine.{closedBytes, movedBytes, splice, containerFits, containersFit, fits, verdict, startVerdict, run}
+use Rattle.state_bytes.specs.StateBytes.{stateSize, four, placeOf, stateOf, containersFrom, storedHead, storedContainer, storedMembers, entered, numbersLaid, answered}
+use Rattle.entry_numbers.specs.EntryCall.{gmWriteBool, gmWriteBlob, gmFieldName, gmOpenList, gmOpenStruct, gmClose, gmAbandon}
 use Rattle.entry_steps.specs.Entries.{startEntered}
-use Rattle.entry_lists.specs.Demands.{Lent, answer, lentAfter, lentStarted}
+use Rattle.entry_lists.specs.Demands.{Lent, answer, lentAfter, lentStarted, movedLaid}
 
 abbrev started : Lent
 started = lentStarted (replicate stateSize 7) (replicate 8 9)
@@ -112,3 +112,40 @@ closing-not-counted e = let z : _≡_ {A = ℕ} 1 0 = sym (ap (λ (b : List ℕ)
 
 scalar-not-counted : structMembers paired ≡ structMembers closed → ⊥
 scalar-not-counted e = let z : _≡_ {A = ℕ} 2 1 = sym (ap (λ (b : List ℕ). getD b 5 0) members-said) ∙ (e ∙ ap (λ (b : List ℕ). getD b 4 0) members-said) in omega arith
+
+-- ---- moved bytes: a list with sids of ten bytes and of one, and a blob of twelve bytes, closed
+
+-- so often the sid 10
+abbrev tens : ℕ → List ℕ
+tens zero = []
+tens (suc n) = 10 ∷ 0 ∷ 0 ∷ 0 ∷ 0 ∷ 0 ∷ 0 ∷ 0 ∷ tens n
+
+-- with n of the greatest sid, of ten bytes, and m of one byte
+abbrev listed : ℕ → ℕ → Lent
+listed n m = lentAfter (gmWriteBlob [] (replicate 12 5)) (lentAfter (gmOpenList (replicate (8 * n) 0xFF ++ tens m)) (lentStarted (replicate stateSize 7) (replicate 150 9)))
+
+abbrev movedOf : ℕ → ℕ → ℕ
+movedOf n m = movedLaid (replicate 12 8) (listed n m)
+
+-- Annotation parts of 2, 113 and 114 bytes, and 13 in each body: wrappers' headers of two, two and three bytes. In the last the list's header is
+-- a byte shorter and the wrapper's a byte longer than its reserve, so that the body stays.
+moved-said : movedOf 0 1 ∷ movedOf 11 2 ∷ movedOf 11 3 ∷ [] ≡ 13 ∷ 13 ∷ 114 ∷ []
+unfolding answered numbersLaid placed startEntered entered run stateOf containersFrom storedHead storedContainer storedMembers laid sidsOf sidsUpTo sidAt leastFirst
+    verdict startVerdict fits containerFits containersFit splice closedBytes movedBytes argumentBytes annotatedBytes annotationBytes framedBytes headerBytes
+    varUIntsBytes varUIntBytes digits digitCount countDigits lowDigits
+moved-said = refl
+
+-- counts the wrapper's header as moved, or the body where only the annotations move
+wrapper-counted : movedOf 11 3 ≡ 114 + 3 → ⊥
+wrapper-counted e = let z : _≡_ {A = ℕ} 114 117 = sym (ap (λ (b : List ℕ). getD b 2 0) moved-said) ∙ e in omega arith
+
+body-counted : movedOf 11 3 ≡ 114 + 13 → ⊥
+body-counted e = let z : _≡_ {A = ℕ} 114 127 = sym (ap (λ (b : List ℕ). getD b 2 0) moved-said) ∙ e in omega arith
+
+-- measures before the list's header has its final size: its reserve of two would make the wrapper's length 128, and the annotations would move
+measured-early : (n : ℕ) → movedOf 11 2 ≡ 113 + n → ⊥
+measured-early n e = let z : _≡_ {A = ℕ} 13 (113 + n) = sym (ap (λ (b : List ℕ). getD b 1 0) moved-said) ∙ e in omega arith
+
+-- counts no body
+none-counted : movedOf 0 1 ≡ 0 → ⊥
+none-counted e = let z : _≡_ {A = ℕ} 13 0 = sym (ap (λ (b : List ℕ). getD b 0 0) moved-said) ∙ e in omega arith
