@@ -223,9 +223,12 @@ list-moves [] done w x inv e n =
     rw (taken-live done w x inv o) (omega (arith, none-of (openContainers (w .state)) (w .state .used) o, length-live done w x inv))
 list-moves (c ∷ cs) done w x inv e n =
     let k = both {a = not (isAbandonment c && isAccepted (verdict c w))} n in
-    omega (arith, call-moves done w x inv c (not-true _ (k .0)),
-    list-moves cs (done ++ flushed c w) (after c w) (stepArguments c w x) (call-keeps done w x c inv) e (k .1),
-    length-append (flushed c w) (joined cs (after c w)))
+    omega (
+      arith,
+      call-moves done w x inv c (not-true _ (k .0)),
+      list-moves cs (done ++ flushed c w) (after c w) (stepArguments c w x) (call-keeps done w x c inv) e (k .1),
+      length-append (flushed c w) (joined cs (after c w)),
+    )
 
 pub moved-at-most : MovedAtMost
 moved-at-most cs b r n =

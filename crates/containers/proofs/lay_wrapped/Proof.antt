@@ -55,8 +55,13 @@ add-result c =
     let a = c .before .before .before .before .before .before .before .before .before .before .before .before .before .before .before .before .before .before .args in
     let x = c .before .before .before .before .before .before .before .before .before .before .before .before .before .before .move-bytes in
     let y = c .before .before .before .before .before .before .move-bytes2 in
-    omega (arith, x .ensures .0, y .ensures .0, if-moved (a .start + 2) (a .start + a .wrapper) (a .header - (a .start + 2)),
-    if-moved (a .header + 2) (a .start + a .wrapper + (a .header - (a .start + 2)) + a .inner) (a .body))
+    omega (
+      arith,
+      x .ensures .0,
+      y .ensures .0,
+      if-moved (a .start + 2) (a .start + a .wrapper) (a .header - (a .start + 2)),
+      if-moved (a .header + 2) (a .start + a .wrapper + (a .header - (a .start + 2)) + a .inner) (a .body),
+    )
 
 same-length : tie.Need-same-length
 same-length c = search needs
@@ -107,8 +112,13 @@ add-result-2 c =
     let a = c .before .before .before .before .before .before .before .before .before .before .before .before .before .before .before .before .before .before .args in
     let y = c .before .before .before .before .before .before .before .before .before .before .before .before .before .before .move-bytes3 in
     let x = c .before .before .before .before .before .before .move-bytes4 in
-    omega (arith, x .ensures .0, y .ensures .0, if-moved (a .start + 2) (a .start + a .wrapper) (a .header - (a .start + 2)),
-    if-moved (a .header + 2) (a .start + a .wrapper + (a .header - (a .start + 2)) + a .inner) (a .body))
+    omega (
+      arith,
+      x .ensures .0,
+      y .ensures .0,
+      if-moved (a .start + 2) (a .start + a .wrapper) (a .header - (a .start + 2)),
+      if-moved (a .header + 2) (a .start + a .wrapper + (a .header - (a .start + 2)) + a .inner) (a .body),
+    )
 
 same-length-2 : tie.Need-same-length-2
 same-length-2 c = search needs

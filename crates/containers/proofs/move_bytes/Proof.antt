@@ -36,8 +36,7 @@ returns-2 c =
 returns-3 : tie.Need-returns-3
 returns-3 c =
     let a = c .before .before .before .args in
-    let e : a .to ≡ a .from = omega arith in
-    (
+    let e : a .to ≡ a .from = omega arith in (
       moved-nowhere (a .from) (a .to) (a .count) (sym e),
       laid-same (a .buf .now) (a .to) (a .count) (omega arith) ∙ ap (λ (n : ℕ). laid (a .buf .now) (a .to) (part (a .buf .now) n (a .count))) e,
     )
