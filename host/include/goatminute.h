@@ -149,8 +149,10 @@ uint8_t gm_open_struct(uint8_t *state, size_t state_len, uint8_t *buf, size_t bu
  *   0     4  how many bytes the container takes, headers and annotations counted
  *   4     4  how many direct members it has, a struct its name and value pairs. A container that was closed in it counts
  *            once; what was refused or abandoned in it does not count
- * Numbers that a later version adds stand behind these. Bytes of `closed` past the numbers stay as they were, and a refused
- * closing leaves all of them.
+ *   8     4  how many bytes the closing moved: those of the body if the body moves, and those of the annotation part, sum
+ *            and sids, if that moves. Headers do not count; 0 where they take just the two bytes reserved for each
+ * A slice of 12 bytes or more takes all three; one of 8 gets the first two. Numbers that a later version adds stand behind
+ * these. Bytes of `closed` past the numbers stay as they were, and a refused closing leaves all of them.
  * Refusals 1, 2, 3 (none open, or a name waits), 10. */
 uint8_t gm_close(uint8_t *state, size_t state_len, uint8_t *buf, size_t buf_len, uint8_t *closed, size_t closed_len);
 

@@ -14,6 +14,8 @@
 //! record.field_name(11)?.write_bool(true)?;
 //! let closed = record.close()?;
 //! assert_eq!((closed.size, closed.members), (11, 2));
+//! // both headers take one byte of the two that were reserved: the annotations' two bytes and the body's seven move
+//! assert_eq!(closed.moved, 9);
 //! assert_eq!(writer.finished(), b"\xE0\x01\x00\xEA\xEA\x81\x94\xD7\x8A\x53\xC1\x1F\xBD\x8B\x11");
 //! writer.empty()?;
 //! # Ok(())

@@ -296,10 +296,10 @@ pub fn open_struct(state: &mut [u8], buf: &mut [u8], annotations: &[u8]) -> Resu
 /// The closing of the innermost container, which becomes a member of the one around it.
 #[inline(always)]
 pub fn close(state: &mut [u8], buf: &mut [u8]) -> Result<Closed, Refusal> {
-    let mut closed = [[0; 4]; 2];
+    let mut closed = [[0; 4]; 3];
     close_into(state, buf, closed.as_flattened_mut())?;
-    let [size, members] = closed.map(u32::from_le_bytes);
-    Ok(Closed { size, members })
+    let [size, members, moved] = closed.map(u32::from_le_bytes);
+    Ok(Closed { size, members, moved })
 }
 
 /// The library puts as many of its numbers into `closed` as that holds whole, so one with more numbers than are asked for fits too.
@@ -511,35 +511,52 @@ mod tests {
 
     #[test]
     fn closing_puts_the_numbers_that_the_slice_holds_whole() {
-        for length in 0..=12 {
+        for length in 0..=16 {
             let mut state = [0; STATE_SIZE];
             let mut buf = [0xEE; 16];
             start(&mut state, &mut buf).unwrap();
             open_list(&mut state, &mut buf, sid_bytes(&[10])).unwrap();
             write_bool(&mut state, &mut buf, &[], true).unwrap();
             write_bool(&mut state, &mut buf, &[], false).unwrap();
-            let mut closed = [0xEE; 12];
+            let mut closed = [0xEE; 16];
             assert_eq!(close_into(&mut state, &mut buf, &mut closed[..length]), Ok(()));
             assert_eq!(finished(&state, &buf)[4..], [0xE5, 0x81, 0x8A, 0xB2, 0x11, 0x10]);
-            // the size, and the number of members
-            let mut expected = [0xEE; 12];
-            if length >= 4 {
-                expected[..4].copy_from_slice(&[6, 0, 0, 0]);
-            }
-            if length >= 8 {
-                expected[4..8].copy_from_slice(&[2, 0, 0, 0]);
+            // the size, the number of members, and the bytes moved: two of annotations and two of body
+            let mut expected = [0xEE; 16];
+            for (index, number) in [6, 2, 4].into_iter().enumerate() {
+                let place = 4 * index..4 * index + 4;
+                if place.end <= length {
+                    expected[place].copy_from_slice(&[number, 0, 0, 0]);
+                }
             }
             assert_eq!(closed, expected, "a slice of {length} bytes");
         }
     }
 
     #[test]
+    fn numbers_have_four_bytes_each() {
+        // 70,000 is 11170 in hex, and the list takes four bytes more
+        let mut state = [0; STATE_SIZE];
+        let mut buf = [0xEE; 70_010];
+        start(&mut state, &mut buf).unwrap();
+        open_list(&mut state, &mut buf, &[]).unwrap();
+        for _ in 0..70_000 {
+            write_bool(&mut state, &mut buf, &[], true).unwrap();
+        }
+        let mut closed = [0xEE; 12];
+        assert_eq!(close_into(&mut state, &mut buf, &mut closed), Ok(()));
+        assert_eq!(closed, [0x74, 0x11, 0x01, 0, 0x70, 0x11, 0x01, 0, 0x70, 0x11, 0x01, 0]);
+    }
+
+    #[test]
     fn refused_closing_leaves_the_slice() {
-        fn refused(state: &mut [u8], buf: &mut [u8], why: Refusal) {
-            for length in 0..=12 {
-                let mut closed = [0xEE; 12];
+        fn refused<const N: usize>(state: &mut [u8], buf: &mut [u8; N], why: Refusal) {
+            let before = *buf;
+            for length in 0..=16 {
+                let mut closed = [0xEE; 16];
                 assert_eq!(close_into(state, buf, &mut closed[..length]), Err(why));
-                assert_eq!(closed, [0xEE; 12], "a slice of {length} bytes");
+                assert_eq!(closed, [0xEE; 16], "a slice of {length} bytes");
+                assert_eq!(*buf, before);
             }
         }
         let mut state = [0; STATE_SIZE];
@@ -548,8 +565,13 @@ mod tests {
         start(&mut state, &mut buf).unwrap();
         refused(&mut state[1..], &mut buf, Refusal::StateUnfit);
         refused(&mut state, &mut buf, Refusal::Misplaced);
-        open_list(&mut state, &mut buf, &[]).unwrap();
-        write_blob(&mut state, &mut buf, &[], &[1; 126]).unwrap();
+        open_struct(&mut state, &mut buf, &[]).unwrap();
+        field_name(&mut state, &mut buf, 4).unwrap();
+        refused(&mut state, &mut buf, Refusal::Misplaced);
+        write_blob(&mut state, &mut buf, &[], &[1; 125]).unwrap();
         refused(&mut state, &mut buf, Refusal::NoRoom);
+        // more members than bytes
+        state[8 + 9] = 129;
+        refused(&mut state, &mut buf, Refusal::StateUnfit);
     }
 }

@@ -26,6 +26,11 @@ pub struct Closed {
     /// How many direct members it has, a struct its name and value pairs. A closed container in it is one member, whatever that holds;
     /// what was refused or abandoned in it is none.
     pub members: u32,
+    /// How many bytes the close moved: those of the body if the body moves, and those of the annotation part, sum and sids, if that
+    /// moves. Headers do not count, and an empty body has nothing to count. An opening reserves two bytes for each header: where the
+    /// headers take just these, nothing moves and this is 0. A technician sees from it how long a close keeps the axis board busy
+    /// with moving bytes.
+    pub moved: u32,
 }
 
 /// The magnitude of a decimal's coefficient.

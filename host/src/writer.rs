@@ -341,7 +341,7 @@ pub struct SexpWriter<'w>(Open<'w>);
 pub struct StructWriter<'w>(Open<'w>);
 
 impl ListWriter<'_> {
-    /// Closes the list, and answers its size and how many members it has. A refused close abandons it.
+    /// Closes the list, and answers its size, how many members it has and how many bytes moved. A refused close abandons it.
     #[inline]
     pub fn close(self) -> Result<Closed, Refusal> {
         self.0.close()
@@ -349,7 +349,7 @@ impl ListWriter<'_> {
 }
 
 impl SexpWriter<'_> {
-    /// Closes the s-expression, and answers its size and how many members it has. A refused close abandons it.
+    /// Closes the s-expression, and answers its size, how many members it has and how many bytes moved. A refused close abandons it.
     #[inline]
     pub fn close(self) -> Result<Closed, Refusal> {
         self.0.close()
@@ -364,7 +364,7 @@ impl StructWriter<'_> {
         Ok(self)
     }
 
-    /// Closes the struct, and answers its size and how many members it has. A refused close abandons it.
+    /// Closes the struct, and answers its size, how many members it has and how many bytes moved. A refused close abandons it.
     #[inline]
     pub fn close(self) -> Result<Closed, Refusal> {
         self.0.close()

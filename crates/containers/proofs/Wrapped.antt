@@ -10,6 +10,7 @@ use borrow.Author.Tests.{ltb-true, ltb-false}
 use lib.ListN.{length, take, length-append}
 use Rattle.encoding.specs.Headers.{headerBytes}
 use Rattle.machine.specs.Machine.{closedBytes, lengthIfMoved, movedBytes}
+use Rattle.machine.proofs.Moves.{if-moved}
 use Rattle.buffer.specs.Laid.{laid}
 use Rattle.encoding.proofs.Sizes.{varUInt-least}
 use Rattle.encoding.proofs.Headers.{header-short, header-long, length-header}
@@ -85,6 +86,11 @@ module _ (b : List ℕ) (start header code len h w : ℕ)
   moved-both p q =
       let n : header + 2 + len - (header + 2) ≡ len = omega arith in
       ap₂ _+_ p q ∙ rw n at (moved-wrapped header code (header + 2 + len) b (omega arith) f start h w s (rw n eh) (rw n ew))
+
+  -- which is no more than the bytes that there are
+  pub moved-few : {x y : ℕ} → x ≡ lengthIfMoved (start + 2) (start + w) (header - (start + 2)) → y ≡ lengthIfMoved (header + 2) (start + w + (header - (start + 2)) + h) len
+      → x + y ≤ length b
+  moved-few p q = omega (arith, p, q, if-moved (start + 2) (start + w) (header - (start + 2)), if-moved (header + 2) (start + w + (header - (start + 2)) + h) len)
 
   module _ (g : start + w + (header - (start + 2)) + h + len ≤ length b) where
     -- the wrapper's header before all else

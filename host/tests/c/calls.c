@@ -97,13 +97,14 @@ static void read_back(const uint8_t *stream, size_t length) {
     CHECK(numbers[0] == 256);
 }
 
-/* A closing puts the numbers that its slice holds whole: six bytes, two members. A refused one puts none. */
+/* A closing puts the numbers that its slice holds whole: six bytes, two members, four bytes moved, two of annotations and
+ * two of body. A refused one puts none. */
 static void close_into(size_t length) {
     static const uint8_t none[1];
     static const uint8_t sid[8] = {20};
     uint8_t state[GM_STATE_SIZE];
     uint8_t buf[16];
-    uint8_t closed[12];
+    uint8_t closed[16];
     uint8_t expected[sizeof closed];
 
     memset(closed, 0xEE, sizeof closed);
@@ -124,6 +125,8 @@ static void close_into(size_t length) {
         memcpy(expected, "\x06\x00\x00\x00", 4);
     if (length >= 8)
         memcpy(expected + 4, "\x02\x00\x00\x00", 4);
+    if (length >= 12)
+        memcpy(expected + 8, "\x04\x00\x00\x00", 4);
     CHECK(memcmp(closed, expected, sizeof closed) == 0);
     CHECK(gm_finished(state, sizeof state, buf, sizeof buf) == 10);
 }
@@ -131,8 +134,8 @@ static void close_into(size_t length) {
 int main(void) {
     static uint8_t state[GM_STATE_SIZE];
     static uint8_t buf[96];
-    static const size_t lengths[] = {0, 3, 4, 7, 8, 12};
-    uint8_t closed[] = {1, 2, 3, 4, 5, 6, 7, 8, 9, 10};
+    static const size_t lengths[] = {0, 3, 4, 7, 8, 11, 12, 16};
+    uint8_t closed[] = {1, 2, 3, 4, 5, 6, 7, 8, 9, 10, 11, 12, 13, 14};
     static const uint8_t none[1];
     static const uint8_t sid[8] = {20};
     static const uint8_t coefficient[] = {0x1F, 0xBD};
@@ -174,15 +177,17 @@ int main(void) {
     CHECK(gm_write_int(state, sizeof state, buf, sizeof buf, none, 0, 0, (const uint8_t *)"\x07", 1) == GM_ACCEPTED);
     CHECK(gm_write_symbol(state, sizeof state, buf, sizeof buf, none, 0, 30) == GM_ACCEPTED);
     CHECK(gm_write_null(state, sizeof state, buf, sizeof buf, none, 0, 0) == GM_ACCEPTED);
-    CHECK(gm_close(state, sizeof state, buf, sizeof buf, closed, 8) == GM_ACCEPTED);
-    CHECK(memcmp(closed, "\x08\x00\x00\x00\x04\x00\x00\x00\x09\x0A", sizeof closed) == 0);
+    CHECK(gm_close(state, sizeof state, buf, sizeof buf, closed, 12) == GM_ACCEPTED);
+    /* the header of a body of seven bytes takes one byte: the body moves */
+    CHECK(memcmp(closed, "\x08\x00\x00\x00\x04\x00\x00\x00\x07\x00\x00\x00\x0D\x0E", sizeof closed) == 0);
     CHECK(gm_field_name(state, sizeof state, buf, sizeof buf, 15) == GM_ACCEPTED);
     CHECK(gm_close(state, sizeof state, buf, sizeof buf, closed, sizeof closed) == GM_MISPLACED);
-    CHECK(memcmp(closed, "\x08\x00\x00\x00\x04\x00\x00\x00\x09\x0A", sizeof closed) == 0);
+    CHECK(memcmp(closed, "\x08\x00\x00\x00\x04\x00\x00\x00\x07\x00\x00\x00\x0D\x0E", sizeof closed) == 0);
     CHECK(gm_write_f64(state, sizeof state, buf, sizeof buf, none, 0, UINT64_C(0x3FF8000000000000)) == GM_ACCEPTED);
     CHECK(gm_empty(state, sizeof state, buf, sizeof buf) == GM_MISPLACED);
     CHECK(gm_close(state, sizeof state, buf, sizeof buf, closed, sizeof closed) == GM_ACCEPTED);
-    CHECK(memcmp(closed, "\x2C\x00\x00\x00\x06\x00\x00\x00\x09\x0A", sizeof closed) == 0);
+    /* both headers take the two bytes that were reserved: nothing moves */
+    CHECK(memcmp(closed, "\x2C\x00\x00\x00\x06\x00\x00\x00\x00\x00\x00\x00\x0D\x0E", sizeof closed) == 0);
     CHECK(gm_finished(state, sizeof state, buf, sizeof buf) == sizeof expected);
     CHECK(memcmp(buf, expected, sizeof expected) == 0);
     read_back(expected, sizeof expected);
@@ -204,7 +209,7 @@ int main(void) {
     CHECK(memcmp(buf + 18, "\xE3\x81\x94\xB0\xB0", 5) == 0);
     CHECK(gm_close(state, sizeof state, buf, sizeof buf, closed, sizeof closed) == GM_MISPLACED);
     CHECK(gm_close(state, sizeof state - 1, buf, sizeof buf, closed, sizeof closed) == GM_STATE_UNFIT);
-    CHECK(memcmp(closed, "\x2C\x00\x00\x00\x06\x00\x00\x00\x09\x0A", sizeof closed) == 0);
+    CHECK(memcmp(closed, "\x2C\x00\x00\x00\x06\x00\x00\x00\x00\x00\x00\x00\x0D\x0E", sizeof closed) == 0);
     for (size_t i = 0; i < sizeof lengths / sizeof *lengths; ++i)
         close_into(lengths[i]);
     CHECK(gm_start(state, sizeof state, buf, 3) == GM_NO_ROOM);

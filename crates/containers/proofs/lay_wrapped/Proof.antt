@@ -1,9 +1,7 @@
 -- `containers::lay_wrapped` meets its contract, in the order of the one branch and of the other.
 -- By the laws of the two orders. Assumes nothing.
 use native.Mathlib.Omega.{arith}
-use Prim.Native.Nat.{_+_, _-_}
-use Rattle.machine.proofs.Moves.{if-moved}
-use Rattle.containers.proofs.Wrapped.{moved-both, from-the-left, from-the-right}
+use Rattle.containers.proofs.Wrapped.{moved-both, moved-few, from-the-left, from-the-right}
 use borrow.Author.Needs.{needs}
 use Rattle.containers.proofs.lay_wrapped.Statement.{statement}
 use Rattle.containers.proofs.lay_wrapped.Tie as tie
@@ -52,16 +50,12 @@ put-header-requires-2 c κs = search needs
 
 add-result : tie.Need-add-result
 add-result c =
-    let a = c .before .before .before .before .before .before .before .before .before .before .before .before .before .before .before .before .before .before .args in
-    let x = c .before .before .before .before .before .before .before .before .before .before .before .before .before .before .move-bytes in
-    let y = c .before .before .before .before .before .before .move-bytes2 in
-    omega (
-      arith,
-      x .ensures .0,
-      y .ensures .0,
-      if-moved (a .start + 2) (a .start + a .wrapper) (a .header - (a .start + 2)),
-      if-moved (a .header + 2) (a .start + a .wrapper + (a .header - (a .start + 2)) + a .inner) (a .body),
-    )
+    let s = c .before .before .before .before .before .before .before .before .before .before .before .before .before .before .before .before .before .before in
+    let a = s .args in
+    let n =
+    moved-few (a .buf .now) (a .start) (a .header) (a .code) (a .body) (a .inner) (a .wrapper) (omega arith) (omega arith) (s .pre .4) (s .pre .5)
+    (c .before .before .before .before .before .before .before .before .before .before .before .before .before .before .move-bytes .ensures .0) (c .before .before .before .before .before .before .move-bytes2 .ensures .0) in
+    omega arith
 
 same-length : tie.Need-same-length
 same-length c = search needs
@@ -109,16 +103,12 @@ put-header-requires-4 c κs = search needs
 
 add-result-2 : tie.Need-add-result-2
 add-result-2 c =
-    let a = c .before .before .before .before .before .before .before .before .before .before .before .before .before .before .before .before .before .before .args in
-    let y = c .before .before .before .before .before .before .before .before .before .before .before .before .before .before .move-bytes3 in
-    let x = c .before .before .before .before .before .before .move-bytes4 in
-    omega (
-      arith,
-      x .ensures .0,
-      y .ensures .0,
-      if-moved (a .start + 2) (a .start + a .wrapper) (a .header - (a .start + 2)),
-      if-moved (a .header + 2) (a .start + a .wrapper + (a .header - (a .start + 2)) + a .inner) (a .body),
-    )
+    let s = c .before .before .before .before .before .before .before .before .before .before .before .before .before .before .before .before .before .before in
+    let a = s .args in
+    let n =
+    moved-few (a .buf .now) (a .start) (a .header) (a .code) (a .body) (a .inner) (a .wrapper) (omega arith) (omega arith) (s .pre .4) (s .pre .5)
+    (c .before .before .before .before .before .before .move-bytes4 .ensures .0) (c .before .before .before .before .before .before .before .before .before .before .before .before .before .before .move-bytes3 .ensures .0) in
+    omega arith
 
 same-length-2 : tie.Need-same-length-2
 same-length-2 c = search needs
