@@ -18,7 +18,7 @@ use Rattle.encoding.specs.Decimal.{decimalBody}
 use Rattle.encoding.specs.Timestamp.{dayBefore, dayAfter, isTimestamp, timestampBody}
 use Rattle.encoding.specs.Argument.{writeBool, writeI64, writeInt, writeDecimal, writeTimestamp, writeString, argumentBytes}
 use Rattle.machine.specs.Call.{sequenceType, structType, Call, write, name, opening, closing, abandonment, versionMarker, taking, emptying}
-use Rattle.machine.specs.Machine.{Config, closedBytes, movedBytes, Figures, noFigures, splice, containerFits, containersFit, fits, Verdict, accepted, refused, verdict, after, emptyState, startVerdict, started, finishedLength, taken, run}
+use Rattle.machine.specs.Machine.{Config, closedBytes, movedBytes, Figures, splice, containerFits, containersFit, fits, Verdict, accepted, refused, verdict, after, emptyState, startVerdict, started, finishedLength, taken, run}
 use Rattle.machine.specs.Demands.{joined}
 use Rattle.machine.specs.Counts.{noAnswers, answersAfter}
 
@@ -52,8 +52,12 @@ figures (c ∷ cs) w = run c w .figures ∷ figures cs (after c w)
 abbrev figure : ℕ → ℕ → ℕ → Figures
 figure size members moved = record { size = size; members = members; moved = moved }
 
+-- of a call that answers nothing of a container
+abbrev none-answered : Figures
+none-answered = figure 0 0 0
+
 -- the struct's two bytes move by two, its annotation part of two by one
-calls-figures : figures calls (started nines) ≡ replicate 4 noFigures ++ (figure 6 1 4 ∷ replicate 7 noFigures)
+calls-figures : figures calls (started nines) ≡ replicate 4 none-answered ++ (figure 6 1 4 ∷ replicate 7 none-answered)
 unfolding figures run movedBytes calls nines verdict startVerdict fits containerFits containersFit splice closedBytes argumentBytes annotatedBytes annotationBytes framedBytes headerBytes uintBytes varUIntsBytes varUIntBytes digits digitCount countDigits lowDigits
 calls-figures = refl
 
@@ -93,7 +97,7 @@ members =
     ∷ write [] (writeInt true []) ∷ write [] (writeBool false) ∷ closing ∷ closing ∷ []
 
 members-figures : figures members (started nines)
-    ≡ replicate 8 noFigures ++ (figure 5 2 4 ∷ replicate 3 noFigures ++ (figure 2 1 1 ∷ replicate 3 noFigures ++ (figure 8 3 7 ∷ noFigures ∷ [])))
+    ≡ replicate 8 none-answered ++ (figure 5 2 4 ∷ replicate 3 none-answered ++ (figure 2 1 1 ∷ replicate 3 none-answered ++ (figure 8 3 7 ∷ none-answered ∷ [])))
 unfolding members figures run movedBytes nines verdict startVerdict fits containerFits containersFit splice closedBytes argumentBytes annotatedBytes framedBytes headerBytes varUIntBytes digits digitCount countDigits lowDigits bigEndian
 members-figures = refl
 
