@@ -1,4 +1,5 @@
-//! Trial lines and what document 01 says of them; streams and what document 02, Items 1 and 2, says of them.
+//! Trial lines and what document 01 says of them, and document 02, Item 10, of their containers; streams and what document 02,
+//! Items 1 and 2, says of them.
 //!
 //! Written from the documents alone: nothing here is shared with the proved sources, so that a slip
 //! in one shows against the other.
@@ -6,6 +7,7 @@
 pub mod damage;
 pub mod families;
 pub mod form;
+pub mod length;
 pub mod random;
 pub mod reading;
 pub mod refusal;

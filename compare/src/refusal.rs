@@ -122,7 +122,7 @@ fn scalar_fault(value: &Value) -> Option<Fault> {
     }
 }
 
-fn decimal_body_len(coefficient: &Signed, exponent: i64) -> usize {
+pub(crate) fn decimal_body_len(coefficient: &Signed, exponent: i64) -> usize {
     let coefficient_len = match coefficient.magnitude.first() {
         Some(first) => coefficient.magnitude.len() + usize::from(*first >= 0x80),
         None => usize::from(coefficient.negative),
@@ -134,7 +134,7 @@ fn decimal_body_len(coefficient: &Signed, exponent: i64) -> usize {
 }
 
 /// Six bits of magnitude in the first byte, seven in each other.
-fn var_int_len(value: i64) -> usize {
+pub(crate) fn var_int_len(value: i64) -> usize {
     let mut rest = value.unsigned_abs() >> 6;
     let mut len = 1;
     while rest > 0 {

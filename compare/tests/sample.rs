@@ -4,7 +4,7 @@ use std::collections::BTreeSet;
 
 use compare::reading::{written, Event, Scalar};
 use compare::refusal::{faults, number, Fault};
-use compare::{families, form, sample};
+use compare::{families, form, length, sample};
 
 #[test]
 fn families_meet_every_refusal_of_a_line() {
@@ -50,4 +50,21 @@ fn the_trial_program_has_the_sample() {
         let refused = answer.strip_prefix('!').map(|digits| digits.parse().expect("a number"));
         assert_eq!(refused, number(line), "{}", line.escape_ascii());
     }
+}
+
+/// The answers are the original's bytes.
+#[test]
+fn lengths_are_those_of_the_sample() {
+    let folder = concat!(env!("CARGO_MANIFEST_DIR"), "/../crates/trial");
+    let stdout = std::fs::read_to_string(format!("{folder}/stdout")).expect("crates/trial/stdout");
+    let mut accepted = 0;
+    for (line, answer) in sample::lines().iter().zip(stdout.lines()) {
+        if answer.starts_with('!') {
+            continue;
+        }
+        let value = form::parse(line).expect("of the form");
+        assert_eq!(length::encoded(&value), answer.len() / 2, "{}", line.escape_ascii());
+        accepted += 1;
+    }
+    assert!(accepted > 700, "{accepted} accepted");
 }

@@ -535,17 +535,18 @@ mod tests {
 
     #[test]
     fn numbers_have_four_bytes_each() {
-        // 70,000 is 11170 in hex, and the list takes four bytes more
+        // 70,000 members of two bytes: 140,000 bytes move, and the list takes four more
         let mut state = [0; STATE_SIZE];
-        let mut buf = [0xEE; 70_010];
+        let mut buf = [0xEE; 140_010];
         start(&mut state, &mut buf).unwrap();
         open_list(&mut state, &mut buf, &[]).unwrap();
         for _ in 0..70_000 {
-            write_bool(&mut state, &mut buf, &[], true).unwrap();
+            write_i64(&mut state, &mut buf, &[], 5).unwrap();
         }
         let mut closed = [0xEE; 12];
         assert_eq!(close_into(&mut state, &mut buf, &mut closed), Ok(()));
-        assert_eq!(closed, [0x74, 0x11, 0x01, 0, 0x70, 0x11, 0x01, 0, 0x70, 0x11, 0x01, 0]);
+        // 222E4, 11170 and 222E0 in hex
+        assert_eq!(closed, [0xE4, 0x22, 0x02, 0, 0x70, 0x11, 0x01, 0, 0xE0, 0x22, 0x02, 0]);
     }
 
     #[test]

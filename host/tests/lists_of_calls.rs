@@ -1,6 +1,6 @@
-//! Random lists of calls, held to a model written from document 01 and document 02, Item 3. After each call the answer, every byte of the
-//! state and every byte of the buffer are compared; after the last, the numbers of members that the closings answered are compared with
-//! what the reader counts in the bytes.
+//! Random lists of calls, held to a model written from document 01 and document 02, Items 3 and 10. After each call the answer, every byte
+//! of the state and every byte of the buffer are compared; after the last, the numbers of members that the closings answered are compared
+//! with what the reader counts in the bytes. Where nothing was abandoned, the closings moved at most 32 times the bytes of the stream.
 use goatminute::{sys, Precision, Reader, Refusal, Timestamp, STATE_SIZE};
 
 // ---- what a scalar's bytes are
@@ -248,8 +248,24 @@ struct Container {
     members: u32,
 }
 
-/// What a close answers: how many bytes the container takes, and how many members it has.
-type Closed = (u32, u32);
+/// What a close answers: how many bytes the container takes, how many members it has, and how many bytes moved.
+type Closed = (u32, u32, u32);
+
+/// A part of the buffer, by where it lies before a close and after it.
+struct Part {
+    before: usize,
+    after: usize,
+    length: usize,
+}
+
+impl Part {
+    fn moved(&self) -> usize {
+        if self.before == self.after {
+            return 0;
+        }
+        self.length
+    }
+}
 
 /// The state and the buffer as they have to be.
 struct Model {
@@ -363,12 +379,28 @@ impl Model {
             Call::Close => {
                 placed(!self.open.is_empty() && !self.waiting)?;
                 let last = self.open.last().unwrap();
-                let bytes = annotated(&last.annotations, value(last.code, &last.body));
-                let held = reserve(&last.annotations).len() + last.body.len();
-                if used - held + bytes.len() > room {
+                let inner = value(last.code, &last.body);
+                let inner_length = inner.len();
+                let bytes = annotated(&last.annotations, inner);
+                let start = used - last.body.len() - reserve(&last.annotations).len();
+                let end = start + bytes.len();
+                if end > room {
                     return Err(Refusal::NoRoom);
                 }
-                let closed = (bytes.len() as u32, last.members);
+                // the body is the last of the bytes, and the annotations stand before the value that they annotate
+                let body = Part {
+                    before: used - last.body.len(),
+                    after: end - last.body.len(),
+                    length: last.body.len(),
+                };
+                let length = annotations(&last.annotations).len();
+                let noted = Part {
+                    before: start + 2,
+                    after: end - inner_length - length,
+                    length,
+                };
+                let moved = body.moved() + noted.moved();
+                let closed = (bytes.len() as u32, last.members, moved as u32);
                 self.open.pop();
                 self.put_value(bytes);
                 self.settle(true);
@@ -440,7 +472,7 @@ fn enter(call: &Call, state: &mut [u8], buf: &mut [u8]) -> Result<Option<Closed>
         Call::Open(sids, 0xB0) => sys::open_list(state, buf, sys::sid_bytes(sids)),
         Call::Open(sids, 0xC0) => sys::open_sexp(state, buf, sys::sid_bytes(sids)),
         Call::Open(sids, _) => sys::open_struct(state, buf, sys::sid_bytes(sids)),
-        Call::Close => return sys::close(state, buf).map(|closed| Some((closed.size, closed.members))),
+        Call::Close => return sys::close(state, buf).map(|closed| Some((closed.size, closed.members, closed.moved))),
         Call::Abandon => sys::abandon(state, buf),
         Call::Marker => sys::version_marker(state, buf),
         Call::Empty => sys::empty(state, buf),
@@ -679,6 +711,9 @@ struct List {
     buf: Vec<u8>,
     calls: usize,
     answers: Answers,
+    /// The sum of what the closings moved, and whether anything was abandoned.
+    moved: usize,
+    abandoned: bool,
     /// What was finished before each emptying.
     emptied: Vec<u8>,
 }
@@ -691,6 +726,10 @@ struct Met {
     /// The numbers of members that were compared with what the reader counts, and those that an abandonment took with it.
     members: Vec<u32>,
     abandoned: usize,
+    /// What each closing moved.
+    moved: Vec<u32>,
+    /// Of each list in which nothing was abandoned: what its closings moved, and the bytes of its stream.
+    sums: Vec<(usize, usize)>,
 }
 
 impl List {
@@ -705,6 +744,8 @@ impl List {
             buf,
             calls: 0,
             answers: Answers::default(),
+            moved: 0,
+            abandoned: false,
             emptied: Vec::new(),
         }
     }
@@ -728,12 +769,17 @@ impl List {
         match call {
             Call::Open(..) => inside.push(Vec::new()),
             Call::Close => {
-                let (_, members) = closed.unwrap();
+                let (_, members, moved) = closed.unwrap();
+                self.moved += moved as usize;
+                met.moved.push(moved);
                 let mut ended = inside.pop().unwrap();
                 ended.push(members);
                 inside.last_mut().unwrap_or(&mut self.answers.outside).extend(ended);
             }
-            Call::Abandon => met.abandoned += inside.pop().unwrap().len(),
+            Call::Abandon => {
+                self.abandoned = true;
+                met.abandoned += inside.pop().unwrap().len();
+            }
             Call::Empty => self.emptied.extend(finished),
             Call::Write(..) | Call::Name(_) | Call::Marker => (),
         }
@@ -751,6 +797,14 @@ impl List {
         stream.extend(self.model.finished());
         assert_eq!(self.answers.outside, members_read(&stream), "seed {}", self.seed);
         met.members.extend(self.answers.outside);
+        if !self.abandoned {
+            let (seed, moved, stream) = (self.seed, self.moved, stream.len());
+            assert!(
+                moved <= 32 * stream,
+                "seed {seed}: {moved} bytes moved, {stream} in the stream"
+            );
+            met.sums.push((moved, stream));
+        }
     }
 }
 
@@ -760,6 +814,22 @@ fn run(seed: u64, room: usize, calls: usize, deep: bool, met: &mut Met) {
     for _ in 0..calls {
         let call = random.call(&list.model, deep);
         list.call(&call, met);
+    }
+    list.end(met);
+}
+
+/// The same without abandonments. A name that waits at the end gets a value, so that all is closed if there is room.
+fn run_without_abandonments(seed: u64, room: usize, calls: usize, deep: bool, met: &mut Met) {
+    let mut random = Random(seed);
+    let mut list = List::start(seed, room);
+    for _ in 0..calls {
+        let call = random.call(&list.model, deep);
+        if !matches!(call, Call::Abandon) {
+            list.call(&call, met);
+        }
+    }
+    if list.model.waiting {
+        list.call(&Call::Write(Vec::new(), Scalar::Bool(true)), met);
     }
     list.end(met);
 }
@@ -775,6 +845,12 @@ fn random_lists_of_calls() {
     }
     for seed in 600..800 {
         run(seed, 2_000, 200, true, &mut met);
+    }
+    for seed in 800..900 {
+        run_without_abandonments(seed, 2_000, 120, false, &mut met);
+    }
+    for seed in 900..1000 {
+        run_without_abandonments(seed, 20_000, 200, true, &mut met);
     }
     println!("accepted and refused by number: {:?}", met.answers);
     for (number, &times) in met.answers.iter().enumerate() {
@@ -795,6 +871,20 @@ fn random_lists_of_calls() {
         assert!(met.members.contains(&members), "no container has {members} members");
     }
     assert!(met.abandoned > 0);
+    let still = met.moved.iter().filter(|&&moved| moved == 0).count();
+    println!(
+        "bytes moved: {} closings compared, up to {:?}; {still} moved none",
+        met.moved.len(),
+        met.moved.iter().max()
+    );
+    let times = met.sums.iter().map(|&(moved, stream)| moved as f64 / stream.max(1) as f64);
+    println!(
+        "sums of bytes moved: {} lists without abandonments, up to {:.1} times the stream",
+        met.sums.len(),
+        times.fold(0.0, f64::max)
+    );
+    assert!(still > 1000 && met.moved.len() - still > 1000);
+    assert!(met.sums.iter().filter(|(moved, _)| *moved > 0).count() > 100);
 }
 
 #[test]

@@ -63,7 +63,7 @@ fn scalar(value: &Value) -> Scalar {
     }
 }
 
-fn sid(symbol: &Symbol) -> u64 {
+pub(crate) fn sid(symbol: &Symbol) -> u64 {
     match symbol {
         Symbol::Sid(sid) => *sid,
         Symbol::Text => panic!("document 01 accepts no text"),
@@ -71,7 +71,7 @@ fn sid(symbol: &Symbol) -> u64 {
 }
 
 /// The local fields an offset earlier, minute by minute through the calendar.
-fn utc(local: &value::Timestamp) -> Timestamp {
+pub(crate) fn utc(local: &value::Timestamp) -> Timestamp {
     let mut fields: Vec<i32> = local.fields.clone();
     if let (Some(minutes), true) = (local.offset, fields.len() >= 5) {
         fields[4] -= minutes;

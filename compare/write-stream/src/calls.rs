@@ -1,5 +1,6 @@
 //! The calls that spell a value.
 
+use compare::length;
 use compare::value::{Annotated, Symbol, Timestamp, Type, Value};
 use goatminute::{Closed, Decimal, IonType, Precision, Refusal, WriteValues};
 
@@ -29,13 +30,13 @@ pub fn write(values: &mut dyn WriteValues, annotated: &Annotated, noise: &mut No
             let mut list = writer.list_writer()?;
             members.iter().try_for_each(|member| write(&mut list, member, noise))?;
             noise.make(&mut list);
-            closed(list.close(), members.len())
+            closed(list.close(), annotated, members.len())
         }
         Value::Sexp(members) => {
             let mut sexp = writer.sexp_writer()?;
             members.iter().try_for_each(|member| write(&mut sexp, member, noise))?;
             noise.make(&mut sexp);
-            closed(sexp.close(), members.len())
+            closed(sexp.close(), annotated, members.len())
         }
         Value::Struct(fields) => {
             let mut record = writer.struct_writer()?;
@@ -44,14 +45,17 @@ pub fn write(values: &mut dyn WriteValues, annotated: &Annotated, noise: &mut No
                 record.field_name(sid(name))?;
                 write(&mut record, member, noise)?;
             }
-            closed(record.close(), fields.len())
+            closed(record.close(), annotated, fields.len())
         }
     }
 }
 
-/// A closing, which answers as many members as the value has: noise is none.
-fn closed(answer: Result<Closed, Refusal>, members: usize) -> Result<(), Refusal> {
-    assert_eq!(answer?.members as usize, members, "members of a closed container");
+/// A closing, which answers what follows from the value: its size, its members and the bytes moved. Noise is in none of them.
+fn closed(answer: Result<Closed, Refusal>, container: &Annotated, members: usize) -> Result<(), Refusal> {
+    let answer = answer?;
+    assert_eq!(answer.size as usize, length::encoded(container), "size of a closed container");
+    assert_eq!(answer.members as usize, members, "members of a closed container");
+    assert_eq!(answer.moved as usize, length::moved(container), "bytes that a closing moved");
     Ok(())
 }
 

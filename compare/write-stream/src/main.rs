@@ -2,7 +2,8 @@
 //!
 //! Prints the bytes of the start, then those of each item, one line of hex each. The seed draws what must leave no trace:
 //! containers that are abandoned, refused calls, and when the buffer is emptied. Stops at the first call that answers otherwise
-//! than document 01, and at a closing that answers another number of members than the value has.
+//! than document 01, and at a closing that answers another size, another number of members or other bytes moved than follow from
+//! the value.
 
 use std::io::{self, BufRead, BufWriter, Write};
 use std::process::ExitCode;
