@@ -81,14 +81,14 @@ module _ (b : List ℕ) (start header code len h w : ℕ)
   length-wrapped = let k = lengths in ap length (sym whole) ∙ (length-append W (A ++ (H ++ B)) ∙ omega arith)
 
   -- the sum of what the two moves report
-  pub moved-both : {x y : ℕ} → x ≡ lengthIfMoved (start + 2) (start + w) (header - (start + 2)) → y ≡ lengthIfMoved (header + 2) (start + w + (header - (start + 2)) + h) len
+  pub moved-both : {x y : ℕ} → x ≡ lengthIfMoved (header + 2) (start + w + (header - (start + 2)) + h) len → y ≡ lengthIfMoved (start + 2) (start + w) (header - (start + 2))
       → x + y ≡ movedBytes start header code (take (header + 2 + len) b)
   moved-both p q =
       let n : header + 2 + len - (header + 2) ≡ len = omega arith in
       ap₂ _+_ p q ∙ rw n at (moved-wrapped header code (header + 2 + len) b (omega arith) f start h w s (rw n eh) (rw n ew))
 
   -- which is no more than the bytes that there are
-  pub moved-few : {x y : ℕ} → x ≡ lengthIfMoved (start + 2) (start + w) (header - (start + 2)) → y ≡ lengthIfMoved (header + 2) (start + w + (header - (start + 2)) + h) len
+  pub moved-few : {x y : ℕ} → x ≡ lengthIfMoved (header + 2) (start + w + (header - (start + 2)) + h) len → y ≡ lengthIfMoved (start + 2) (start + w) (header - (start + 2))
       → x + y ≤ length b
   moved-few p q = omega (arith, p, q, if-moved (start + 2) (start + w) (header - (start + 2)), if-moved (header + 2) (start + w + (header - (start + 2)) + h) len)
 

@@ -122,17 +122,17 @@ fn lay_wrapped(
     let noted = header - (start + RESERVE);
     let place = start + wrapper + noted;
     if wrapper < RESERVE {
-        let annotations = move_bytes(buf, start + RESERVE, start + wrapper, noted);
+        let noted_moved = move_bytes(buf, start + RESERVE, start + wrapper, noted);
         put_header(buf, place, code, body);
-        let members = move_bytes(buf, header + RESERVE, place + inner, body);
+        let body_moved = move_bytes(buf, header + RESERVE, place + inner, body);
         put_header(buf, start, WRAPPER, noted + inner + body);
-        return annotations + members;
+        return body_moved + noted_moved;
     }
-    let members = move_bytes(buf, header + RESERVE, place + inner, body);
+    let body_moved = move_bytes(buf, header + RESERVE, place + inner, body);
     put_header(buf, place, code, body);
-    let annotations = move_bytes(buf, start + RESERVE, start + wrapper, noted);
+    let noted_moved = move_bytes(buf, start + RESERVE, start + wrapper, noted);
     put_header(buf, start, WRAPPER, noted + inner + body);
-    annotations + members
+    body_moved + noted_moved
 }
 
 // A container with annotations: the wrapper's length counts the inner header in its final size.

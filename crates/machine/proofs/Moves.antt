@@ -76,7 +76,7 @@ module _ (start header code : ℕ) (bs : List ℕ) where
       (λ p. rw (p, movedBytes) (omega (arith, body-within, length-drop (header + 2) bs, if-moved (header + 2) (start + length inner) (length body))))
       (λ p. rw (p, movedBytes) (omega (arith, parts (λ q. true≢false (sym q ∙ p)), if-moved (start + 2) (start + length wrapper) (length noted), if-moved (header + 2) (start + length (wrapper ++ (noted ++ inner))) (length body))))
 
--- ---- what moves, told by the used length: the annotation part exactly if the wrapper's header has not two bytes, the body exactly if the used length alters
+-- ---- what moves, told by the used length: the body exactly if the used length alters, the annotation part exactly if the wrapper's header has not two bytes
 
 -- by as much at both ends
 shifted : (from to n k x y : ℕ) → x ≡ from + k → y ≡ to + k → lengthIfMoved from to n ≡ lengthIfMoved x y n
@@ -101,7 +101,7 @@ module _ (start header code : ℕ) (bs : List ℕ) (h : header + 2 ≤ length bs
   abbrev W : List ℕ
   W = wrapper start header code bs
 
-  pub moved-is : movedBytes start header code bs ≡ lengthIfMoved 2 (length W) (length A) + lengthIfMoved (length bs) (start + size start header code bs) (length B)
+  pub moved-is : movedBytes start header code bs ≡ lengthIfMoved (length bs) (start + size start header code bs) (length B) + lengthIfMoved 2 (length W) (length A)
   unfolding movedBytes closedBytes framedBytes
   moved-is =
       let b = length-drop (header + 2) bs in
@@ -113,9 +113,10 @@ module _ (start header code : ℕ) (bs : List ℕ) (h : header + 2 ≤ length bs
       ∙ omega arith))
       (λ p.
       rw (p, movedBytes, closedBytes)
-      (ap₂ _+_ (sym (shifted 2 (length W) (length A) start (start + 2) (start + length W) (omega arith) (omega arith)))
+      (ap₂ _+_
       (shifted (header + 2) (start + length (W ++ (A ++ H))) (length B) (length B) (length bs) (start + length (W ++ (A ++ (H ++ B)))) (omega arith)
-      (omega (arith, length-append W (A ++ H), length-append A H, length-append W (A ++ (H ++ B)), length-append A (H ++ B), length-append H B)))))
+      (omega (arith, length-append W (A ++ H), length-append A H, length-append W (A ++ (H ++ B)), length-append A (H ++ B), length-append H B)))
+      (sym (shifted 2 (length W) (length A) start (start + 2) (start + length W) (omega arith) (omega arith)))))
 
 -- ---- how much can have been moved
 

@@ -106,8 +106,8 @@ closedInnermost (c ∷ cs) live = closedBytes (c .start) (c .header) (c .code) l
 abbrev pub lengthIfMoved : ℕ → ℕ → ℕ → ℕ
 lengthIfMoved from to n = elim (eqb from to) [ true ↦ 0 | false ↦ n ]
 
--- The body lay behind the header's reserve, and lies behind the header; the annotation part, sum and sids, lay behind the wrapper's reserve,
--- and lies behind the wrapper's header. Headers do not move.
+-- The body's length if the body moves, plus the length of the annotation part, sum and sids, if that moves. The body lay behind the header's reserve,
+-- and lies behind the header; the annotation part lay behind the wrapper's reserve, and lies behind the wrapper's header. Headers do not count.
 unfoldable pub movedBytes : ℕ → ℕ → ℕ → List ℕ → ℕ
 movedBytes start header code live =
     let body = drop (header + 2) live in
@@ -116,7 +116,9 @@ movedBytes start header code live =
     let wrapper = headerBytes (typeByte annotationCode) (length (noted ++ (inner ++ body))) in
     elim (eqb header start) [
       | true ↦ lengthIfMoved (header + 2) (start + length inner) (length body)
-      | false ↦ lengthIfMoved (start + 2) (start + length wrapper) (length noted) + lengthIfMoved (header + 2) (start + length (wrapper ++ (noted ++ inner))) (length body)
+      | false ↦
+          lengthIfMoved (header + 2) (start + length (wrapper ++ (noted ++ inner))) (length body)
+          + lengthIfMoved (start + 2) (start + length wrapper) (length noted)
     ]
 
 abbrev pub innermostMoved : List Container → List ℕ → ℕ

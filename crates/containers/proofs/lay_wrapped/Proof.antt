@@ -54,7 +54,7 @@ add-result c =
     let a = s .args in
     let n =
     moved-few (a .buf .now) (a .start) (a .header) (a .code) (a .body) (a .inner) (a .wrapper) (omega arith) (omega arith) (s .pre .4) (s .pre .5)
-    (c .before .before .before .before .before .before .before .before .before .before .before .before .before .before .move-bytes .ensures .0) (c .before .before .before .before .before .before .move-bytes2 .ensures .0) in
+    (c .before .before .before .before .before .before .move-bytes2 .ensures .0) (c .before .before .before .before .before .before .before .before .before .before .before .before .before .before .move-bytes .ensures .0) in
     omega arith
 
 same-length : tie.Need-same-length
@@ -66,7 +66,7 @@ returns c =
     let a = s .args in
     let x = c .before .before .before .before .before .before .before .before .before .before .before .before .before .before .move-bytes in
     let y = c .before .before .before .before .before .before .move-bytes2 in (
-      moved-both (a .buf .now) (a .start) (a .header) (a .code) (a .body) (a .inner) (a .wrapper) (omega arith) (omega arith) (s .pre .4) (s .pre .5) (x .ensures .0) (y .ensures .0),
+      moved-both (a .buf .now) (a .start) (a .header) (a .code) (a .body) (a .inner) (a .wrapper) (omega arith) (omega arith) (s .pre .4) (s .pre .5) (y .ensures .0) (x .ensures .0),
       from-the-left (a .buf .now) (a .start) (a .header) (a .code) (a .body) (a .inner) (a .wrapper) (omega arith) (omega arith) (s .pre .4) (s .pre .5) (omega arith)
           (c .before .before .before .before .before .before .before .before .before .before .before .before .before .before .before .before .if1 .taken) (x .ensures .1) (c .before .before .before .before .before .before .before .before .before .before .put-header .ensures) (y .ensures .1) (c .before .before .put-header2 .ensures),
     )
@@ -107,7 +107,7 @@ add-result-2 c =
     let a = s .args in
     let n =
     moved-few (a .buf .now) (a .start) (a .header) (a .code) (a .body) (a .inner) (a .wrapper) (omega arith) (omega arith) (s .pre .4) (s .pre .5)
-    (c .before .before .before .before .before .before .move-bytes4 .ensures .0) (c .before .before .before .before .before .before .before .before .before .before .before .before .before .before .move-bytes3 .ensures .0) in
+    (c .before .before .before .before .before .before .before .before .before .before .before .before .before .before .move-bytes3 .ensures .0) (c .before .before .before .before .before .before .move-bytes4 .ensures .0) in
     omega arith
 
 same-length-2 : tie.Need-same-length-2
@@ -119,7 +119,7 @@ returns-2 c =
     let a = s .args in
     let y = c .before .before .before .before .before .before .before .before .before .before .before .before .before .before .move-bytes3 in
     let x = c .before .before .before .before .before .before .move-bytes4 in (
-      moved-both (a .buf .now) (a .start) (a .header) (a .code) (a .body) (a .inner) (a .wrapper) (omega arith) (omega arith) (s .pre .4) (s .pre .5) (x .ensures .0) (y .ensures .0),
+      moved-both (a .buf .now) (a .start) (a .header) (a .code) (a .body) (a .inner) (a .wrapper) (omega arith) (omega arith) (s .pre .4) (s .pre .5) (y .ensures .0) (x .ensures .0),
       from-the-right (a .buf .now) (a .start) (a .header) (a .code) (a .body) (a .inner) (a .wrapper) (omega arith) (omega arith) (s .pre .4) (s .pre .5) (omega arith)
           (c .before .before .before .before .before .before .before .before .before .before .before .before .before .before .before .before .if1 .left) (y .ensures .1) (c .before .before .before .before .before .before .before .before .before .before .put-header3 .ensures) (x .ensures .1) (c .before .before .put-header4 .ensures),
     )
