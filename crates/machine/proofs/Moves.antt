@@ -56,25 +56,24 @@ module _ (start header code : ℕ) (bs : List ℕ) where
   abbrev size : ℕ
   size = length (closedBytes start header code bs)
 
-  parts : (eqb header start ≡ true → ⊥) → length noted + length body ≤ size
+  parts : eqb header start ≡ false → length noted + length body ≤ size
   unfolding closedBytes
-  parts h =
-      by-cases (eqb header start) (λ p. absurd (h p))
-      (λ p. rw (p, closedBytes) (omega (arith, length-framed (typeByte annotationCode) (noted ++ framedBytes code body), length-append noted (framedBytes code body), length-framed code body)))
+  parts p =
+      rw (p, closedBytes) (omega (arith, length-framed (typeByte annotationCode) (noted ++ framedBytes code body), length-append noted (framedBytes code body), length-framed code body))
 
   body-within : length bs - (header + 2) ≤ size
   unfolding closedBytes
   body-within =
       by-cases (eqb header start)
       (λ p. rw (p, closedBytes) (omega (arith, length-framed code body, length-drop (header + 2) bs)))
-      (λ p. omega (arith, parts (λ q. true≢false (sym q ∙ p)), length-drop (header + 2) bs))
+      (λ p. omega (arith, parts p, length-drop (header + 2) bs))
 
   moved-within : movedBytes start header code bs ≤ size
   unfolding movedBytes
   moved-within =
       by-cases (eqb header start)
       (λ p. rw (p, movedBytes) (omega (arith, body-within, length-drop (header + 2) bs, if-moved (header + 2) (start + length inner) (length body))))
-      (λ p. rw (p, movedBytes) (omega (arith, parts (λ q. true≢false (sym q ∙ p)), if-moved (start + 2) (start + length wrapper) (length noted), if-moved (header + 2) (start + length (wrapper ++ (noted ++ inner))) (length body))))
+      (λ p. rw (p, movedBytes) (omega (arith, parts p, if-moved (start + 2) (start + length wrapper) (length noted), if-moved (header + 2) (start + length (wrapper ++ (noted ++ inner))) (length body))))
 
 -- ---- what moves, told by the used length: the body exactly if the used length alters, the annotation part exactly if the wrapper's header has not two bytes
 
