@@ -1,4 +1,4 @@
--- `var_uint::write` meets its contract: one byte with its flag, or the digits.
+-- `var_uint::write` meets its contract: one byte with its flag, or a fill whose limit no field passes.
 -- Assumes nothing.
 use Prim.Native.Nat.{ℕ, _+_, _/_, _%_, _<_}
 use native.Mathlib.Omega.{arith}
@@ -8,6 +8,8 @@ use Rattle.encoding.specs.Digits.{lowDigits, digits}
 use Rattle.encoding.specs.Fields.{varUIntBytes}
 use Rattle.buffer.specs.Laid.{placed}
 use Rattle.encoding.proofs.Digits.{digitCount-zero}
+use Rattle.encoding.proofs.Sizes.{varUInt-most}
+use Rattle.var_uint.proofs.Filled.{filled-whole}
 use borrow.Author.Needs.{needs}
 use Rattle.var_uint.proofs.write.Statement.{statement}
 use Rattle.var_uint.proofs.write.Tie as tie
@@ -36,14 +38,16 @@ returns c =
     let a = c .before .before .before .before .before .before .args in
     c .before .before .put .ensures ∙ ap (placed (a .buf .now) (a .at)) (short (a .value) (omega arith))
 
-write-digits-requires : tie.Need-write-digits-requires
-write-digits-requires c κs = search needs
+fill-requires : tie.Need-fill-requires
+fill-requires c κs = search needs
 
 same-length-2 : tie.Need-same-length-2
 same-length-2 c = search needs
 
 returns-2 : tie.Need-returns-2
-returns-2 c = search needs
+returns-2 c =
+    let a = c .before .before .before .before .before .before .args in
+    c .before .before .fill .ensures ∙ filled-whole (a .buf .now) (a .at) (varUIntBytes (a .value)) 10 (varUInt-most (a .value) (search needs))
 
 pub write-spec : {M : Type 1} → statement M
 write-spec =
@@ -54,6 +58,6 @@ write-spec =
     put-requires
     same-length
     returns
-    write-digits-requires
+    fill-requires
     same-length-2
     returns-2)

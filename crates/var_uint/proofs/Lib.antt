@@ -1,0 +1,4 @@
+pub mod Filled
+pub mod Groups
+pub mod Trace
+pub mod Examples
