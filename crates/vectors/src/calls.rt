@@ -259,3 +259,13 @@ pub(crate) fn put(vector: &[u8], buf: &mut [u8]) -> usize {
     let m = hex::bytes(word(call, bytes_at(function)), &mut bytes);
     put_scalar(function, call, &annotations[0..n], &bytes[0..m], buf)
 }
+
+// Whether the vector is a field that has a limit of stores.
+pub(crate) fn is_filled(vector: &[u8]) -> bool {
+    named(vector) == VAR_UINT
+}
+
+// Fills the field by at most `limit` stores, and answers how many they were.
+pub(crate) fn fill(vector: &[u8], limit: usize, buf: &mut [u8]) -> usize {
+    var_uint::fill(buf, AT, read(vector).number, limit)
+}

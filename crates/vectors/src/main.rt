@@ -32,6 +32,32 @@ fn puts(vector: &[u8], room: usize, expected: &[u8]) -> bool
     (count == expected.len()) & are_same(&buf, &image)
 }
 
+// Whether a fill of at most `limit` stores puts the last `limit` bytes of `expected` at their places, and alters no other byte.
+fn fills(vector: &[u8], limit: usize, expected: &[u8]) -> bool
+    requires { ⌜ length (now expected) ≤ 256 ⌝ }
+{
+    let first = expected.len() - words::least(limit, expected.len());
+    let mut image = [FILL; ROOM];
+    buffer::copy(&mut image, AT + first, &expected[first..]);
+    let mut buf = [FILL; ROOM];
+    let made = calls::fill(vector, limit, &mut buf);
+    (made == expected.len() - first) & are_same(&buf, &image)
+}
+
+// The same of every limit, up to one store more than there are bytes.
+fn fills_by_stores(vector: &[u8], expected: &[u8]) -> bool
+    requires { ⌜ length (now expected) ≤ 256 ⌝ }
+{
+    let mut limit: usize = 0;
+    while limit <= expected.len() + 1 {
+        if !fills(vector, limit, expected) {
+            return false;
+        }
+        limit += 1;
+    }
+    true
+}
+
 // Prints the bytes that the call puts.
 fn print_put(vector: &[u8]) {
     let mut buf = [FILL; ROOM];
@@ -52,7 +78,10 @@ const DIFFERS_WITH_JUST_ROOM: u8 = 3;
 
 const DIFFERS_WITHOUT_ROOM: u8 = 4;
 
-// A vector is right if its bytes come out where there is room to spare and where there is just room, and none where a byte of room is missing.
+const DIFFERS_BY_STORES: u8 = 5;
+
+// A vector is right if its bytes come out where there is room to spare and where there is just room, and none where a byte of room is missing; those of
+// a VarUInt also store by store.
 fn compared(vector: &[u8], expected: &[u8]) -> u8
     requires { ⌜ length (now expected) ≤ 256 ⌝ }
 {
@@ -69,6 +98,9 @@ fn compared(vector: &[u8], expected: &[u8]) -> u8
     if !puts(vector, end - 1, b"") {
         return DIFFERS_WITHOUT_ROOM;
     }
+    if calls::is_filled(vector) && !fills_by_stores(vector, expected) {
+        return DIFFERS_BY_STORES;
+    }
     RIGHT
 }
 
@@ -84,6 +116,7 @@ fn print_compared(vector: &[u8], how: u8) {
         NO_FUNCTION => print(b"names no function\n"),
         DIFFERS => print_differs(vector),
         DIFFERS_WITH_JUST_ROOM => print(b"differs where there is just room\n"),
+        DIFFERS_BY_STORES => print(b"differs at a limit of stores\n"),
         _ => print(b"differs where a byte of room is missing\n"),
     }
 }

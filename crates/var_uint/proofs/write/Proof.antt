@@ -47,7 +47,7 @@ same-length-2 c = search needs
 returns-2 : tie.Need-returns-2
 returns-2 c =
     let a = c .before .before .before .before .before .before .args in
-    c .before .before .fill .ensures ∙ filled-whole (a .buf .now) (a .at) (varUIntBytes (a .value)) 10 (varUInt-most (a .value) (search needs))
+    c .before .before .fill .ensures ∙ filled-whole (a .buf .now) (a .at) (varUIntBytes (a .value)) _ (omega (arith, varUInt-most (a .value) (search needs)))
 
 pub write-spec : {M : Type 1} → statement M
 write-spec =
