@@ -1,5 +1,6 @@
 /* Steps through calls of the entry points, instruction by instruction, and sees in which order they store the bytes of VarUInts: document 02, Item 4.
- * Prints the stores of each call's fields, PLACE=BYTE. Answers 0 if every field is stored from its last byte to its first, each byte once and by itself.
+ * With `show`, prints each call's first stores in its fields, PLACE=BYTE. Answers 0 if every field is stored from its last byte to its first, each byte
+ * once and by itself.
  *
  * Each instruction raises SIGTRAP while the processor's trap flag is set, and the handler looks which watched bytes have altered. It then alters them
  * itself, so that a second store of the same byte is seen too; a store of just what it puts there is not, so each call is made twice, with other bytes. */
@@ -16,7 +17,7 @@
 #error "the trap flag is that of x86-64"
 #endif
 
-enum { TRAP_FLAG = 0x100, START = 4, MOST_FIELDS = 80, MOST_STORES = 1024, SIDS = 64, ROOM = 40000 };
+enum { TRAP_FLAG = 0x100, START = 4, MOST_FIELDS = 80, MOST_STORES = 1024, SIDS = 64, ROOM = 40000, SHOWN = 12 };
 
 struct store {
     size_t place;
@@ -50,9 +51,9 @@ enum entry {
 };
 
 static const char *const names[] = {
-    "gm_write_null",      "gm_write_bool",   "gm_write_i64",    "gm_write_int",  "gm_write_f32",  "gm_write_f64",
-    "gm_write_decimal",   "gm_write_timestamp", "gm_write_symbol", "gm_write_string", "gm_write_clob", "gm_write_blob",
-    "gm_open_list",       "gm_open_sexp",    "gm_open_struct",  "gm_field_name", "gm_close"};
+    "gm_write_null", "gm_write_bool", "gm_write_i64", "gm_write_int", "gm_write_f32", "gm_write_f64",
+    "gm_write_decimal", "gm_write_timestamp", "gm_write_symbol", "gm_write_string", "gm_write_clob", "gm_write_blob",
+    "gm_open_list", "gm_open_sexp", "gm_open_struct", "gm_field_name", "gm_close"};
 
 /* A call: what it is lent beside state and buffer, and the VarUInts that it stores. */
 struct call {
@@ -80,14 +81,19 @@ static size_t to;
 static struct store trace[MOST_STORES];
 static size_t stores;
 
-static void fail(const char *what) {
-    printf("\nfailed: %s\n", what);
-    exit(1);
+static void print_trace(const char *name) {
+    printf("%s:", name);
+    for (size_t i = 0; i < stores && i < SHOWN; ++i)
+        printf(" %zu=%02X", trace[i].place, trace[i].byte);
+    printf(stores > SHOWN ? " ..\n" : "\n");
 }
 
-static void require(int ok, const char *what) {
-    if (!ok)
-        fail(what);
+static void require(int ok, const char *name, const char *what) {
+    if (ok)
+        return;
+    print_trace(name);
+    printf("%s: not so: %s\n", name, what);
+    exit(1);
 }
 
 static void stepped(int number, siginfo_t *info, void *context) {
@@ -158,13 +164,15 @@ static uint8_t made(const struct call *c) {
 static void prepare(const struct call *c) {
     memset(state, 0, sizeof state);
     memset(buf, 0, ROOM);
-    require(gm_start(state, sizeof state, buf, ROOM) == GM_ACCEPTED, "a start");
+    require(gm_start(state, sizeof state, buf, ROOM) == GM_ACCEPTED, "gm_start", "accepted");
     if (c->entry == FIELD_NAME)
-        require(gm_open_struct(state, sizeof state, buf, ROOM, annotations, 0) == GM_ACCEPTED, "a struct around the name");
+        require(gm_open_struct(state, sizeof state, buf, ROOM, annotations, 0) == GM_ACCEPTED, "gm_open_struct", "accepted before a name");
     if (c->entry != CLOSE)
         return;
-    require(gm_open_list(state, sizeof state, buf, ROOM, annotations, 8 * c->annotations) == GM_ACCEPTED, "a list");
-    require(gm_write_blob(state, sizeof state, buf, ROOM, annotations, 0, text, c->bytes) == GM_ACCEPTED, "a blob in it");
+    require(gm_open_list(state, sizeof state, buf, ROOM, annotations, 8 * c->annotations) == GM_ACCEPTED, "gm_open_list",
+            "accepted before a closing");
+    require(gm_write_blob(state, sizeof state, buf, ROOM, annotations, 0, text, c->bytes) == GM_ACCEPTED, "gm_write_blob",
+            "accepted before a closing");
 }
 
 /* The call once more, now step by step. Each watched byte is another one before than it has to be afterwards. */
@@ -189,8 +197,7 @@ static void follow(const struct call *c, const uint8_t *expected) {
     uint8_t answer = made(c);
     stepping = 0;
     raise(SIGTRAP);
-    require(answer == GM_ACCEPTED, "the call, step by step");
-    require(step > 0, "no step was seen");
+    require(answer == GM_ACCEPTED, names[c->entry], "accepted step by step");
 }
 
 /* Whether the stores at the field's places are those of its bytes, the last first, each by an instruction of its own. */
@@ -210,30 +217,29 @@ static int is_end_first(const struct field *f, const uint8_t *expected) {
 }
 
 static size_t seen;
+static int show;
 
 static void check(const struct call *c) {
     static const uint8_t masks[] = {0xFF, 0x55};
     static uint8_t expected[ROOM];
+    const char *name = names[c->entry];
 
     prepare(c);
-    require(made(c) == GM_ACCEPTED, names[c->entry]);
+    require(made(c) == GM_ACCEPTED, name, "accepted");
     memcpy(expected, buf, ROOM);
-    printf("%s:", names[c->entry]);
+    /* that the fields lie where they are said to: the end flag is on the last byte of each, and on no other */
+    for (size_t i = 0; i < c->fields; ++i)
+        for (size_t k = 0; k < c->field[i].size; ++k)
+            require((expected[c->field[i].place + k] >= 0x80) == (k == c->field[i].size - 1), name, "the end flag is on a field's last byte alone");
     for (size_t m = 0; m < sizeof masks; ++m) {
         mask = masks[m];
         follow(c, expected);
-        for (size_t i = 0; m == 0 && i < stores; ++i)
-            printf(" %zu=%02X", trace[i].place, trace[i].byte);
-        for (size_t i = 0; i < c->fields; ++i) {
-            const struct field *f = &c->field[i];
-            /* that the field lies where it is said to: the end flag is on its last byte, and on no other */
-            for (size_t p = f->place; p < f->place + f->size; ++p)
-                require((expected[p] >= 0x80) == (p == f->place + f->size - 1), "the end flag on the last byte of a field");
-            require(is_end_first(f, expected), "a field from its last byte to its first, each byte by one store");
-            seen += m == 0;
-        }
+        for (size_t i = 0; i < c->fields; ++i)
+            require(is_end_first(&c->field[i], expected), name, "a field is stored from its last byte to its first, each byte once and by itself");
     }
-    printf("\n");
+    seen += c->fields;
+    if (show)
+        print_trace(name);
 }
 
 static void add(struct call *c, size_t place, size_t size) { c->field[c->fields++] = (struct field){place, size}; }
@@ -287,12 +293,13 @@ static void timestamp(void) {
     check(&c);
 }
 
-int main(void) {
+int main(int count, char **arguments) {
     struct sigaction action;
+    show = count > 1 && strcmp(arguments[1], "show") == 0;
     memset(&action, 0, sizeof action);
     action.sa_sigaction = stepped;
     action.sa_flags = SA_SIGINFO;
-    require(sigaction(SIGTRAP, &action, NULL) == 0, "a handler for SIGTRAP");
+    require(sigaction(SIGTRAP, &action, NULL) == 0, "sigaction", "SIGTRAP has a handler");
 
     for (size_t i = 0; i < SIDS; ++i) {
         annotations[8 * i] = 300 % 256;
@@ -319,6 +326,6 @@ int main(void) {
     length(CLOSE, 16384, 3);
     timestamp();
     close_annotated();
-    printf("stored from the end: %zu VarUInts\n", seen);
+    printf("end byte first: %zu VarUInts, seen instruction by instruction\n", seen);
     return 0;
 }
