@@ -6,7 +6,7 @@ use Prim.Native.Nat.{ℕ, _-_, _^_}
 use Rattle.encoding.specs.Digits.{lowDigits, countDigits, digitCount, digits}
 use Rattle.encoding.specs.Fields.{varUIntBytes}
 use Rattle.buffer.specs.Laid.{laid, placed}
-use Rattle.var_uint.specs.Filled.{Store, filled, stores, stored}
+use Rattle.var_uint.specs.Filled.{filled, stores, stored}
 
 abbrev untouched : List ℕ
 untouched = 0xEE ∷ 0xEE ∷ 0xEE ∷ 0xEE ∷ 0xEE ∷ []

@@ -1,7 +1,7 @@
 -- The laws of a fill: none, one store more, the whole field, no room.
 -- By the laws of placed bytes. Assumes nothing.
-use mathlib.Core.Path.{_≡_, refl, sym, _∙_, ap}
-use mathlib.Core.List.{List, [], _∷_}
+use mathlib.Core.Path.{_≡_, refl, _∙_, ap}
+use mathlib.Core.List.{List}
 use Prim.Native.Nat.{ℕ, suc, _+_, _-_, _≤_, _<_}
 use native.Mathlib.Omega.{arith}
 use native.Mathlib.Nat.{add-zero}
@@ -47,7 +47,8 @@ module _ (b : List ℕ) (at : ℕ) (out : List ℕ) where
 
     -- one store more: the byte before
     pub filled-next : (made : ℕ) (l : List ℕ) (place byte : ℕ) → _≡_ {A = ℕ × List ℕ} (made, l) (filled made b at out) → made < length out →
-        let p = length out - (made + 1) in place ≡ at + p → byte ≡ getD out p 0 → _≡_ {A = ℕ × List ℕ} (made + 1, set l place byte) (filled (made + 1) b at out)
+        let p = length out - (made + 1) in place ≡ at + p → byte ≡ getD out p 0 →
+        _≡_ {A = ℕ × List ℕ} (made + 1, set l place byte) (filled (made + 1) b at out)
     filled-next made l place byte e h q v =
         let p = length out - (made + 1) in
         let one : length out - made ≡ suc p = omega arith in

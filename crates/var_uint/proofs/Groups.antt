@@ -3,13 +3,12 @@
 use mathlib.Core.Path.{_≡_, refl, sym, _∙_, ap}
 use mathlib.Core.List.{List, [], _∷_, _++_, append-nil}
 use Prim.Native.Nat.{ℕ, zero, suc, _+_, _/_, _%_, _<_}
-use native.Mathlib.Omega.{arith}
 use native.Mathlib.Nat.{zero-add}
 use lib.ListN.{length, drop, getD}
 use lib.Seq.{drop-cons, drop-length, getD-at, append-snoc}
-use Rattle.encoding.specs.Digits.{lowDigits, digitCount, digits}
+use Rattle.encoding.specs.Digits.{lowDigits, digits}
 use Rattle.encoding.specs.Fields.{varUIntBytes}
-use Rattle.encoding.proofs.Digits.{length-lowDigits, lowDigits-last}
+use Rattle.encoding.proofs.Digits.{length-lowDigits}
 use Rattle.encoding.proofs.Sizes.{length-varUInt}
 
 -- the k groups of n, of which the last has the flag

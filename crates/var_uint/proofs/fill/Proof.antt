@@ -1,11 +1,11 @@
 -- `var_uint::fill` meets its contract. The loop's invariant: after each store the buffer is what a limit of so many stores leaves, and what is still to
 -- come makes up the field with what is stored. Assumes nothing.
-use mathlib.Core.Path.{_≡_, refl, sym, _∙_, ap}
+use mathlib.Core.Path.{_≡_, refl, sym, _∙_}
 use mathlib.Core.List.{List, _++_}
-use Prim.Native.Nat.{ℕ, suc, _+_, _-_, _/_, _%_, _≤_, _<_}
+use Prim.Native.Nat.{ℕ, suc, _+_, _-_, _≤_}
 use native.Mathlib.Omega.{arith}
 use borrow.Author.Needs.{needs}
-use lib.ListN.{length, drop, set, length-set}
+use lib.ListN.{length, drop, length-set}
 use Rattle.encoding.specs.Fields.{varUIntBytes}
 use Rattle.buffer.proofs.Laid.{no-room, room}
 use Rattle.var_uint.specs.Filled.{filled}
@@ -85,13 +85,14 @@ loop-again c =
     let one : size - l .made ≡ suc p = omega (arith, l .inv .0) in
     let left : size - (l .made + 1) ≡ p = omega (arith, l .inv .0) in
     let to-come = rw one at (l .inv .7) in
-    let byte = sym (next-byte (l .flag) p (l .rest) out to-come) in (
+    let byte = sym (next-byte (l .flag) p (l .rest) out to-come) in
+    let store = filled-next (a .buf .now) (a .at) out (omega (arith, l .inv .0)) (l .made) (l .buf) _ _ (l .inv .5) (omega (arith, l .inv .0)) in (
       l .inv .0,
       l .inv .1,
       simp length-set (l .inv .2),
       omega arith,
       omega arith,
-      filled-next (a .buf .now) (a .at) out (omega (arith, l .inv .0)) (l .made) (l .buf) _ _ (l .inv .5) (omega (arith, l .inv .0)) (omega (arith, l .inv .0)) byte,
+      store (omega (arith, l .inv .0)) byte,
       omega arith,
       rw left (less-to-come (l .flag) p (l .rest) out to-come (omega arith)),
     )

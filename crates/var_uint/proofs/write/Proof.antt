@@ -47,7 +47,8 @@ same-length-2 c = search needs
 returns-2 : tie.Need-returns-2
 returns-2 c =
     let a = c .before .before .before .before .before .before .args in
-    c .before .before .fill .ensures ∙ filled-whole (a .buf .now) (a .at) (varUIntBytes (a .value)) _ (omega (arith, varUInt-most (a .value) (search needs)))
+    let most = varUInt-most (a .value) (search needs) in
+    c .before .before .fill .ensures ∙ filled-whole (a .buf .now) (a .at) (varUIntBytes (a .value)) _ (omega (arith, most))
 
 pub write-spec : {M : Type 1} → statement M
 write-spec =
