@@ -61,12 +61,14 @@ const WRITE_CLOB: usize = 20;
 
 const WRITE_BLOB: usize = 21;
 
+const FILL: usize = 22;
+
 // A name that is none of these.
-pub(crate) const UNKNOWN: usize = 22;
+pub(crate) const UNKNOWN: usize = 23;
 
 fn function_named(name: &[u8]) -> usize {
     words::index(
-        b"var_uint var_int uint fixed_uint magnitude int int_u64 header annotations is_utf8 write_null write_bool write_i64 write_int write_f32 write_f64 write_decimal write_timestamp write_symbol write_string write_clob write_blob",
+        b"var_uint var_int uint fixed_uint magnitude int int_u64 header annotations is_utf8 write_null write_bool write_i64 write_int write_f32 write_f64 write_decimal write_timestamp write_symbol write_string write_clob write_blob fill",
         name,
     )
 }
@@ -188,6 +190,7 @@ fn put_field(function: usize, a: Arguments, bytes: &[u8], buf: &mut [u8]) -> usi
         MAGNITUDE => uint::write_magnitude(buf, AT, bytes),
         INT => int::write(buf, AT, a.negative, bytes),
         INT_U64 => int::write_u64(buf, AT, a.number),
+        FILL => var_uint::fill(buf, AT, a.second, a.number as usize),
         HEADER => header::write(buf, AT, (a.bits % 256) as u8, a.second as usize),
         ANNOTATIONS => annotations::write(buf, AT, bytes),
         // 01 for UTF-8, 00 for bytes that are not
@@ -260,12 +263,10 @@ pub(crate) fn put(vector: &[u8], buf: &mut [u8]) -> usize {
     put_scalar(function, call, &annotations[0..n], &bytes[0..m], buf)
 }
 
-// Whether the vector is a field that has a limit of stores.
-pub(crate) fn is_filled(vector: &[u8]) -> bool {
-    named(vector) == VAR_UINT
-}
-
-// Fills the field by at most `limit` stores, and answers how many they were.
-pub(crate) fn fill(vector: &[u8], limit: usize, buf: &mut [u8]) -> usize {
-    var_uint::fill(buf, AT, read(vector).number, limit)
+// How many bytes of the `size` expected ones the call of a vector puts: of a fill those that its limit lets, which are the last.
+pub(crate) fn count(vector: &[u8], size: usize) -> usize {
+    if named(vector) == FILL {
+        return words::least(numbers::natural(word(vector, 1), MOST_U64) as usize, size);
+    }
+    size
 }

@@ -1,5 +1,6 @@
 // Runs the vectors of standard input and compares what the writer puts with what it should. A line: the expected bytes in hex, the function, its
-// arguments, then `#` and where the vector comes from. A minus in the place of bytes is none: a zero that has no byte, or a refusal.
+// arguments, then `#` and where the vector comes from. A minus in the place of bytes is none: a zero that has no byte, or a refusal. A fill has EE for
+// the bytes that its limit leaves out.
 mod calls;
 
 ghost use Prim.Native.Nat.{_≤_};
@@ -29,39 +30,17 @@ fn puts(vector: &[u8], room: usize, expected: &[u8]) -> bool
     buffer::copy(&mut image, AT, expected);
     let mut buf = [FILL; ROOM];
     let count = calls::put(vector, &mut buf[0..room]);
-    (count == expected.len()) & are_same(&buf, &image)
+    (count == calls::count(vector, expected.len())) & are_same(&buf, &image)
 }
 
-// Whether a fill of at most `limit` stores puts the last `limit` bytes of `expected` at their places, and alters no other byte.
-fn fills(vector: &[u8], limit: usize, expected: &[u8]) -> bool
-    requires { ⌜ length (now expected) ≤ 256 ⌝ }
-{
-    let first = expected.len() - words::least(limit, expected.len());
-    let mut image = [FILL; ROOM];
-    buffer::copy(&mut image, AT + first, &expected[first..]);
+// Prints what lies in the buffer after the call: the bytes that it puts, and as many as were expected.
+fn print_put(vector: &[u8], size: usize) {
     let mut buf = [FILL; ROOM];
-    let made = calls::fill(vector, limit, &mut buf);
-    (made == expected.len() - first) & are_same(&buf, &image)
-}
-
-// The same of every limit, up to one store more than there are bytes.
-fn fills_by_stores(vector: &[u8], expected: &[u8]) -> bool
-    requires { ⌜ length (now expected) ≤ 256 ⌝ }
-{
-    let mut limit: usize = 0;
-    while limit <= expected.len() + 1 {
-        if !fills(vector, limit, expected) {
-            return false;
-        }
-        limit += 1;
+    let mut count = calls::put(vector, &mut buf);
+    if count < size {
+        count = size;
     }
-    true
-}
-
-// Prints the bytes that the call puts.
-fn print_put(vector: &[u8]) {
-    let mut buf = [FILL; ROOM];
-    let count = words::least(calls::put(vector, &mut buf), ROOM - AT);
+    count = words::least(count, ROOM - AT);
     let mut text = [0u8; 2 * ROOM];
     let digits = words::hex::put(&mut text, 0, &buf[AT..AT + count]);
     print(&text[0..digits]);
@@ -78,10 +57,7 @@ const DIFFERS_WITH_JUST_ROOM: u8 = 3;
 
 const DIFFERS_WITHOUT_ROOM: u8 = 4;
 
-const DIFFERS_BY_STORES: u8 = 5;
-
-// A vector is right if its bytes come out where there is room to spare and where there is just room, and none where a byte of room is missing; those of
-// a VarUInt also store by store.
+// A vector is right if its bytes come out where there is room to spare and where there is just room, and none where a byte of room is missing.
 fn compared(vector: &[u8], expected: &[u8]) -> u8
     requires { ⌜ length (now expected) ≤ 256 ⌝ }
 {
@@ -98,25 +74,21 @@ fn compared(vector: &[u8], expected: &[u8]) -> u8
     if !puts(vector, end - 1, b"") {
         return DIFFERS_WITHOUT_ROOM;
     }
-    if calls::is_filled(vector) && !fills_by_stores(vector, expected) {
-        return DIFFERS_BY_STORES;
-    }
     RIGHT
 }
 
-fn print_differs(vector: &[u8]) {
+fn print_differs(vector: &[u8], size: usize) {
     print(b"differs: got ");
-    print_put(vector);
+    print_put(vector, size);
     print(b"\n");
 }
 
-fn print_compared(vector: &[u8], how: u8) {
+fn print_compared(vector: &[u8], size: usize, how: u8) {
     match how {
         RIGHT => print(b"ok\n"),
         NO_FUNCTION => print(b"names no function\n"),
-        DIFFERS => print_differs(vector),
+        DIFFERS => print_differs(vector, size),
         DIFFERS_WITH_JUST_ROOM => print(b"differs where there is just room\n"),
-        DIFFERS_BY_STORES => print(b"differs at a limit of stores\n"),
         _ => print(b"differs where a byte of room is missing\n"),
     }
 }
@@ -127,7 +99,7 @@ fn answer(line: &[u8]) -> bool {
     let mut bytes = [0u8; 256];
     let n = words::hex::bytes(words::word(line, 0), &mut bytes);
     let how = compared(vector, &bytes[0..n]);
-    print_compared(vector, how);
+    print_compared(vector, n, how);
     how == RIGHT
 }
 

@@ -22,7 +22,6 @@ enum { TRAP_FLAG = 0x100, START = 4, MOST_FIELDS = 80, MOST_STORES = 1024, SIDS 
 struct store {
     size_t place;
     uint8_t byte;
-    unsigned long step;
 };
 
 struct field {
@@ -47,13 +46,22 @@ enum entry {
     OPEN_SEXP,
     OPEN_STRUCT,
     FIELD_NAME,
-    CLOSE
+    CLOSE,
+    FORWARDS,
+    FLAG_LAST,
+    TWICE,
+    TOGETHER,
+    LEFT_OUT
 };
 
 static const char *const names[] = {
     "gm_write_null", "gm_write_bool", "gm_write_i64", "gm_write_int", "gm_write_f32", "gm_write_f64",
     "gm_write_decimal", "gm_write_timestamp", "gm_write_symbol", "gm_write_string", "gm_write_clob", "gm_write_blob",
-    "gm_open_list", "gm_open_sexp", "gm_open_struct", "gm_field_name", "gm_close"};
+    "gm_open_list", "gm_open_sexp", "gm_open_struct", "gm_field_name", "gm_close",
+    "forwards", "flag last", "twice", "together", "left out"};
+
+/* A field that is stored wrongly on purpose. */
+static const uint8_t three[] = {0x01, 0x00, 0x80};
 
 /* A call: what it is lent beside state and buffer, and the VarUInts that it stores. */
 struct call {
@@ -72,7 +80,6 @@ static uint8_t text[20000];
 static uint8_t closed[12];
 
 static volatile sig_atomic_t stepping;
-static unsigned long step;
 static uint8_t mask;
 static uint8_t watched[ROOM];
 static uint8_t left[ROOM];
@@ -105,15 +112,35 @@ static void stepped(int number, siginfo_t *info, void *context) {
         return;
     }
     *flags |= TRAP_FLAG;
-    ++step;
     for (size_t i = from; i < to; ++i) {
         if (!watched[i] || buf[i] == left[i])
             continue;
         if (stores < MOST_STORES)
-            trace[stores++] = (struct store){i, buf[i], step};
+            trace[stores++] = (struct store){i, buf[i]};
         buf[i] ^= mask;
         left[i] = buf[i];
     }
+}
+
+static void store(size_t i, uint8_t byte) { ((volatile uint8_t *)buf)[START + 1 + i] = byte; }
+
+/* The second is how fields were stored before Item 4. */
+static uint8_t made_wrongly(enum entry entry) {
+    if (entry == FORWARDS) {
+        store(0, three[0]);
+        store(1, three[1]);
+    }
+    if (entry == TOGETHER)
+        memcpy(buf + START + 2, three + 1, 2);
+    else
+        store(2, entry == FLAG_LAST ? three[2] & 0x7F : three[2]);
+    if (entry == FLAG_LAST || entry == TWICE || entry == LEFT_OUT)
+        store(1, three[1]);
+    if (entry != FORWARDS && entry != LEFT_OUT)
+        store(0, three[0]);
+    if (entry == FLAG_LAST || entry == TWICE)
+        store(2, three[2]);
+    return GM_ACCEPTED;
 }
 
 static uint8_t made(const struct call *c) {
@@ -156,8 +183,9 @@ static uint8_t made(const struct call *c) {
         return gm_field_name(s, sl, buf, ROOM, c->sid);
     case CLOSE:
         return gm_close(s, sl, buf, ROOM, closed, sizeof closed);
+    default:
+        return made_wrongly(c->entry);
     }
-    return 255;
 }
 
 /* A start and what has to stand before the call: a struct around a name; a list, annotated as the call is, with a blob of so many bytes in it. */
@@ -181,7 +209,6 @@ static void follow(const struct call *c, const uint8_t *expected) {
     from = ROOM;
     to = 0;
     stores = 0;
-    step = 0;
     memset(watched, 0, sizeof watched);
     for (size_t i = 0; i < c->fields; ++i) {
         for (size_t p = c->field[i].place; p < c->field[i].place + c->field[i].size; ++p) {
@@ -198,19 +225,18 @@ static void follow(const struct call *c, const uint8_t *expected) {
     stepping = 0;
     raise(SIGTRAP);
     require(answer == GM_ACCEPTED, names[c->entry], "accepted step by step");
+    require(stores > 0, names[c->entry], "a store is seen, so this machine steps");
 }
 
-/* Whether the stores at the field's places are those of its bytes, the last first, each by an instruction of its own. */
-static int is_end_first(const struct field *f, const uint8_t *expected) {
+/* Whether the stores at the field's places go to the last of them first, to each once. Bytes that one instruction stores stand in the trace with the
+ * first place first, so two of a field are out of order. */
+static int is_end_first(const struct field *f) {
     size_t found = 0;
-    unsigned long before = 0;
     for (size_t i = 0; i < stores; ++i) {
-        const struct store *s = &trace[i];
-        if (s->place < f->place || s->place >= f->place + f->size)
+        if (trace[i].place < f->place || trace[i].place >= f->place + f->size)
             continue;
-        if (found == f->size || s->place != f->place + f->size - 1 - found || s->byte != expected[s->place] || s->step <= before)
+        if (trace[i].place != f->place + f->size - 1 - found)
             return 0;
-        before = s->step;
         ++found;
     }
     return found == f->size;
@@ -235,11 +261,22 @@ static void check(const struct call *c) {
         mask = masks[m];
         follow(c, expected);
         for (size_t i = 0; i < c->fields; ++i)
-            require(is_end_first(&c->field[i], expected), name, "a field is stored from its last byte to its first, each byte once and by itself");
+            require(is_end_first(&c->field[i]), name, "a field is stored from its last byte to its first, each byte once and by itself");
     }
     seen += c->fields;
     if (show)
         print_trace(name);
+}
+
+/* That a wrong order is seen as such. */
+static void check_wrong(enum entry entry) {
+    static uint8_t expected[ROOM];
+    struct call c = {entry, 0, 0, 0, 1, {{START + 1, sizeof three}}};
+
+    memcpy(expected + START + 1, three, sizeof three);
+    mask = 0xFF;
+    follow(&c, expected);
+    require(!is_end_first(&c.field[0]), names[entry], "a wrong order is seen");
 }
 
 static void add(struct call *c, size_t place, size_t size) { c->field[c->fields++] = (struct field){place, size}; }
@@ -307,6 +344,8 @@ int main(int count, char **arguments) {
     }
     memset(text, 'a', sizeof text);
 
+    for (int entry = FORWARDS; entry <= LEFT_OUT; ++entry)
+        check_wrong(entry);
     for (size_t size = 1; size <= 10; ++size) {
         uint64_t least = size == 1 ? 0 : UINT64_C(1) << 7 * (size - 1);
         name(least, size);
