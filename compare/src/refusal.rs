@@ -1,6 +1,6 @@
 //! The refusals of a trial line (document 01, "Checks by place" and "Trial program"; document 02, Item 2).
 //!
-//! 1, 2, 3 and 9 are out of a line's reach. So is 10: a line of 4,096 bytes spells less than 4,096
+//! 1, 2 and 3 are out of a line's reach. So is 10: a line of 4,096 bytes spells less than 4,096
 //! bytes, reserves of open containers counted, and the buffer has 16,384.
 
 use crate::form;

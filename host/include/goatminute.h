@@ -27,22 +27,21 @@
 
 enum gm_answer {
     GM_ACCEPTED = 0,
-    GM_BUFFER_TOO_LONG = 1,    /* the buffer is longer than GM_LONGEST_BUFFER */
-    GM_STATE_UNFIT = 2,        /* the state has another length, or does not fit the buffer or itself */
-    GM_MISPLACED = 3,          /* a call that cannot stand here: see each call */
-    GM_TOO_DEEP = 4,           /* GM_MOST_OPEN containers are open */
-    GM_NEGATIVE_ZERO = 5,      /* an int of negative sign and magnitude zero */
-    GM_NOT_UTF8 = 6,           /* a string that is not UTF-8 */
-    GM_BAD_TIMESTAMP = 7,      /* a field of a timestamp is out of its range, or its UTC year outside 1 to 9999 */
-    GM_DECIMAL_TOO_LONG = 8,   /* a decimal's body is over 32 bytes */
-    GM_TIMESTAMP_TOO_LONG = 9, /* a timestamp's body is over 32 bytes: no call meets it */
-    GM_NO_ROOM = 10,           /* the used length on return would pass the buffer */
-    GM_NOT_ION = 13,           /* bytes outside the grammar of Ion 1.0 */
-    GM_CUT_SHORT = 14,         /* the stream stops inside a value, a pad or a version marker */
+    GM_BUFFER_TOO_LONG = 1,   /* the buffer is longer than GM_LONGEST_BUFFER */
+    GM_STATE_UNFIT = 2,       /* the state has another length, or does not fit the buffer or itself */
+    GM_MISPLACED = 3,         /* a call that cannot stand here: see each call */
+    GM_TOO_DEEP = 4,          /* GM_MOST_OPEN containers are open */
+    GM_NEGATIVE_ZERO = 5,     /* an int of negative sign and magnitude zero */
+    GM_NOT_UTF8 = 6,          /* a string that is not UTF-8 */
+    GM_BAD_TIMESTAMP = 7,     /* a field of a timestamp is out of its range, or its UTC year outside 1 to 9999 */
+    GM_DECIMAL_TOO_LONG = 8,  /* a decimal's body is over 32 bytes */
+    GM_NO_ROOM = 10,          /* the used length on return would pass the buffer */
+    GM_NOT_ION = 13,          /* bytes outside the grammar of Ion 1.0 */
+    GM_CUT_SHORT = 14,        /* the stream stops inside a value, a pad or a version marker */
 
     /* the reader's words for 2 and 4 */
-    GM_PAST_THE_END = 2,       /* the position is past the end, or the end past the stream's */
-    GM_READ_TOO_DEEP = 4       /* a container inside GM_MOST_OPEN others */
+    GM_PAST_THE_END = 2,      /* the position is past the end, or the end past the stream's */
+    GM_READ_TOO_DEEP = 4      /* a container inside GM_MOST_OPEN others */
 };
 
 #ifdef __cplusplus

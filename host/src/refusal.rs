@@ -1,6 +1,6 @@
 use core::fmt;
 
-/// Why a call was refused: the writer's 1 to 10 of document 01, in their order, and 2, 4, 13 and 14 of the reader.
+/// Why a call was refused: the writer's 1 to 8 and 10 of document 01, in their order, and 2, 4, 13 and 14 of the reader.
 /// A refused call leaves state and buffer as they were.
 #[derive(Clone, Copy, Debug, PartialEq, Eq, Hash)]
 #[non_exhaustive]
@@ -14,8 +14,6 @@ pub enum Refusal {
     /// A field out of its range, or else a UTC year outside 1 to 9999.
     BadTimestamp,
     DecimalTooLong,
-    /// No call meets it: a timestamp that 7 does not refuse has a body of at most 18 bytes.
-    TimestampTooLong,
     NoRoom,
     /// Bytes outside the grammar of Ion 1.0.
     NotIon,
@@ -37,7 +35,6 @@ impl Refusal {
             Refusal::NotUtf8 => 6,
             Refusal::BadTimestamp => 7,
             Refusal::DecimalTooLong => 8,
-            Refusal::TimestampTooLong => 9,
             Refusal::NoRoom => 10,
             Refusal::NotIon => 13,
             Refusal::CutShort => 14,
@@ -68,7 +65,6 @@ fn refusal(number: u8) -> Refusal {
         6 => Refusal::NotUtf8,
         7 => Refusal::BadTimestamp,
         8 => Refusal::DecimalTooLong,
-        9 => Refusal::TimestampTooLong,
         10 => Refusal::NoRoom,
         13 => Refusal::NotIon,
         14 => Refusal::CutShort,
@@ -89,7 +85,6 @@ impl fmt::Display for Refusal {
             Refusal::NotUtf8 => "the string is not UTF-8",
             Refusal::BadTimestamp => "a field of the timestamp is out of its range, or its UTC year outside 1 to 9999",
             Refusal::DecimalTooLong => "the decimal's body is over 32 bytes",
-            Refusal::TimestampTooLong => "the timestamp's body is over 32 bytes",
             Refusal::NoRoom => "the buffer has no room",
             Refusal::NotIon => "the bytes are outside the grammar of Ion 1.0",
             Refusal::CutShort => "the stream stops inside a value, a pad or a version marker",
@@ -134,22 +129,18 @@ mod tests {
 
     #[test]
     fn every_number_has_its_answer_and_its_words() {
-        let named = [
-            Refusal::BufferTooLong,
-            Refusal::StateUnfit,
-            Refusal::Misplaced,
-            Refusal::TooDeep,
-            Refusal::NegativeZero,
-            Refusal::NotUtf8,
-            Refusal::BadTimestamp,
-            Refusal::DecimalTooLong,
-            Refusal::TimestampTooLong,
-            Refusal::NoRoom,
-        ];
         for number in 0..=u8::MAX {
             let expected = match number {
                 0 => Ok(()),
-                1..=10 => Err(named[number as usize - 1]),
+                1 => Err(Refusal::BufferTooLong),
+                2 => Err(Refusal::StateUnfit),
+                3 => Err(Refusal::Misplaced),
+                4 => Err(Refusal::TooDeep),
+                5 => Err(Refusal::NegativeZero),
+                6 => Err(Refusal::NotUtf8),
+                7 => Err(Refusal::BadTimestamp),
+                8 => Err(Refusal::DecimalTooLong),
+                10 => Err(Refusal::NoRoom),
                 13 => Err(Refusal::NotIon),
                 14 => Err(Refusal::CutShort),
                 _ => Err(Refusal::Unknown(number)),

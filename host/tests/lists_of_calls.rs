@@ -853,14 +853,9 @@ fn random_lists_of_calls() {
         run_without_abandonments(seed, 20_000, 200, true, &mut met);
     }
     println!("accepted and refused by number: {:?}", met.answers);
-    for (number, &times) in met.answers.iter().enumerate() {
-        // 1 and 2 are not met by a state that the calls made, and 9 by no call
-        assert_eq!(
-            times == 0,
-            [1, 2, 9].contains(&number),
-            "answer {number} was met {times} times"
-        );
-    }
+    // 1 and 2 are not met by a state that the calls made
+    let numbers: Vec<usize> = (0..met.answers.len()).filter(|&number| met.answers[number] > 0).collect();
+    assert_eq!(numbers, [0, 3, 4, 5, 6, 7, 8, 10]);
     println!(
         "numbers of members: {} compared, up to {:?}; {} abandoned",
         met.members.len(),

@@ -1,5 +1,4 @@
-//! Each refusal of document 01, with state and buffer as they were. 9 is not here: no call meets it, since a timestamp that 7
-//! does not refuse has a body of at most 18 bytes.
+//! Each refusal of a call of the writer, with state and buffer as they were.
 use goatminute::{sys, Decimal, Refusal, State, Timestamp, WriteValues, Writer, LONGEST_BUFFER, STATE_SIZE};
 
 /// A state and a buffer of `room` bytes after a start, filled up with 0xEE.

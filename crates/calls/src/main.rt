@@ -9,6 +9,7 @@
 //   take ROOM LENGTH                         how many finished bytes are handed back
 //   bytes FROM HEX                           the bytes from FROM on
 //   all FROM TO HEX                          the byte at each place from FROM to before TO
+// Where a call's words name none, `no call` is printed.
 mod writes;
 
 ghost use mathlib.Core.Path.{_≡_};
@@ -150,7 +151,6 @@ fn number(answer: Answer) -> usize {
             Refusal::NotUtf8 => 6,
             Refusal::BadTimestamp => 7,
             Refusal::DecimalTooLong => 8,
-            Refusal::TimestampTooLong => 9,
             Refusal::NoRoom => 10,
         },
     }
@@ -209,8 +209,13 @@ fn compare_call(line: &[u8], got: Closed) {
 }
 
 fn call(line: &[u8], state: State, buf: &mut [u8]) -> State {
+    let named = words::from_word(line, 5);
+    if !writes::is_call(named) {
+        print(b"no call\n");
+        return state;
+    }
     let room = least(size(word(line, 0)), buf.len());
-    let got = writes::write(words::from_word(line, 5), state, &mut buf[0..room]);
+    let got = writes::write(named, state, &mut buf[0..room]);
     compare_call(line, got);
     got.state
 }

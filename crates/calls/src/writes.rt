@@ -3,9 +3,7 @@
 ghost use mathlib.Core.Path.{_≡_};
 ghost use Prim.Native.Nat.{_≤_};
 ghost use lib.ListN.{length};
-use machine::Answer;
 use machine::Closed;
-use machine::Refusal;
 use machine::State;
 use machine::Written;
 use scalars::IonType;
@@ -42,8 +40,6 @@ const ABANDON: usize = 3;
 
 const MARKER: usize = 4;
 
-const EMPTY: usize = 5;
-
 const LIST: usize = 6;
 
 const SEXP: usize = 7;
@@ -78,6 +74,8 @@ const CLOB: usize = 21;
 
 const BLOB: usize = 22;
 
+const NO_CALL: usize = 23;
+
 fn is_annotated(call: &[u8]) -> bool {
     check::same(word(call, 0), b"ann")
 }
@@ -98,6 +96,18 @@ fn behind_sids<'a>(call: &'a [u8]) -> &'a [u8] {
         return words::from_word(call, 2);
     }
     call
+}
+
+fn function_of(plain: &[u8]) -> usize {
+    words::index(
+        b"start name close abandon marker empty list sexp struct null bool i64 int f32 f64 f32_value f64_value decimal timestamp symbol string clob blob",
+        word(plain, 0),
+    )
+}
+
+// Whether the words name a call.
+pub(crate) fn is_call(call: &[u8]) -> bool {
+    function_of(behind_sids(call)) < NO_CALL
 }
 
 // Puts the bytes of a call and answers their number. Those of a blob are as many bytes 55 as its word says, and stand there already.
@@ -174,18 +184,14 @@ fn read(call: &[u8]) -> Arguments {
     }
 }
 
-// A word that names no call answers 9, which no call answers.
+// An emptying is the one that is left.
 fn write_plain(function: usize, number: u64, state: State, buf: &mut [u8]) -> Written {
     match function {
         START => writer::start(buf),
         NAME => writer::field_name(state, buf, number),
         ABANDON => writer::abandon(state, buf),
         MARKER => writer::version_marker(state, buf),
-        EMPTY => writer::empty(state, buf),
-        _ => Written {
-            answer: Answer::Refused(Refusal::TimestampTooLong),
-            state,
-        },
+        _ => writer::empty(state, buf),
     }
 }
 
@@ -238,10 +244,7 @@ pub(crate) fn write(call: &[u8], state: State, buf: &mut [u8]) -> Closed {
     let mut annotations = [0u8; 256];
     let n = sids(call, &mut annotations);
     let plain = behind_sids(call);
-    let function = words::index(
-        b"start name close abandon marker empty list sexp struct null bool i64 int f32 f64 f32_value f64_value decimal timestamp symbol string clob blob",
-        word(plain, 0),
-    );
+    let function = function_of(plain);
     if function == CLOSE {
         return writer::close(state, buf);
     }

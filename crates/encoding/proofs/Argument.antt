@@ -30,6 +30,7 @@ use Rattle.encoding.proofs.Headers.{scalar-reads}
 use Rattle.encoding.proofs.Narrowing.{narrowed-exact}
 use Rattle.encoding.proofs.Decimal.{decimalBody-reads}
 use Rattle.encoding.proofs.Timestamp.{timestampBody-reads}
+use Rattle.encoding.proofs.TimestampLength.{timestampBody-below-19}
 
 -- ---- nulls
 
@@ -96,9 +97,6 @@ float64-reads an b h =
 
 -- ---- all scalars
 
-small-body : (b : List ℕ) → ltb 32 (length b) ≡ false → length b < 2 ^ 64
-small-body b e = omega (arith, ltb-false 32 (length b) e)
-
 pub argumentBytes-reads : (an : List ℕ) (a : Argument) → Typed a → NoneHolds (argumentChecks a) → argumentBytes a ⟶ bare an (scalar an (meaning a))
 unfolding argumentBytes meaning scalarOf
 argumentBytes-reads an (writeNull t) h z = is-null (codeOfNull t) (null-type t)
@@ -110,9 +108,12 @@ argumentBytes-reads an (writeInt false m) h z = scalar-reads an positiveCode (or
 argumentBytes-reads an (writeInt true m) h z = scalar-reads an negativeCode (orZero (trimmed m)) (int (negℤ (pos (uint m)))) (magnitude-short m h) (rw (magnitude-same m) (negative-int (uint m) (z .0)))
 argumentBytes-reads an (writeF32 b) h z = float32-reads an b h
 argumentBytes-reads an (writeF64 b) h z = float64-reads an b h
-argumentBytes-reads an (writeDecimal s m e) h z = scalar-reads an decimalCode (decimalBody s m e) (decimal (signed s (uint m)) e) (small-body (decimalBody s m e) (z .0)) (decimalBody-reads s m e h)
+argumentBytes-reads an (writeDecimal s m e) h z =
+    let b = decimalBody s m e in
+    scalar-reads an decimalCode b (decimal (signed s (uint m)) e) (omega (arith, ltb-false 32 (length b) (z .0))) (decimalBody-reads s m e h)
 argumentBytes-reads an (writeTimestamp o fs x) h z =
-    scalar-reads an timestampCode (timestampBody o fs x) (timestamp o (utc o fs) x) (small-body (timestampBody o fs x) (z .1 .0)) (timestampBody-reads o fs x (not-false (isTimestamp o fs x) (z .0)))
+    let e = not-false (isTimestamp o fs x) (z .0) in
+    scalar-reads an timestampCode (timestampBody o fs x) (timestamp o (utc o fs) x) (omega (arith, timestampBody-below-19 o fs x e)) (timestampBody-reads o fs x e)
 argumentBytes-reads an (writeSymbol n) h z = scalar-reads an symbolCode (uintBytes n) (symbol n) (omega (arith, uint-most n h)) (rw (uintBytes-reads n, lt-ltb n (2 ^ 64) h))
 argumentBytes-reads an (writeString b) h z = scalar-reads an stringCode b (string b) h (rw (not-false (utf8 b) (z .0)))
 argumentBytes-reads an (writeClob b) h z = scalar-reads an clobCode b (clob b) h refl

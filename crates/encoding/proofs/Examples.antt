@@ -1,10 +1,11 @@
 -- What scalar calls put, where the grammar leaves a choice or a value is at the edge of binary32: document 01, "value_writer". The field that check 7
--- answers: "types/timestamp". Computation. Assumes nothing.
+-- answers, and the longest body: "types/timestamp". Computation. Assumes nothing.
 use Prim.Native.Nat.{ℕ}
-use mathlib.Core.Bool.{false}
+use mathlib.Core.Bool.{true, false}
 use mathlib.Core.Path.{_≡_, refl}
 use mathlib.Core.List.{List, [], _∷_, map}
 use mathlib.Core.Option.{Option, none, some}
+use lib.ListN.{length}
 use lib.IntN.{ℤ, pos, negsuc}
 use lib.Ieee.{ofBits, toBits, isNan}
 use lib.Ieee.{fits as holds}
@@ -12,10 +13,11 @@ use Rattle.ion.specs.Value.{IonType, ionNull, ionBool, ionInt, ionFloat, ionDec
 use Rattle.ion.specs.Value.{ionList, ionSexp, ionStruct}
 use Rattle.ion.specs.Value.{Fraction, noFraction, fraction}
 use Rattle.ion.proofs.Readings.{bytesBefore, hex}
-use Rattle.encoding.specs.Digits.{lowDigits}
-use Rattle.encoding.specs.Fields.{fixedBytes}
+use Rattle.encoding.specs.Digits.{lowDigits, countDigits, digitCount, digits}
+use Rattle.encoding.specs.Fields.{varUIntBytes, varUIntsBytes, varIntGroups, varIntBytes, uintBytes, fixedBytes, trimmed, intBytes}
+use Rattle.encoding.specs.Decimal.{decimalBody}
 use Rattle.encoding.specs.Timestamp.{TimestampField, yearField, monthField, dayField, hourField, minuteField, secondField, offsetField}
-use Rattle.encoding.specs.Timestamp.{digitCountField, coefficientField, utcYearField, dayBefore, dayAfter, timestampRules, firstBad}
+use Rattle.encoding.specs.Timestamp.{digitCountField, coefficientField, utcYearField, dayBefore, dayAfter, timestampRules, firstBad, isTimestamp, timestampBody}
 use Rattle.encoding.specs.Argument.{writeNull, writeF64, float32Bytes, narrows, float64Bytes, argumentBytes}
 
 abbrev types : List IonType
@@ -105,3 +107,23 @@ good =
 
 pub good-answered : map (λ (c : Option ℤ × List ℕ × Fraction). firstBad (timestampRules (c .0) (c .1) (c .2))) good ≡ map (λ (c : Option ℤ × List ℕ × Fraction). none) good
 good-answered = refl
+
+-- 9998-12-31T23:59:59, 1439 minutes west, which is 9999-01-01T23:58:59 in UTC
+abbrev latest : List ℕ
+latest = 9998 ∷ 12 ∷ 31 ∷ 23 ∷ 59 ∷ 59 ∷ []
+
+abbrev west : Option ℤ
+west = some (negsuc 1438)
+
+-- with as much of a second as 18 digits hold: no body is longer. The bytes are those of the original Rust.
+pub longest-body : let x = fraction 18 999999999999999999 in
+    (isTimestamp west latest x ≡ true) × (timestampBody west latest x ≡ hex 0x4B9F4E8F818197BABBD20DE0B6B3A763FFFF) × (length (timestampBody west latest x) ≡ 18)
+unfolding isTimestamp dayBefore dayAfter bytesBefore timestampBody decimalBody trimmed intBytes uintBytes varUIntsBytes varUIntBytes varIntBytes varIntGroups
+    digits digitCount countDigits lowDigits
+longest-body = (refl, refl, refl)
+
+-- with one digit more, which check 7 refuses
+pub longer-refused : let x = fraction 19 9999999999999999999 in (isTimestamp west latest x ≡ false) × (length (timestampBody west latest x) ≡ 19)
+unfolding isTimestamp dayBefore dayAfter timestampBody decimalBody trimmed intBytes uintBytes varUIntsBytes varUIntBytes varIntBytes varIntGroups
+    digits digitCount countDigits lowDigits
+longer-refused = (refl, refl)

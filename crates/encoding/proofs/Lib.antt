@@ -8,8 +8,10 @@ pub mod Sizes
 pub mod Headers
 pub mod Decimal
 pub mod Rules
+pub mod Fractions
 pub mod Calendar
 pub mod Timestamp
+pub mod TimestampLength
 pub mod OutOfCalendar
 pub mod Narrowing
 pub mod Argument

@@ -171,17 +171,34 @@ module _ (n : ℕ) (h : n < 2 ^ 64) where
 pub varUInt-least : (n : ℕ) → 1 ≤ length (varUIntBytes n)
 varUInt-least n = rw (length-varUInt n) (omega arith)
 
+-- one byte for the lowest bits, which the number d counts, and k more of a digit in base b each
+most-digits : (b d k n : ℕ) → 2 ≤ b → 0 < d → n < b ^ k * d → suc (digitCount b (n / d)) ≤ suc k
+most-digits b d k n two p h = omega (arith, digitCount-least b two (n / d) k (div-lt-iff-lt-mul {k = d} {x = n} {y = b ^ k} p .1 h))
+
+pub varUInt-within : (k n : ℕ) → n < 128 ^ k * 128 → length (varUIntBytes n) ≤ suc k
+varUInt-within k n h = rw (length-varUInt n) (most-digits 128 128 k n (omega arith) (omega arith) h)
+
 pub varUInt-most : (n : ℕ) → n < 2 ^ 64 → length (varUIntBytes n) ≤ 10
-varUInt-most n h = rw (length-varUInt n) (omega (arith, digitCount-least 128 (omega arith) (n / 128) 9 (omega arith)))
+varUInt-most n h = varUInt-within 9 n (omega arith)
 
 pub varInt-least-two : (s : Bool) (n : ℕ) → 64 ≤ n → 2 ≤ length (varIntBytes (signed s n))
 varInt-least-two s n h = rw (length-varInt s n) (omega (arith, digitCount-pos 128 (n / 64) (omega arith)))
 
+pub varInt-within : (s : Bool) (k n : ℕ) → n < 128 ^ k * 64 → length (varIntBytes (signed s n)) ≤ suc k
+varInt-within s k n h = rw (length-varInt s n) (most-digits 128 64 k n (omega arith) (omega arith) h)
+
 pub varInt-most : (s : Bool) (n : ℕ) → n < 2 ^ 64 → length (varIntBytes (signed s n)) ≤ 10
-varInt-most s n h = rw (length-varInt s n) (omega (arith, digitCount-least 128 (omega arith) (n / 64) 9 (omega arith)))
+varInt-most s n h = varInt-within s 9 n (omega arith)
 
 pub uint-least : (n : ℕ) → 0 < n → 1 ≤ length (uintBytes n)
 uint-least n p = rw (length-uint n) (digitCount-pos 256 n p)
 
 pub uint-most : (n : ℕ) → n < 2 ^ 64 → length (uintBytes n) ≤ 8
 uint-most n h = rw (length-uint n) (digitCount-least 256 (omega arith) n 8 h)
+
+-- an Int without sign: its top bit is clear
+pub int-within : (k n : ℕ) → n < 256 ^ k * 128 → length (intBytes false (uintBytes n)) ≤ suc k
+int-within k n h = ⊎-elim
+    (λ z. rw (int-of-zero n z) (omega arith))
+    (λ p. rw (int-fixed n p, length-fixed (suc (digitCount 256 (n / 128))) n) (most-digits 256 128 k n (omega arith) (omega arith) h))
+    (eq-zero-or-pos n)

@@ -19,10 +19,10 @@ use Rattle.ion.specs.Scalars.{offsetOf, isYear, areFields, isCoefficient, fract
 use Rattle.ion.proofs.Tests.{both, and-true}
 use Rattle.ion.proofs.Fields.{varUInt-append}
 use Rattle.ion.proofs.Coefficients.{coefficient-of-length}
-use Rattle.encoding.specs.Fields.{varUIntBytes, varUIntsBytes, varIntBytes, signedOf, uintBytes, trimmed, intBytes, AllU64}
-use Rattle.encoding.specs.Decimal.{isZeroDecimal, decimalBody}
+use Rattle.encoding.specs.Fields.{varUIntBytes, varUIntsBytes, varIntBytes, signedOf, uintBytes, intBytes, AllBelow, AllU64}
 use Rattle.encoding.specs.Timestamp.{Date, date, utcMinutes, utcDay, fieldsAt, utc, isTimestamp, offsetBytes, fractionBytes, timestampBody, UtcKeepsSeconds, UtcAreFields}
-use Rattle.encoding.proofs.Fields.{varUIntBytes-reads, varIntBytes-reads, signed-reads, uintBytes-reads, trimmed-same, intBytes-reads}
+use Rattle.encoding.proofs.Fields.{varUIntBytes-reads, varIntBytes-reads, signed-reads, uintBytes-reads, intBytes-reads}
+use Rattle.encoding.proofs.Fractions.{fractionBytes-is}
 use Rattle.encoding.proofs.Rules.{isLocalYear, offsetFits, fractionFits, passed}
 use Rattle.encoding.proofs.Calendar.{RealDay, RealDate, real-of, month-days, utcDay-real, with-minute, local-year}
 
@@ -56,7 +56,7 @@ utc-day z y m d h i r e k =
     let l = local-year y (m ∷ d ∷ h ∷ i ∷ r) k in
     utcDay-real (utcMinutes z h i) y m d (l .0) (l .1) (with-minute y m d h i r e .real)
 
-fields-moved : (o : Option ℤ) (fs : List ℕ) → areFields fs ≡ true → isLocalYear fs ≡ true → areFields (utc o fs) ≡ true
+pub fields-moved : (o : Option ℤ) (fs : List ℕ) → areFields fs ≡ true → isLocalYear fs ≡ true → areFields (utc o fs) ≡ true
 fields-moved none fs e k = e
 fields-moved (some z) [] e k = e
 fields-moved (some z) (y ∷ []) e k = e
@@ -98,33 +98,40 @@ seconds-kept z (y ∷ m ∷ d ∷ h ∷ i ∷ r) = below-minute (utcDay (utcMinu
 pub utc-keeps-seconds : UtcKeepsSeconds
 utc-keeps-seconds z fs = (utc-length (some z) fs, seconds-kept z fs)
 
--- at most six fields, each far below 64 bits
-pub fields-small : (fs : List ℕ) → areFields fs ≡ true → AllU64 fs × (length fs ≤ 6)
+day-small : (y m d : ℕ) → RealDay y m d → (ns : List ℕ) → AllBelow 128 ns → AllBelow 128 (m ∷ d ∷ ns)
+day-small y m d g ns h = (omega (arith, g .month-most), (omega (arith, g .day-most, month-days y m (g .month-least) (g .month-most)), h))
+
+-- at most five fields below the year, of seven bits each
+pub fields-small : (y : ℕ) (ns : List ℕ) → areFields (y ∷ ns) ≡ true → (y ≤ 10000) × AllBelow 128 ns × (length ns ≤ 5)
 unfolding areFields
-fields-small [] e = absurd (false≢true e)
-fields-small (y ∷ []) e = ((omega (arith, leb-true y 10000 e), tt), omega arith)
-fields-small (y ∷ m ∷ []) e =
+fields-small y [] e = (leb-true y 10000 e, tt, omega arith)
+fields-small y (m ∷ []) e =
     let a = both {a = isYear y} e in
-    ((omega (arith, leb-true y 10000 (a .0)), (omega (arith, leb-true m 12 (both {a = leb 1 m} (a .1) .1)), tt)), omega arith)
-fields-small (y ∷ m ∷ d ∷ []) e =
+    (leb-true y 10000 (a .0), (omega (arith, leb-true m 12 (both {a = leb 1 m} (a .1) .1)), tt), omega arith)
+fields-small y (m ∷ d ∷ []) e =
     let a = both {a = isYear y} e in
     let g = real-of y m d (a .0) (a .1) in
-    ((omega (arith, g .year), (omega (arith, g .month-most), (omega (arith, g .day-most, month-days y m (g .month-least) (g .month-most)), tt))), omega arith)
-fields-small (y ∷ m ∷ d ∷ h ∷ []) e = absurd (false≢true e)
-fields-small (y ∷ m ∷ d ∷ h ∷ i ∷ []) e =
+    (g .year, day-small y m d g [] tt, omega arith)
+fields-small y (m ∷ d ∷ h ∷ []) e = absurd (false≢true e)
+fields-small y (m ∷ d ∷ h ∷ i ∷ []) e =
     let w = with-minute y m d h i [] (unfold areFields in e) in
-    let g = w .real in
-    let n = month-days y m (g .month-least) (g .month-most) in
-    let t : AllU64 (h ∷ i ∷ []) = (omega (arith, w .hour), (omega (arith, w .minute), tt)) in
-    ((omega (arith, g .year), (omega (arith, g .month-most), (omega (arith, g .day-most, n), t))), omega arith)
-fields-small (y ∷ m ∷ d ∷ h ∷ i ∷ s ∷ []) e =
+    (w .real .year, day-small y m d (w .real) (h ∷ i ∷ []) (omega (arith, w .hour), (omega (arith, w .minute), tt)), omega arith)
+fields-small y (m ∷ d ∷ h ∷ i ∷ s ∷ []) e =
     let w = with-minute y m d h i (s ∷ []) (unfold areFields in e) in
-    let g = w .real in
     let q : s < 60 = ltb-true s 60 (second-of y m d h i s (unfold areFields in e)) in
-    let n = month-days y m (g .month-least) (g .month-most) in
-    let t : AllU64 (h ∷ i ∷ s ∷ []) = (omega (arith, w .hour), (omega (arith, w .minute), (omega arith, tt))) in
-    ((omega (arith, g .year), (omega (arith, g .month-most), (omega (arith, g .day-most, n), t))), omega arith)
-fields-small (y ∷ m ∷ d ∷ h ∷ i ∷ s ∷ x ∷ r) e = absurd (false≢true e)
+    (w .real .year, day-small y m d (w .real) (h ∷ i ∷ s ∷ []) (omega (arith, w .hour), (omega (arith, w .minute), (omega arith, tt))), omega arith)
+fields-small y (m ∷ d ∷ h ∷ i ∷ s ∷ x ∷ r) e = absurd (false≢true e)
+
+below-more : (m n : ℕ) → m ≤ n → (l : List ℕ) → AllBelow m l → AllBelow n l
+below-more m n k [] h = tt
+below-more m n k (x ∷ l) h = (omega (arith, h .0), below-more m n k l (h .1))
+
+-- at most six fields, each far below 64 bits
+fields-u64 : (fs : List ℕ) → areFields fs ≡ true → AllU64 fs × (length fs ≤ 6)
+fields-u64 [] e = absurd (false≢true (unfold areFields in e))
+fields-u64 (y ∷ ns) e =
+    let s = fields-small y ns e in
+    ((omega (arith, s .0), below-more 128 (2 ^ 64) (omega arith) ns (s .1)), omega (arith, s .2))
 
 -- ---- the parts of the body
 
@@ -189,25 +196,16 @@ unfolding fractionAt varInt
 fraction-front [] r z e = absurd (Option·none-ne-some (z, r) e)
 fraction-front (b ∷ bs) r z e = rw e
 
--- a negative exponent is never left out
-not-zero : (m : List ℕ) (k : ℕ) → isZeroDecimal false m (negsuc k) ≡ false
-not-zero [] k = refl
-not-zero (b ∷ bs) k = refl
-
-fraction-body : (k c : ℕ) → decimalBody false (uintBytes c) (negsuc k) ≡ varIntBytes (signed true (suc k)) ++ intBytes false (trimmed (uintBytes c))
-unfolding decimalBody
-fraction-body k c = rw (not-zero (trimmed (uintBytes c)) k, decimalBody)
-
 -- 18 digits take no more than 18 bytes
 coefficient-of-digits : (k c : ℕ) → k ≤ 18 → c < 10 ^ k → isCoefficient c ≡ true
 coefficient-of-digits k c h lt = coefficient-of-length c k (omega arith) (omega (arith, pow-le-pow-left {n = 10} {m = 256} (omega arith) k))
 
-digits-read : (k c : ℕ) → k < 18 → c < 10 ^ suc k → fractionAt (decimalBody false (uintBytes c) (negsuc k)) ≡ some (fraction (suc k) c)
+digits-read : (k c : ℕ) → k < 18 → c < 10 ^ suc k → fractionAt (fractionBytes (fraction (suc k) c)) ≡ some (fraction (suc k) c)
 unfolding fractionOf
 digits-read k c h lt =
-    let u = intBytes false (trimmed (uintBytes c)) in
-    let v : intField u ≡ signed false c = intBytes-reads false (trimmed (uintBytes c)) ∙ ap (signed false) (trimmed-same (uintBytes c) ∙ uintBytes-reads c) in
-    ap fractionAt (fraction-body k c)
+    let u = intBytes false (uintBytes c) in
+    let v : intField u ≡ signed false c = intBytes-reads false (uintBytes c) ∙ ap (signed false) (uintBytes-reads c) in
+    ap fractionAt (fractionBytes-is (suc k) c (omega arith))
     ∙ fraction-front (varIntBytes (signed true (suc k)) ++ u) u (signed true (suc k)) (varIntBytes-reads true (suc k) u (le-leb (suc k) (2 ^ 63) (omega arith)))
     ∙ rw (v, coefficient-of-digits (suc k) c (omega arith) lt, lt-ltb c (10 ^ suc k) lt)
 
@@ -232,7 +230,7 @@ timestampBody-reads o fs x e =
     let a = passed o fs x e in
     let us = utc o fs in
     let g : areFields us ≡ true = utc-areFields o fs x e in
-    let s = fields-small us g in
+    let s = fields-u64 us g in
     body-parts (offsetBytes o ++ (varUIntsBytes us ++ fractionBytes x)) (varUIntsBytes us ++ fractionBytes x) us (fractionBytes x) (offsetSigned o) x
     (offset-reads o fs (varUIntsBytes us ++ fractionBytes x) (a .offset))
     (fields-read us x (s .0) (s .1) (fraction-utc x us fs (utc-length o fs) (a .fraction))) g (fraction-reads x fs (a .fraction))

@@ -69,9 +69,12 @@ intBytes s (b ∷ bs) = elim (ltb b 0x80) [ true ↦ (topBit s + b) ∷ bs | fal
 
 -- ---- what the types of arguments say
 
+abbrev pub AllBelow : ℕ → List ℕ → Type 0
+AllBelow most [] = Unit {0}
+AllBelow most (n ∷ ns) = (n < most) × AllBelow most ns
+
 abbrev pub AllU64 : List ℕ → Type 0
-AllU64 [] = Unit {0}
-AllU64 (n ∷ ns) = (n < 2 ^ 64) × AllU64 ns
+AllU64 ns = AllBelow (2 ^ 64) ns
 
 abbrev pub IsI64 : ℤ → Type 0
 IsI64 (pos n) = n < 2 ^ 63

@@ -1,7 +1,7 @@
 -- A timestamp as the writer is given it, and its body: document 01's modules types/timestamp and binary/timestamp.
 -- The fields are local, from the year down: 1, 2, 3, 5 or 6 of them, by the precision.
 -- Assumes nothing.
-use Prim.Native.Nat.{ℕ, suc, _+_, _-_, _*_, _/_, _%_, _^_, _≤_}
+use Prim.Native.Nat.{ℕ, suc, _+_, _-_, _*_, _/_, _%_, _^_, _≤_, _<_}
 use mathlib.Core.Path.{_≡_}
 use mathlib.Core.Bool.{Bool, true, false, cond, _&&_, not}
 use mathlib.Core.List.{List, [], _∷_, _++_}
@@ -158,6 +158,10 @@ fractionBytes (fraction k c) = decimalBody false (uintBytes c) (negℤ (pos k))
 
 unfoldable pub timestampBody : Option ℤ → List ℕ → Fraction → List ℕ
 timestampBody offset fs x = offsetBytes offset ++ (varUIntsBytes (utc offset fs) ++ fractionBytes x)
+
+-- No timestamp that passes check 7 has a body of 19 bytes or more (document 02, Item 9): proofs/TimestampLength.antt.
+abbrev pub BodyBelow19 : Type 0
+BodyBelow19 = (o : Option ℤ) (fs : List ℕ) (x : Fraction) → isTimestamp o fs x ≡ true → length (timestampBody o fs x) < 19
 
 -- ---- `utc` by the calendar: what proofs/Calendar.antt and proofs/Timestamp.antt prove of it. The four together leave it no choice.
 

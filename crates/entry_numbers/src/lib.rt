@@ -23,7 +23,6 @@ pub fn number_of(why: Refusal) -> u8
         Refusal::NotUtf8 => 6,
         Refusal::BadTimestamp => 7,
         Refusal::DecimalTooLong => 8,
-        Refusal::TimestampTooLong => 9,
         Refusal::NoRoom => 10,
     }
 }

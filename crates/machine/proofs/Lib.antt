@@ -8,6 +8,7 @@ pub mod Counts
 pub mod Fit
 pub mod Fitting
 pub mod Moves
+pub mod Table
 pub mod Examples
 pub mod Instances
 pub mod MovesInstances

@@ -214,7 +214,7 @@ lacksName s = inStruct (openContainers s) && not (s .waiting)
 abbrev pub placeLines : State → ℕ → Bool → List (Bool × ℕ)
 placeLines s room misplaced = (ltb longestBuffer room, 1) ∷ (not (fits s room), 2) ∷ (misplaced, 3) ∷ []
 
--- All lines of a call: `own` are those of 4 to 9 that it has, `used` is its used length on return.
+-- All lines of a call: `own` are those of 4 to 8 that it has, `used` is its used length on return.
 abbrev pub lines : Config → Bool → List (Bool × ℕ) → ℕ → List (Bool × ℕ)
 lines w misplaced own used = placeLines (w .state) (length (w .buffer)) misplaced ++ (own ++ ((ltb (length (w .buffer)) used, 10) ∷ []))
 

@@ -45,7 +45,6 @@ pub enum Refusal {
     NotUtf8,
     BadTimestamp,
     DecimalTooLong,
-    TimestampTooLong,
     NoRoom,
 }
 

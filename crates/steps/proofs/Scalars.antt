@@ -13,13 +13,12 @@ use Rattle.ion.proofs.Tests.{by-cases}
 use Rattle.ion.specs.Fields.{uint}
 use Rattle.ion.specs.Text.{utf8}
 use Rattle.encoding.specs.Decimal.{decimalBody}
-use Rattle.encoding.specs.Timestamp.{isTimestamp, timestampBody}
+use Rattle.encoding.specs.Timestamp.{isTimestamp}
 use Rattle.encoding.specs.Headers.{annotatedBytes}
 use Rattle.encoding.specs.Argument.{Argument, writeInt, writeDecimal, writeString, argumentBytes, argumentChecks, anyHolds}
 use Rattle.encoding.proofs.Headers.{annotated-longer}
 use Rattle.timestamp.specs.declared.Timestamp.{Timestamp}
 use Rattle.timestamp.specs.Arguments.{argumentOf, offsetMinutes, fractionDigits, fieldsOf}
-use Rattle.timestamp.proofs.Checked.{timestampBody-most}
 use Rattle.scalars.specs.declared.Scalar.{Scalar}
 use Rattle.scalars.specs.declared.Scalar.the-variants as scalar
 use Rattle.scalars.specs.Types.{scalarArgument}
@@ -123,7 +122,7 @@ module _ (t : Timestamp) where
 
   pub timestamp-good : isTimestamp (offsetMinutes (t .offset)) (fieldsOf t) (fractionDigits (t .fraction)) ≡ true → refused 10 ≡ ownRefusal (argumentOf t)
   unfolding ownRefusal
-  timestamp-good e = rw (e, le-ltb 32 (length (timestampBody (offsetMinutes (t .offset)) (fieldsOf t) (fractionDigits (t .fraction)))) (omega (arith, timestampBody-most t e)))
+  timestamp-good e = rw e
 
 pub string-bad : (b : List ℕ) → utf8 b ≡ false → refused 6 ≡ ownRefusal (writeString b)
 unfolding ownRefusal

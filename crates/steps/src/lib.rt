@@ -60,7 +60,7 @@ pub fn decimal_refusal(negative: bool, coefficient: &[u8], exponent: i64) -> Ref
     Refusal::NoRoom
 }
 
-// The same of a timestamp. A body that passes 7 has at most 18 bytes, so 9 refuses none.
+// The same of a timestamp.
 pub fn timestamp_refusal(value: Timestamp) -> Refusal
     ensures { λ r. ⌜ refused (number r) ≡ ownRefusal (argumentOf value) ⌝ }
 {

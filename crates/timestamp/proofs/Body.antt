@@ -1,18 +1,17 @@
 -- The body of a timestamp whose numbers are small: how many bytes it has, and that they are 18 at most.
 -- By the bytes of each part. Assumes nothing.
-use Prim.Native.Nat.{ℕ, zero, suc, _+_, _-_, _^_, _≤_, _<_}
+use Prim.Native.Nat.{ℕ, _+_, _-_, _≤_, _<_}
 use native.Mathlib.Omega.{arith}
-use mathlib.Core.Path.{_≡_, sym}
-use mathlib.Core.Bool.{Bool, true, false}
+use mathlib.Core.Path.{_≡_}
 use mathlib.Core.List.{_++_}
 use mathlib.Core.Option.{Option, none, some}
 use lib.ListN.{length, length-append}
-use lib.IntN.{ℤ, pos, negsuc}
-use Rattle.ion.specs.Value.{signed, Fraction, noFraction, fraction}
-use Rattle.encoding.specs.Fields.{varUIntBytes, varUIntsBytes, varIntBytes}
+use lib.IntN.{ℤ}
+use Rattle.ion.specs.Value.{Fraction, noFraction, fraction}
+use Rattle.encoding.specs.Fields.{varUIntBytes, varUIntsBytes}
 use Rattle.encoding.specs.Timestamp.{offsetBytes, fractionBytes}
-use Rattle.encoding.proofs.Bits.{bitsUsed-most}
-use Rattle.encoding.proofs.Sizes.{varUInt-size-small, varUInt-size, varInt-size}
+use Rattle.encoding.proofs.Fractions.{digits-most}
+use Rattle.encoding.proofs.TimestampLength.{unknown-most, known-most, year-most}
 use Rattle.timestamp.specs.declared.Precision.{Precision}
 use Rattle.timestamp.specs.declared.Precision.the-variants.{Year, Month, Day, Minute, Second}
 use Rattle.timestamp.specs.declared.Timestamp.{Timestamp}
@@ -20,7 +19,6 @@ use Rattle.timestamp.specs.Arguments.{offsetMinutes, fractionDigits, fie
 use Rattle.timestamp.proofs.Valid.{fieldCount}
 use Rattle.timestamp.specs.Small.{SmallOffset, SmallFraction, Small, bodyOf}
 use Rattle.timestamp.proofs.Fields.{fieldsBy-length, fieldsBy-year}
-use Rattle.timestamp.proofs.Fractions.{fraction-length, coefficient-most}
 
 pub fieldCount-between : (p : Precision) → (1 ≤ fieldCount p) × (fieldCount p ≤ 6)
 fieldCount-between Year = omega arith
@@ -31,21 +29,13 @@ fieldCount-between Second = omega arith
 
 -- ---- each part
 
-year-most : (y : ℕ) → y < 16384 → length (varUIntBytes y) ≤ 2
-year-most zero h = rw (varUInt-size-small 0 (omega arith)) (omega arith)
-year-most (suc y) h = rw (varUInt-size (suc y) (omega arith) (omega arith)) (omega (arith, bitsUsed-most 14 (suc y) (omega arith) h))
-
-varInt-most : (s : Bool) (n : ℕ) → n < 8192 → length (varIntBytes (signed s n)) ≤ 2
-varInt-most s n h = rw (varInt-size n (omega arith) s) (omega (arith, bitsUsed-most 13 n (omega arith) h))
-
 offset-most : (o : Option ℤ) → SmallOffset o → length (offsetBytes o) ≤ 2
-offset-most none h = varInt-most true 0 (omega arith)
-offset-most (some (pos n)) h = varInt-most false n h
-offset-most (some (negsuc n)) h = varInt-most true (suc n) h
+offset-most none h = unknown-most
+offset-most (some z) h = known-most z h
 
 fraction-most : (x : Fraction) → SmallFraction x → length (fractionBytes x) ≤ 9
 fraction-most noFraction h = omega arith
-fraction-most (fraction k c) h = omega (arith, fraction-length k c (h .0) (h .1), coefficient-most c (h .2))
+fraction-most (fraction k c) h = digits-most k c (h .0) (h .1) (h .2)
 
 -- ---- the body
 

@@ -1,17 +1,16 @@
--- What check 7 leaves of a timestamp: the bytes of its UTC fields, of which check 9 refuses none, or nothing. How many they are is told by the UTC year.
--- By the limit of 18 bytes. Assumes nothing.
-use Prim.Native.Nat.{ℕ, _+_, _≤_}
+-- What check 7 leaves of a timestamp: the bytes of its UTC fields, or nothing. How many they are is told by the UTC year.
+-- Assumes nothing.
+use Prim.Native.Nat.{ℕ, _+_}
 use native.Mathlib.Omega.{arith}
 use mathlib.Core.Path.{_≡_, refl, sym, _∙_, ap}
 use mathlib.Core.Bool.{Bool, true, false}
-use mathlib.Core.List.{List, [], _∷_}
-use borrow.Author.Tests.{le-ltb}
+use mathlib.Core.List.{[], _∷_}
 use mir.Syntax.{w64}
 use mir.Val.{Fits}
 use lib.ListN.{length}
 use Rattle.ion.specs.Value.{timestampCode}
 use Rattle.encoding.specs.Headers.{typeByte, headerBytes, framedBytes}
-use Rattle.encoding.specs.Timestamp.{utc, isLocalTimestamp, isTimestamp, timestampBody}
+use Rattle.encoding.specs.Timestamp.{utc, isLocalTimestamp, isTimestamp}
 use Rattle.encoding.specs.Argument.{argumentBytes, checkedBytes}
 use Rattle.encoding.proofs.Headers.{header-most}
 use Rattle.encoding.proofs.Rules.{isTimestamp-parts}
@@ -36,9 +35,6 @@ module _ (t : Timestamp) where
   abbrev isValid : Bool
   isValid = isTimestamp (offsetMinutes (t .offset)) (fieldsOf t) (fractionDigits (t .fraction))
 
-  abbrev bodyBytes : List ℕ
-  bodyBytes = timestampBody (offsetMinutes (t .offset)) (fieldsOf t) (fractionDigits (t .fraction))
-
   -- with its UTC fields, and with its UTC year alone
   abbrev inUtc : Timestamp
   inUtc = withFields t (utc (offsetMinutes (t .offset)) (fieldsOf t))
@@ -53,15 +49,12 @@ module _ (t : Timestamp) where
     keeps : isLocalTimestamp (offsetMinutes (t .offset)) (fieldsOf t) (fractionDigits (t .fraction)) ≡ true
     keeps = isTimestamp-parts (offsetMinutes (t .offset)) (fieldsOf t) (fractionDigits (t .fraction)) v .0
 
-    pub timestampBody-most : length bodyBytes ≤ 18
-    timestampBody-most = rw (← utc-body t) (body-most inUtc (utc-small t keeps))
-
     pub accepted : (u : Timestamp) → u ≡ inUtc → valueOf u ≡ checkedBytes (argumentOf t)
     unfolding argumentBytes valueOf
     accepted u e =
         ap valueOf e
         ∙ (ap (framedBytes (typeByte timestampCode)) (utc-body t)
-        ∙ sym (checkedBytes-accepted (argumentOf t) (rw (v, le-ltb 32 (length bodyBytes) (omega (arith, timestampBody-most))))))
+        ∙ sym (checkedBytes-accepted (argumentOf t) (rw v)))
 
     -- the fields below the year take one byte each, whether local or UTC
     byYear-body : length (bodyOf byYear) ≡ length (bodyOf inUtc)

@@ -4,30 +4,22 @@ use Prim.Native.Nat.{ℕ, _+_, _-_, _%_, _≤_, _<_}
 use native.Mathlib.Omega.{arith}
 use mathlib.Core.Path.{_≡_, refl, sym, _∙_, ap}
 use mathlib.Core.List.{List, [], _∷_, _++_, append-assoc, append-nil}
-use lib.ListN.{length, length-append}
+use lib.ListN.{length}
 use types.Run.{OneOf, miss}
 use denote.Enum.Declared.{tagOf}
 use Rattle.timestamp.proofs.Precision.{the-type}
-use Rattle.encoding.specs.Fields.{varUIntBytes, varUIntsBytes}
+use Rattle.encoding.specs.Fields.{varUIntBytes, varUIntsBytes, AllBelow}
 use Rattle.buffer.specs.Laid.{placed}
 use Rattle.buffer.proofs.Laid.{placed-then, placed-count, placed-length}
 use Rattle.encoding.proofs.Sizes.{varUInt-size-small}
+use Rattle.encoding.proofs.TimestampLength.{length-fields}
 use Rattle.timestamp.specs.declared.Precision.{Precision}
 use Rattle.timestamp.specs.declared.Precision.the-variants.{Year, Month, Day, Minute, Second}
 use Rattle.timestamp.specs.Arguments.{fieldsBy}
 use Rattle.timestamp.proofs.Valid.{fieldCount}
-use Rattle.timestamp.specs.Small.{AllSmall, SmallFields}
+use Rattle.timestamp.specs.Small.{SmallFields}
 
 -- ---- how many bytes
-
-length-small : (ns : List ℕ) → AllSmall ns → length (varUIntsBytes ns) ≡ length ns
-unfolding varUIntsBytes
-length-small [] h = refl
-length-small (n ∷ ns) h = length-append (varUIntBytes n) (varUIntsBytes ns) ∙ rw (varUInt-size-small n (h .0), length-small ns (h .1)) (omega arith)
-
-length-fields : (y : ℕ) (ns : List ℕ) → AllSmall ns → length (varUIntsBytes (y ∷ ns)) ≡ length (varUIntBytes y) + length ns
-unfolding varUIntsBytes
-length-fields y ns h = length-append (varUIntBytes y) (varUIntsBytes ns) ∙ rw (length-small ns h)
 
 module _ (y m d h i s : ℕ) where
   pub fieldsBy-length : (p : Precision) → SmallFields (fieldsBy p y m d h i s) → length (varUIntsBytes (fieldsBy p y m d h i s)) ≡ length (varUIntBytes y) + (fieldCount p - 1)
@@ -72,7 +64,7 @@ module _ (b : List ℕ) (at y : ℕ) where
   unfolding varUIntsBytes
   year-put k l e = rw (append-nil (varUIntBytes y)) e
 
-  pub next-put : (ns : List ℕ) (k : ℕ) (l : List ℕ) → Put ns k l → AllSmall ns → at + (length (varUIntBytes y) + (length ns + 1)) ≤ length b →
+  pub next-put : (ns : List ℕ) (k : ℕ) (l : List ℕ) → Put ns k l → AllBelow 128 ns → at + (length (varUIntBytes y) + (length ns + 1)) ≤ length b →
       (n p k′ r : ℕ) (l′ : List ℕ) → p ≡ at + k → k′ ≡ k + 1 → _≡_ {A = ℕ × List ℕ} (r, l′) (placed l p (varUIntBytes (n % 128))) → Put (ns ++ (n % 128 ∷ [])) k′ l′
   next-put ns k l e small room n p k′ r l′ q f e′ =
       let xs = varUIntsBytes (y ∷ ns) in

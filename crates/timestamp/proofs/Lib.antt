@@ -3,6 +3,5 @@ pub mod Valid
 pub mod Utc
 pub mod Fields
 pub mod Small
-pub mod Fractions
 pub mod Body
 pub mod Checked

@@ -5,7 +5,7 @@ use mathlib.Core.List.{List, [], _∷_, _++_}
 use mathlib.Core.Option.{Option, none, some}
 use lib.IntN.{ℤ, natAbs}
 use Rattle.ion.specs.Value.{timestampCode, Fraction, noFraction, fraction}
-use Rattle.encoding.specs.Fields.{varUIntsBytes}
+use Rattle.encoding.specs.Fields.{varUIntsBytes, AllBelow}
 use Rattle.encoding.specs.Headers.{typeByte, framedBytes}
 use Rattle.encoding.specs.Timestamp.{offsetBytes, fractionBytes}
 use Rattle.timestamp.specs.declared.Timestamp.{Timestamp}
@@ -16,15 +16,10 @@ abbrev pub SmallOffset : Option ℤ → Type 0
 SmallOffset none = Unit {0}
 SmallOffset (some z) = natAbs z < 8192
 
--- one byte holds each
-abbrev pub AllSmall : List ℕ → Type 0
-AllSmall [] = Unit {0}
-AllSmall (n ∷ ns) = (n < 128) × AllSmall ns
-
--- two bytes hold the year
+-- two bytes hold the year, and one each field below it
 abbrev pub SmallFields : List ℕ → Type 0
 SmallFields [] = Unit {0}
-SmallFields (y ∷ fs) = (y < 16384) × AllSmall fs
+SmallFields (y ∷ fs) = (y < 16384) × AllBelow 128 fs
 
 -- one byte holds the exponent, which is below zero, and eight the coefficient with its sign
 abbrev pub SmallFraction : Fraction → Type 0

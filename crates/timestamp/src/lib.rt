@@ -471,7 +471,7 @@ pub fn size(t: Timestamp) -> usize
 }
 
 // Header and body: the offset as a VarInt, the UTC fields as VarUInts, then any fraction as a decimal's body.
-// Nothing is put where `t` does not pass check 7. Check 9 refuses none: a body has at most 18 bytes.
+// Nothing is put where `t` does not pass check 7.
 pub fn write(buf: &mut [u8], at: usize, t: Timestamp) -> usize
     ensures { λ r. ⌜ _≡_ {A = ℕ × List ℕ} (r, now (buf .exit)) (placed (now (buf .entry)) at (checkedBytes (argumentOf t))) ⌝ }
 {

@@ -16,13 +16,16 @@ const ROOM: usize = 16384;
 // How many bytes may wait to be printed where an answer, of at most two digits for each byte of `ROOM` and a line feed, is put behind them.
 const MOST_WAITING: usize = 32767;
 
-// Puts `!` and the number of a refusal, and answers how many bytes these are.
+// Puts `!` and the number of a refusal, of one digit or two, and answers how many bytes these are.
 fn put_refusal(out: &mut [u8], at: usize, number: u8) -> usize
     ensures { λ r. ⌜ r ≤ 3 ⌝ }
 {
-    let numbers = b"!0 !1 !2 !3 !4 !5 !6 !7 !8 !9 !10 !11 !12";
+    let ones = b'0' + number % 10;
+    if number < 10 {
+        return words::least(buffer::copy(out, at, &[b'!', ones]), 3);
+    }
     words::least(
-        buffer::copy(out, at, words::word(numbers, number as usize)),
+        buffer::copy(out, at, &[b'!', b'0' + number / 10 % 10, ones]),
         3,
     )
 }

@@ -2,7 +2,7 @@
 -- Assumes nothing.
 use Prim.Native.Nat.{_≤_, _<_, _^_}
 use native.Mathlib.Omega.{arith}
-use Rattle.timestamp.proofs.Fractions.{fraction-length, coefficient-most}
+use Rattle.encoding.proofs.Fractions.{fraction-length, coefficient-most}
 use borrow.Author.Needs.{needs}
 use Rattle.timestamp.proofs.fraction_size.Statement.{statement}
 use Rattle.timestamp.proofs.fraction_size.Tie as tie

@@ -13,7 +13,7 @@ use Rattle.encoding.specs.Timestamp.{fractionBytes}
 use Rattle.buffer.specs.Laid.{placed}
 use Rattle.buffer.proofs.Laid.{placed-nil, placed-then, placed-count}
 use Rattle.timestamp.specs.Arguments.{fractionDigits}
-use Rattle.timestamp.proofs.Fractions.{fractionBytes-is, fraction-length, exponent-one}
+use Rattle.encoding.proofs.Fractions.{fractionBytes-is, fraction-length, exponent-one}
 use borrow.Author.Needs.{needs}
 use Rattle.timestamp.proofs.put_fraction.Statement.{statement}
 use Rattle.timestamp.proofs.put_fraction.Tie as tie

@@ -4,21 +4,18 @@ use Prim.Native.Nat.{ℕ, zero, suc, _+_, _*_, _/_, _%_, _^_, _≤_, _<_}
 use native.Mathlib.Omega.{arith}
 use native.Mathlib.Nat.{pow-suc, mul-comm, one-le-pow, mod-eq-of-lt, le-div-iff-mul-le, div-lt-iff-lt-mul}
 use mathlib.Core.Path.{_≡_, refl, _∙_, ap}
-use mathlib.Core.Bool.{true, false, _&&_, and-false}
-use mathlib.Core.List.{_++_}
-use borrow.Author.Tests.{ne-eqb}
-use lib.Dec.{eqb}
+use mathlib.Core.Bool.{true, false}
+use mathlib.Core.List.{List, [], _∷_, _++_}
 use lib.ListN.{length, length-append}
 use lib.IntN.{negsuc}
 use Rattle.ion.specs.Value.{signed, fraction}
 use Rattle.encoding.specs.Digits.{lowDigits, digitCount, digits}
 use Rattle.encoding.specs.Fields.{varIntBytes, uintBytes, trimmed, intBytes}
+use Rattle.encoding.specs.Decimal.{isZeroDecimal, decimalBody}
 use Rattle.encoding.specs.Timestamp.{fractionBytes}
 use Rattle.encoding.proofs.Digits.{lowDigits-first, digitCount-below, digitCount-reaches}
-use Rattle.encoding.proofs.Bits.{bitsUsed-most}
-use Rattle.encoding.proofs.Sizes.{varInt-size-small, int-of-zero, int-size}
+use Rattle.encoding.proofs.Sizes.{varInt-size-small, int-within}
 use Rattle.encoding.proofs.Trimmed.{trimmed-nil, trimmed-first}
-use Rattle.decimal.proofs.Decimals.{decimalBody-some}
 
 -- the digits of a number begin with one that is not zero
 first-pos : (n j : ℕ) → digitCount 256 n ≡ suc j → 0 < n / 256 ^ j % 256
@@ -39,12 +36,17 @@ trimmed-uint n = at (digitCount 256 n) refl
     at zero e = trimmed-nil
     at (suc j) e = rw (lowDigits-first 256 j n) (trimmed-first (n / 256 ^ j % 256) (lowDigits 256 j n) (first-pos n j e))
 
+-- a negative exponent is never left out
+not-zero : (m : List ℕ) (k : ℕ) → isZeroDecimal false m (negsuc k) ≡ false
+not-zero [] k = refl
+not-zero (b ∷ bs) k = refl
+
 pub fractionBytes-is : (k c : ℕ) → 1 ≤ k → fractionBytes (fraction k c) ≡ varIntBytes (signed true k) ++ intBytes false (uintBytes c)
+unfolding decimalBody
 fractionBytes-is zero c h = absurd (omega arith)
-fractionBytes-is (suc k) c h =
-    let ds = intBytes false (trimmed (uintBytes c)) in
-    let z : (eqb (length ds) 0 && eqb (suc k) 0) ≡ false = rw (ne-eqb (suc k) 0 (λ e. omega arith)) (and-false (eqb (length ds) 0)) in
-    decimalBody-some false (uintBytes c) (negsuc k) z ∙ rw (trimmed-uint c)
+fractionBytes-is (suc k) c h = rw (not-zero (trimmed (uintBytes c)) k, decimalBody, trimmed-uint c)
+
+-- ---- how many bytes
 
 pub exponent-one : (k : ℕ) → k < 64 → length (varIntBytes (signed true k)) ≡ 1
 exponent-one k h = varInt-size-small true k h
@@ -54,8 +56,8 @@ fraction-length k c h l =
     ap length (fractionBytes-is k c h)
     ∙ (length-append (varIntBytes (signed true k)) (intBytes false (uintBytes c)) ∙ rw (exponent-one k l) (omega arith))
 
--- ---- a coefficient below 2 ^ 63 takes eight bytes at most
-
 pub coefficient-most : (c : ℕ) → c < 2 ^ 63 → length (intBytes false (uintBytes c)) ≤ 8
-coefficient-most zero h = rw (int-of-zero 0 refl) (omega arith)
-coefficient-most (suc c) h = rw (int-size (suc c) (omega arith) (omega arith)) (omega (arith, bitsUsed-most 63 (suc c) (omega arith) h))
+coefficient-most c h = int-within 7 c (omega arith)
+
+pub digits-most : (k c : ℕ) → 1 ≤ k → k < 64 → c < 2 ^ 63 → length (fractionBytes (fraction k c)) ≤ 9
+digits-most k c h l m = omega (arith, fraction-length k c h l, coefficient-most c m)
