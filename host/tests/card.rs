@@ -97,7 +97,9 @@ fn header_has_the_refusals_by_number_and_name() {
             (name.to_string(), number.parse().unwrap())
         })
         .collect();
-    let refusals = REFUSALS.iter().map(|refusal| (of_c(&format!("{refusal:?}")), refusal.number()));
+    let refusals = REFUSALS
+        .iter()
+        .map(|refusal| (of_c(&format!("{refusal:?}")), refusal.number()));
     let of_the_reader = [("GM_PAST_THE_END", 2), ("GM_READ_TOO_DEEP", 4)];
     let expected: Vec<(String, u8)> = [("GM_ACCEPTED".to_string(), 0)]
         .into_iter()

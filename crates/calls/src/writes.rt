@@ -74,6 +74,7 @@ const CLOB: usize = 21;
 
 const BLOB: usize = 22;
 
+// The index of a word that is none of them.
 const NO_CALL: usize = 23;
 
 fn is_annotated(call: &[u8]) -> bool {

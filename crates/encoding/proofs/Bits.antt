@@ -4,11 +4,8 @@ use mathlib.Core.Path.{_≡_, refl, sym, _∙_}
 use Prim.Native.Nat.{ℕ, zero, suc, _+_, _-_, _*_, _/_, _^_, _≤_, _<_}
 use native.Mathlib.Omega.{arith}
 use native.Mathlib.Nat.{pow-zero, pow-suc, mul-zero, mul-suc, le-div-iff-mul-le, lt-of-lt-of-le}
-use borrow.Author.Tests.{leb-true, leb-false}
-use lib.Dec.{leb}
 use lib.Pow.{pow-add, pow-mono, pow-pos, shr-lt}
 use lib.Count.{leadingZeros, leading-length}
-use Rattle.ion.proofs.Tests.{by-cases}
 use Rattle.encoding.specs.Digits.{digitCount}
 use Rattle.encoding.proofs.Digits.{Reaches, digitCount-is}
 
@@ -21,16 +18,6 @@ bitsUsed-pos n p h = let l = leading-length 64 n h in go (l .0) (l .1) (l .2)
     go : (m : ℕ) → leadingZeros 64 n + m ≡ 64 → n < 2 ^ m → 0 < bitsUsed n
     go zero e u = absurd (omega arith)
     go (suc m) e u = omega arith
-
-pub bitsUsed-most : (k n : ℕ) → n < 2 ^ 64 → n < 2 ^ k → bitsUsed n ≤ k
-bitsUsed-most k n h l =
-    let m = leading-length 64 n h in
-    by-cases (leb (m .0) k)
-    (λ e. omega (arith, m .1, leb-true (m .0) k e))
-    (λ e.
-    let over : 2 ^ suc k ≤ 2 ^ m .0 = pow-mono {i = suc k} {j = m .0} (leb-false (m .0) k e) in
-    let twice : 2 ^ suc k ≡ 2 ^ k * 2 = pow-suc 2 k in
-    absurd (omega (arith, m .3)))
 
 pub power-power : (w k : ℕ) → (2 ^ w) ^ k ≡ 2 ^ (w * k)
 power-power w zero = rw (pow-zero (2 ^ w), mul-zero w) refl

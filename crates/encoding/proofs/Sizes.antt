@@ -171,7 +171,7 @@ module _ (n : ℕ) (h : n < 2 ^ 64) where
 pub varUInt-least : (n : ℕ) → 1 ≤ length (varUIntBytes n)
 varUInt-least n = rw (length-varUInt n) (omega arith)
 
--- one byte for the lowest bits, which the number d counts, and k more of a digit in base b each
+-- one byte holds a number below d, and each byte more a digit more in base b
 most-digits : (b d k n : ℕ) → 2 ≤ b → 0 < d → n < b ^ k * d → suc (digitCount b (n / d)) ≤ suc k
 most-digits b d k n two p h = omega (arith, digitCount-least b two (n / d) k (div-lt-iff-lt-mul {k = d} {x = n} {y = b ^ k} p .1 h))
 
