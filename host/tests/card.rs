@@ -1,6 +1,6 @@
-//! The refusal card, docs/REFUSALS.md, and the C header have the refusals of this crate and no others, and the card's trial lines are
-//! answered as it says.
-use goatminute::Refusal;
+//! The refusal card, docs/REFUSALS.md, and the C header have the refusals of this crate and no others, and the card's trial lines and
+//! streams are answered as it says.
+use goatminute::{Reader, Refusal};
 use std::fs;
 use std::path::Path;
 
@@ -23,6 +23,17 @@ fn rows() -> Vec<(u8, Vec<String>)> {
 /// What stands in the cell between backquotes.
 fn quoted(cell: &str) -> Option<&str> {
     cell.split('`').nth(1)
+}
+
+/// The examples behind the card's rules, with the numbers that they are to be answered by.
+fn examples() -> Vec<(u8, String)> {
+    rows()
+        .into_iter()
+        .filter_map(|(number, cells)| {
+            let example = cells[1..].iter().find_map(|cell| quoted(cell))?;
+            Some((number, example.to_string()))
+        })
+        .collect()
 }
 
 /// Those of the writer and the reader, by their numbers; what has no name in this crate is only met by trial lines.
@@ -64,16 +75,26 @@ fn trial_lines_of_the_card_are_answered_by_their_numbers() {
     let (lines, answers) = (read("crates/trial/stdin"), read("crates/trial/stdout"));
     let answered: Vec<(&[u8], &[u8])> = lines.split(|&b| b == b'\n').zip(answers.split(|&b| b == b'\n')).collect();
     let mut met = Vec::new();
-    for (number, cells) in rows() {
-        let Some(line) = cells.get(1..).and_then(|cells| cells.iter().find_map(|cell| quoted(cell))) else {
-            continue;
-        };
+    for (number, line) in examples().iter().filter(|(_, example)| example.starts_with('(')) {
         let answer = answered.iter().find(|(sample, _)| *sample == line.as_bytes());
         let (_, answer) = answer.unwrap_or_else(|| panic!("{line} is not in the sample"));
         assert_eq!(*answer, format!("!{number}").as_bytes(), "{line}");
-        met.push(number);
+        met.push(*number);
     }
     assert_eq!(met, [5, 6, 7, 8, 11, 12]);
+}
+
+#[test]
+fn streams_of_the_card_are_answered_by_their_numbers() {
+    let mut met = Vec::new();
+    for (number, hex) in examples().iter().filter(|(_, example)| !example.starts_with('(')) {
+        let byte = |at: usize| u8::from_str_radix(&hex[at..at + 2], 16).unwrap();
+        let stream: Vec<u8> = (0..hex.len()).step_by(2).map(byte).collect();
+        let answer = Reader::new(&stream).check().map_err(|why| why.refusal.number());
+        assert_eq!(answer, Err(*number), "{hex}");
+        met.push(*number);
+    }
+    assert_eq!(met, [13, 14]);
 }
 
 /// A name of the crate as one of the header: `NotUtf8` as `GM_NOT_UTF8`.

@@ -70,8 +70,8 @@ intBytes s (b ∷ bs) = elim (ltb b 0x80) [ true ↦ (topBit s + b) ∷ bs | fal
 -- ---- what the types of arguments say
 
 abbrev pub AllBelow : ℕ → List ℕ → Type 0
-AllBelow most [] = Unit {0}
-AllBelow most (n ∷ ns) = (n < most) × AllBelow most ns
+AllBelow limit [] = Unit {0}
+AllBelow limit (n ∷ ns) = (n < limit) × AllBelow limit ns
 
 abbrev pub AllU64 : List ℕ → Type 0
 AllU64 ns = AllBelow (2 ^ 64) ns

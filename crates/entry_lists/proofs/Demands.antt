@@ -18,7 +18,7 @@ use Rattle.encoding.specs.Stream.{streamBytes}
 use Rattle.machine.specs.declared.State.{State}
 use Rattle.machine.specs.Call.{Call, AllTyped}
 use Rattle.machine.specs.Machine.{Config, longestBuffer, emptyState, splice, effect, Verdict, accepted, refused, firstFailing, verdict, isAccepted, ifAccepted}
-use Rattle.machine.specs.Machine.{ruleOf, after, startVerdict, started, taken, run}
+use Rattle.machine.specs.Machine.{ruleOf, after, startLines, startVerdict, started, taken, run}
 use Rattle.machine.specs.Model.{Model, modelStep, startedModel}
 use Rattle.machine.specs.Demands.{partOf, joined, modelAfter, spelling, spelled, Run, ReadsOnlyAs}
 use Rattle.machine.proofs.Splice.{length-splice}
@@ -99,9 +99,6 @@ empty-spelled = refl
 empty-size : length (emptyBytes 4) ≡ stateSize
 unfolding storedHead laid
 empty-size = refl
-
-abbrev startLines : List ℕ → List (Bool × ℕ)
-startLines b = (ltb longestBuffer (length b), 1) ∷ (ltb (length b) 4, 10) ∷ []
 
 -- a start whose number is 0 was lent a slice of the right length, and is accepted
 pub start-accepted : (st b : List ℕ) → startEntered st b .number ≡ 0 → (length st ≡ stateSize) × (startVerdict b ≡ accepted)

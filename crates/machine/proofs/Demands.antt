@@ -5,7 +5,6 @@ use native.Mathlib.Omega.{arith}
 use mathlib.Core.Path.{_≡_, refl, _∙_, ap}
 use mathlib.Core.Bool.{false}
 use mathlib.Core.List.{List, [], _∷_, _++_, append-assoc, append-nil}
-use lib.Dec.{ltb}
 use lib.ListN.{length}
 use borrow.Author.Tests.{ltb-false}
 use Rattle.ion.specs.Grammar.{Reads}
@@ -16,7 +15,7 @@ use Rattle.encoding.specs.Stream.{streamBytes}
 use Rattle.encoding.proofs.Writable.{WritableItems}
 use Rattle.encoding.proofs.Stream.{streamBytes-reads}
 use Rattle.machine.specs.Call.{Call, TypedCall, AllTyped}
-use Rattle.machine.specs.Machine.{Config, openContainers, isOpen, ruleOf, effect, longestBuffer, checks, Verdict, accepted, refused, verdict, isAccepted, ifAccepted, after, startVerdict, started, splice, taken}
+use Rattle.machine.specs.Machine.{Config, openContainers, isOpen, ruleOf, effect, longestBuffer, checks, Verdict, accepted, refused, verdict, isAccepted, ifAccepted, after, startLines, startVerdict, started, splice, taken}
 use Rattle.machine.specs.Model.{Open, Model, modelStep, startedModel}
 use Rattle.machine.specs.Demands.{partOf, flushed, joined, modelAfter, spelled, written, Demand2, Demand3}
 use Rattle.machine.proofs.Invariant.{containersOf, WritableOf}
@@ -67,7 +66,7 @@ all-writable (c ∷ cs) done w x inv t o = all-writable cs (done ++ flushed c w)
 pub start-keeps : (b : List ℕ) → startVerdict b ≡ accepted → Invariant [] (started b) startedModel
 unfolding streamBytes
 start-keeps b e =
-    let h = none-failing ((ltb longestBuffer (length b), 1) ∷ (ltb (length b) 4, 10) ∷ []) (unfold startVerdict in e) in
+    let h = none-failing (startLines b) (unfold startVerdict in e) in
     let short : length b ≤ longestBuffer = ltb-false longestBuffer (length b) (h .0) in
     let room : 4 ≤ length b = ltb-false (length b) 4 (h .1 .0) in
     let l : length (splice 0 0 markerBytes b) ≡ length b = length-splice 0 0 markerBytes b (omega arith) (omega arith) (omega arith) in

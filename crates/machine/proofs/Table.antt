@@ -1,4 +1,4 @@
--- The table's numbers are those of the code's refusals: no call and no start answers another, and each refusal is met by a call.
+-- The table's numbers are those of the code's refusals: no line of a call or a start has another, and each refusal is met by a call.
 -- By the lines of each call; computation for the calls that meet them. Assumes nothing.
 use Prim.Native.Nat.{ℕ, _<_}
 use native.Mathlib.Omega.{arith}
@@ -6,14 +6,12 @@ use mathlib.Core.Path.{_≡_, refl}
 use mathlib.Core.Bool.{Bool, true, false}
 use mathlib.Core.List.{List, [], _∷_, _++_}
 use mathlib.Core.Option.{none}
-use lib.Dec.{ltb}
-use lib.ListN.{length, replicate, length-replicate}
+use lib.ListN.{replicate, length-replicate}
 use lib.IntN.{pos}
 use borrow.Author.Tests.{lt-ltb}
 use Rattle.ion.specs.Value.{noFraction, list}
 use Rattle.ion.specs.Fields.{bigEndian}
 use Rattle.ion.specs.Text.{begun, utf8From, utf8}
-use Rattle.ion.proofs.Tests.{by-cases}
 use Rattle.encoding.specs.Digits.{countDigits, digitCount}
 use Rattle.encoding.specs.Fields.{varIntGroups, varIntBytes, trimmed, intBytes}
 use Rattle.encoding.specs.Decimal.{decimalBody}
@@ -25,21 +23,12 @@ use Rattle.machine.specs.declared.Refusal.{Refusal}
 use Rattle.machine.specs.declared.Refusal.the-variants.{BufferTooLong, StateUnfit, Misplaced, TooDeep, NegativeZero}
 use Rattle.machine.specs.declared.Refusal.the-variants.{NotUtf8, BadTimestamp, DecimalTooLong, NoRoom}
 use Rattle.machine.specs.Call.{Call, sequenceType, write, name, opening, closing, abandonment, versionMarker, taking, emptying}
-use Rattle.machine.specs.Machine.{Config, config, longestBuffer, containerFits, containersFit, fits, splice, checks, refused, firstFailing, verdict}
+use Rattle.machine.specs.Machine.{Config, config, longestBuffer, containerFits, containersFit, fits, splice, checks, refused, verdict}
 use Rattle.machine.specs.Machine.{emptyState, startVerdict, started}
 use Rattle.machine.specs.Counts.{afterAll}
-use Rattle.machine.specs.Numbers.{number, Numbered, EachNumbered, EachMet}
+use Rattle.machine.specs.Numbers.{AllNumbered, EachNumbered, EachMet}
 
 -- ---- no other number
-
--- each line has the number of a refusal
-abbrev AllNumbered : List (Bool × ℕ) → Type 0
-AllNumbered [] = Unit {0}
-AllNumbered (x ∷ xs) = ((why : Refusal) × (number why ≡ x .1)) × AllNumbered xs
-
-first-numbered : (xs : List (Bool × ℕ)) → AllNumbered xs → Numbered (firstFailing xs)
-first-numbered [] h = tt
-first-numbered (x ∷ xs) h = by-cases (x .0) (λ e. rw e (h .0)) (λ e. rw e (first-numbered xs (h .1)))
 
 numbered-append : (xs ys : List (Bool × ℕ)) → AllNumbered xs → AllNumbered ys → AllNumbered (xs ++ ys)
 numbered-append [] ys h k = k
@@ -74,11 +63,7 @@ checks-numbered taking w = tt
 checks-numbered emptying w = around false [] tt
 
 pub each-numbered : EachNumbered
-unfolding verdict startVerdict
-each-numbered = (
-  (λ c w. first-numbered (checks c w) (checks-numbered c w)),
-  (λ b. first-numbered ((ltb longestBuffer (length b), 1) ∷ (ltb (length b) 4, 10) ∷ []) ((BufferTooLong, refl), ((NoRoom, refl), tt))),
-)
+each-numbered = (checks-numbered, λ b. ((BufferTooLong, refl), ((NoRoom, refl), tt)))
 
 -- ---- each is met
 

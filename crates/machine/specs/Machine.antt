@@ -330,8 +330,11 @@ run c w = record { verdict = verdict c w; config = after c w; figures = figuresI
 abbrev pub emptyState : ℕ → State
 emptyState used = record { used = used; depth = 0; waiting = false; containers = replicate mostOpen noContainer }
 
+abbrev pub startLines : List ℕ → List (Bool × ℕ)
+startLines b = (ltb longestBuffer (length b), 1) ∷ (ltb (length b) 4, 10) ∷ []
+
 unfoldable pub startVerdict : List ℕ → Verdict
-startVerdict b = firstFailing ((ltb longestBuffer (length b), 1) ∷ (ltb (length b) 4, 10) ∷ [])
+startVerdict b = firstFailing (startLines b)
 
 -- a refused start answers the empty state with used length 0, and alters nothing
 abbrev pub started : List ℕ → Config

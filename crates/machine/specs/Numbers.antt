@@ -2,7 +2,8 @@
 -- Assumes nothing.
 use Prim.Native.Nat.{ℕ}
 use mathlib.Core.Path.{_≡_}
-use mathlib.Core.List.{List}
+use mathlib.Core.Bool.{Bool}
+use mathlib.Core.List.{List, [], _∷_}
 use Rattle.machine.specs.declared.Refusal.{Refusal}
 use Rattle.machine.specs.declared.Refusal.the-variants.{BufferTooLong, StateUnfit, Misplaced, TooDeep, NegativeZero}
 use Rattle.machine.specs.declared.Refusal.the-variants.{NotUtf8, BadTimestamp, DecimalTooLong, NoRoom}
@@ -11,7 +12,7 @@ use Rattle.machine.specs.declared.Answer.the-variants.{Accepted, Refused
 use Rattle.machine.specs.declared.Written.{Written}
 use Rattle.machine.specs.declared.Closed.{Closed}
 use Rattle.machine.specs.Call.{Call}
-use Rattle.machine.specs.Machine.{Verdict, accepted, refused, verdict, startVerdict, Outcome, Config, config, noFigures}
+use Rattle.machine.specs.Machine.{checks, Verdict, accepted, refused, verdict, startLines, Outcome, Config, config, noFigures}
 
 abbrev pub number : Refusal → ℕ
 number BufferTooLong = 1
@@ -35,15 +36,16 @@ outcomeOf r b = record { verdict = verdictOf (r .answer); config = config (r .st
 abbrev pub closedOutcome : Closed → List ℕ → Outcome
 closedOutcome r b = record { verdict = verdictOf (r .answer); config = config (r .state) b; figures = record { size = r .size; members = r .members; moved = r .moved } }
 
--- ---- the table has the refusals of the code, and no other line: proofs/Table.antt
+-- ---- the numbers of the table are those of the code's refusals: proofs/Table.antt
 
--- the number of a verdict that refuses is that of a refusal
-abbrev pub Numbered : Verdict → Type 0
-Numbered accepted = Unit {0}
-Numbered (refused n) = (why : Refusal) × (number why ≡ n)
+-- each line has the number of a refusal
+abbrev pub AllNumbered : List (Bool × ℕ) → Type 0
+AllNumbered [] = Unit {0}
+AllNumbered (x ∷ xs) = ((why : Refusal) × (number why ≡ x .1)) × AllNumbered xs
 
+-- Every line of every call, and of a start, has the number of a refusal, whether it can fail or not.
 abbrev pub EachNumbered : Type 0
-EachNumbered = ((c : Call) (w : Config) → Numbered (verdict c w)) × ((b : List ℕ) → Numbered (startVerdict b))
+EachNumbered = ((c : Call) (w : Config) → AllNumbered (checks c w)) × ((b : List ℕ) → AllNumbered (startLines b))
 
 -- Each refusal is met by a call (document 02, Item 9: none is on the card that nobody can meet).
 abbrev pub EachMet : Type 0
