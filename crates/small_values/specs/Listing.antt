@@ -1,0 +1,45 @@
+-- What asking for the next small value again and again yields.
+-- Assumes nothing.
+use Prim.Native.Nat.{ℕ, zero, suc, _+_, _-_, _^_}
+use mathlib.Core.Bool.{Bool, cond}
+use mathlib.Core.List.{List, [], _∷_, _++_}
+use lib.Dec.{ltb, leb}
+use Rattle.encoding.specs.Digits.{lowDigits}
+use Rattle.unpadded.specs.Rule.{isOneValue}
+use Rattle.small_values.specs.Order.{Lists}
+use Rattle.small_values.specs.Set.{SmallValue}
+
+-- The strings of n bytes have the numbers that they are as big-endian numbers, below this one; those of more than three bytes are not asked for.
+unfoldable pub limit : ℕ → ℕ
+limit n = cond (leb n 3) (256 ^ n) 0
+
+-- the first number from x on, among k, whose string of n bytes passes the test; the one behind them where none does
+unfoldable pub firstFrom : (List ℕ → Bool) → ℕ → ℕ → ℕ → ℕ
+firstFrom t zero n x = x
+firstFrom t (suc k) n x = cond (t (lowDigits 256 n x)) x (firstFrom t k n (x + 1))
+
+abbrev pub nextBy : (List ℕ → Bool) → ℕ → ℕ → ℕ
+nextBy t n x = firstFrom t (limit n - x) n x
+
+-- The number of the next small value of n bytes, from x on; the limit where there is none.
+unfoldable pub nextOf : ℕ → ℕ → ℕ
+nextOf n x = nextBy isOneValue n x
+
+abbrev pub behindNext : (ℕ → List (List ℕ)) → ℕ → ℕ → List (List ℕ)
+behindNext go n y = cond (ltb y (limit n)) (lowDigits 256 n y ∷ go (y + 1)) []
+
+-- the strings of n bytes, from x on, that the next ones are; k bounds how many
+unfoldable pub yieldsFrom : (ℕ → ℕ → ℕ) → ℕ → ℕ → ℕ → List (List ℕ)
+yieldsFrom next zero n x = []
+yieldsFrom next (suc k) n x = behindNext (λ y. yieldsFrom next k n y) n (next n x)
+
+abbrev pub ofSize : ℕ → List (List ℕ)
+ofSize n = yieldsFrom nextOf (limit n) n 0
+
+-- From zero on, of one, two and three bytes.
+unfoldable pub smallValues : List (List ℕ)
+smallValues = ofSize 1 ++ (ofSize 2 ++ ofSize 3)
+
+-- These are the small values, each once and in order, and nothing else. The proof is in proofs/Listed.antt.
+abbrev pub SmallValuesListed : Type 0
+SmallValuesListed = Lists SmallValue smallValues

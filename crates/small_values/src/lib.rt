@@ -1,0 +1,1 @@
+// The small values, one after the other.

@@ -1,0 +1,2 @@
+pub mod Pads
+pub mod Exact

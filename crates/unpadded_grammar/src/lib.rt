@@ -1,0 +1,1 @@
+// What the crate unpadded finds is what the grammar says: theorems, no function.
