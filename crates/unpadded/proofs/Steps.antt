@@ -1,21 +1,24 @@
 -- The rule at one place, for any fuel above none: at the end, at an item that it stops at, and behind one that it goes past.
 -- Assumes nothing.
-use Prim.Native.Nat.{ℕ, zero, suc, _-_, _≤_, _<_}
+use Prim.Native.Nat.{ℕ, zero, suc, _+_, _-_, _≤_, _<_}
 use native.Mathlib.Omega.{arith}
 use native.Mathlib.Numerals.{sub-one}
-use mathlib.Core.Path.{_≡_, refl, sym, _∙_}
-use mathlib.Core.Bool.{Bool, true, false}
+use mathlib.Core.Path.{_≡_, refl}
+use mathlib.Core.Bool.{Bool, true, false, not}
 use mathlib.Core.List.{List, [], _∷_}
 use mathlib.Core.Logic.{⊎-elim}
-use lib.ListN.{length}
+use lib.ListN.{length, take}
+use lib.Seq.{slice}
 use types.Run.{OneOf}
 use denote.Enum.Declared.{tagOf}
 use borrow.Author.Tests.{eq-eqb, ne-eqb}
 use Rattle.reading.specs.declared.Item.{Item}
 use Rattle.reading.specs.declared.Item.the-variants as I
-use Rattle.reading.specs.Items.{isPad, itemAt}
+use Rattle.reading.specs.Items.{isPad, opens, itemAt}
+use Rattle.reading.specs.Scalars.{scalarIn}
+use Rattle.reading.specs.Bodies.{markIn}
 use Rattle.reading.proofs.Item.{the-type}
-use Rattle.unpadded.specs.Rule.{stepIs, unpaddedFrom, contentBy}
+use Rattle.unpadded.specs.Rule.{stepIs, unpaddedFrom, contentBy, isWhole, isOneValue}
 
 fuelled : (P : ℕ → Type 0) (f : ℕ) → 1 ≤ f → ((g : ℕ) → f - 1 ≡ g → P (suc g)) → P f
 fuelled P zero h k = absurd (omega arith)
@@ -59,3 +62,23 @@ module _ (f : ℕ) (some : 1 ≤ f) (s : List ℕ) (parent least depth at : ℕ)
             let c′ : true ≡ contentBy g s depth b start stop = rw p at c in
             let k′ : r ≡ unpaddedFrom g s parent name depth stop = rw p at k in
             rw (ne-eqb at (length s) (λ q. omega arith), is, e, ← c′) k′)
+
+-- ---- what an item holds
+
+module _ (f : ℕ) (s : List ℕ) (depth b start stop : ℕ) where
+  pub content-inside : opens b ≡ true → unpaddedFrom f (take stop s) b 0 (depth + 1) start ≡ contentBy f s depth b start stop
+  content-inside e = rw e refl
+
+  pub content-leaf : opens b ≡ false → not (markIn (scalarIn b (slice start stop s))) ≡ contentBy f s depth b start stop
+  content-leaf e = rw e refl
+
+-- ---- one value
+
+module _ (s : List ℕ) (i : Item) (is : i ≡ itemAt s 0 0 0 0) where
+  pub not-whole : isWhole s i ≡ false → false ≡ isOneValue s
+  unfolding isOneValue
+  not-whole e = rw (← is, e) refl
+
+  pub whole : isWhole s i ≡ true → (r : Bool) → r ≡ unpaddedFrom (suc (length s)) s 0 0 0 0 → r ≡ isOneValue s
+  unfolding isOneValue
+  whole e r k = rw (← is, e) k

@@ -1,3 +1,7 @@
+-- `unpadded::is_whole` meets its contract.
+-- Assumes nothing.
+use mathlib.Core.Path.{sym, ap}
+use Rattle.unpadded.specs.Rule.{isWhole}
 use borrow.Author.Needs.{needs}
 use Rattle.unpadded.proofs.is_whole.Statement.{statement}
 use Rattle.unpadded.proofs.is_whole.Tie as tie
@@ -18,7 +22,7 @@ enum-told-2 c = search needs
 
 -- src/lib.rt:77:1
 returns : tie.Need-returns
-returns c = ?
+returns c = sym (ap (isWhole (c .before .before .before .args .s .now)) (c .before .found .given .1))
 
 -- src/lib.rt:77:1
 returns-2 : tie.Need-returns-2
