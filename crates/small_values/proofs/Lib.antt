@@ -1,3 +1,5 @@
 pub mod Order
 pub mod Numbers
 pub mod Yields
+pub mod Steps
+pub mod Filled
