@@ -14,8 +14,9 @@ use Rattle.ion.proofs.Tests.{by-cases}
 use Rattle.encoding.specs.Digits.{lowDigits}
 use Rattle.encoding.specs.Fields.{AllBelow}
 use Rattle.encoding.proofs.Digits.{length-lowDigits, bigEndian-fixed}
+use Rattle.unpadded.specs.Rule.{isOneValue}
 use Rattle.small_values.specs.Order.{precedes, _∈_, Lists}
-use Rattle.small_values.specs.Listing.{limit, firstFrom, nextBy, yieldsFrom}
+use Rattle.small_values.specs.Listing.{limit, firstFrom, nextBy, nextOf, yieldsFrom}
 use Rattle.small_values.proofs.Order.{lists-same}
 use Rattle.small_values.proofs.Numbers.{precedes-numbers, digits-bytes, number-below, digits-number}
 
@@ -49,6 +50,10 @@ first-is t zero n x = record { from = omega arith; passes = λ h. absurd (omega 
 first-is t (suc k) n x = by-cases (t (lowDigits 256 n x))
     (λ e. rw (e) (first-here t k n x e))
     (λ e. rw (e) (first-later t k n x (firstFrom t k n (x + 1)) e (first-is t k n (x + 1))))
+
+pub next-from : (n x : ℕ) → x ≤ nextOf n x
+unfolding nextOf
+next-from n x = first-is isOneValue (limit n - x) n x .from
 
 -- ---- those that follow
 

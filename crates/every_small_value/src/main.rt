@@ -1,0 +1,56 @@
+// Prints every small value (document 02, Item 12) in lower-case hex, one a line, shorter first and then by bytes.
+ghost use mathlib.Core.Path.{_≡_};
+ghost use mathlib.Core.List.{[], _∷_, _++_};
+ghost use Prim.Native.Nat.{_+_, _*_, _≤_};
+ghost use lib.ListN.{length};
+ghost use Rattle.encoding.specs.Digits.{lowDigits};
+ghost use Rattle.buffer.specs.Laid.{laid};
+ghost use Rattle.words.specs.Hex.{hexText};
+use libc::STDOUT_FILENO;
+
+// How many bytes may wait to be printed where a line, of at most six digits and a line feed, is put behind them.
+const MOST_WAITING: usize = 65529;
+
+// Puts the line of a string from `at` on. The result is where it ends.
+fn put_line(out: &mut [u8], at: usize, size: usize, number: u32) -> usize
+    requires { ⌜ (size ≤ 3) × (at + 7 ≤ length (now out)) ⌝ }
+    ensures { λ r. ⌜ (r ≡ at + 2 * size + 1) × (now (out .exit) ≡ laid (now (out .entry)) at (hexText (lowDigits 256 size number) ++ (10 ∷ []))) ⌝ }
+{
+    let mut bytes = [0u8; 3];
+    small_values::spell(&mut bytes[..size], number);
+    let end = at + words::hex::put(out, at, &bytes[..size]);
+    out[end] = b'\n';
+    end + 1
+}
+
+// Prints the bytes that wait, if they are too many. The result is how many wait then.
+fn print_waiting(waiting: &[u8]) -> usize
+    ensures { λ r. ⌜ r ≤ 65529 ⌝ }
+{
+    if waiting.len() <= MOST_WAITING {
+        return waiting.len();
+    }
+    io::write_all(STDOUT_FILENO, waiting);
+    0
+}
+
+// Prints the lines of one size.
+fn print_size(size: usize)
+    requires { ⌜ size ≤ 3 ⌝ }
+{
+    let mut out = io::large_buffer();
+    let mut used: usize = 0;
+    let mut number = small_values::next(size, 0);
+    while number < small_values::limit(size) {
+        used = print_waiting(&out[0..used]);
+        used = put_line(&mut out, used, size, number);
+        number = small_values::next(size, number + 1);
+    }
+    io::write_all(STDOUT_FILENO, &out[0..used]);
+}
+
+fn main() {
+    print_size(1);
+    print_size(2);
+    print_size(3);
+}
