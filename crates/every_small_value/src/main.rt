@@ -1,4 +1,5 @@
-// Prints every small value (document 02, Item 12) in lower-case hex, one a line, shorter first and then by bytes.
+// Prints every small value (document 02, Item 12) in lower-case hex, one a line, shorter first and then by bytes. With an argument, 1, 2 or 3, it prints
+// those of at most so many bytes.
 ghost use mathlib.Core.Path.{_≡_};
 ghost use mathlib.Core.List.{[], _∷_, _++_};
 ghost use Prim.Native.Nat.{_+_, _*_, _≤_};
@@ -6,6 +7,7 @@ ghost use lib.ListN.{length};
 ghost use Rattle.encoding.specs.Digits.{lowDigits};
 ghost use Rattle.buffer.specs.Laid.{laid};
 ghost use Rattle.words.specs.Hex.{hexText};
+use libc::STDERR_FILENO;
 use libc::STDOUT_FILENO;
 
 // How many bytes may wait to be printed where a line, of at most six digits and a line feed, is put behind them.
@@ -49,8 +51,47 @@ fn print_size(size: usize)
     io::write_all(STDOUT_FILENO, &out[0..used]);
 }
 
+fn print_sizes(most: usize)
+    requires { ⌜ most ≤ 3 ⌝ }
+{
+    let mut size: usize = 1;
+    while size <= most {
+        print_size(size);
+        size += 1;
+    }
+}
+
+// The number that a digit from 1 to 3 stands for, or 0 for any other byte.
+fn small_digit(byte: u8) -> usize
+    ensures { λ r. ⌜ r ≤ 3 ⌝ }
+{
+    match byte {
+        b'1' => 1,
+        b'2' => 2,
+        b'3' => 3,
+        _ => 0,
+    }
+}
+
+// The most bytes that are asked for: three without an argument, 0 with one that is no number of bytes.
+fn most_bytes() -> usize
+    ensures { λ r. ⌜ r ≤ 3 ⌝ }
+{
+    if os::arg_count() < 2 {
+        return 3;
+    }
+    let mut word = [0u8; 1];
+    os::arg(1, &mut word);
+    if os::errno() != 0 {
+        return 0;
+    }
+    small_digit(word[0])
+}
+
 fn main() {
-    print_size(1);
-    print_size(2);
-    print_size(3);
+    let most = most_bytes();
+    if most == 0 {
+        io::write_all(STDERR_FILENO, b"the most bytes may be 1, 2 or 3\n");
+    }
+    print_sizes(most);
 }
