@@ -13,6 +13,12 @@ use libc::STDOUT_FILENO;
 // How many bytes may wait to be printed where a line, of at most six digits and a line feed, is put behind them.
 const MOST_WAITING: usize = 65529;
 
+// Whether bytes could be printed, and how many wait now.
+struct Printed {
+    all: bool,
+    waiting: usize,
+}
+
 // Puts the line of a string from `at` on. The result is where it ends.
 fn put_line(out: &mut [u8], at: usize, size: usize, number: u32) -> usize
     requires { ⌜ (size ≤ 3) × (at + 7 ≤ length (now out)) ⌝ }
@@ -25,30 +31,47 @@ fn put_line(out: &mut [u8], at: usize, size: usize, number: u32) -> usize
     end + 1
 }
 
-// Prints the bytes that wait, if they are too many. The result is how many wait then.
-fn print_waiting(waiting: &[u8]) -> usize
-    ensures { λ r. ⌜ r ≤ 65529 ⌝ }
-{
-    if waiting.len() <= MOST_WAITING {
-        return waiting.len();
+// Prints bytes, or says that they can't be printed, since a list that stops looks like a whole one.
+fn print(text: &[u8]) -> bool {
+    if io::write_all(STDOUT_FILENO, text) {
+        return true;
     }
-    io::write_all(STDOUT_FILENO, waiting);
-    0
+    io::write_all(STDERR_FILENO, b"the list is not whole: it can't be written\n");
+    false
 }
 
-// Prints the lines of one size.
-fn print_size(size: usize)
+// Prints the bytes that wait, if they are too many.
+fn print_waiting(waiting: &[u8]) -> Printed
+    ensures { λ r. ⌜ r .waiting ≤ 65529 ⌝ }
+{
+    if waiting.len() <= MOST_WAITING {
+        return Printed {
+            all: true,
+            waiting: waiting.len(),
+        };
+    }
+    Printed {
+        all: print(waiting),
+        waiting: 0,
+    }
+}
+
+// Prints the lines of one size, or stops where they can't be printed.
+fn print_size(size: usize) -> bool
     requires { ⌜ size ≤ 3 ⌝ }
 {
     let mut out = io::large_buffer();
     let mut used: usize = 0;
     let mut number = small_values::next(size, 0);
     while number < small_values::limit(size) {
-        used = print_waiting(&out[0..used]);
-        used = put_line(&mut out, used, size, number);
+        let printed = print_waiting(&out[0..used]);
+        if !printed.all {
+            return false;
+        }
+        used = put_line(&mut out, printed.waiting, size, number);
         number = small_values::next(size, number + 1);
     }
-    io::write_all(STDOUT_FILENO, &out[0..used]);
+    print(&out[0..used])
 }
 
 fn print_sizes(most: usize)
@@ -56,7 +79,9 @@ fn print_sizes(most: usize)
 {
     let mut size: usize = 1;
     while size <= most {
-        print_size(size);
+        if !print_size(size) {
+            return;
+        }
         size += 1;
     }
 }

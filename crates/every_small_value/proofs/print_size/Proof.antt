@@ -40,6 +40,9 @@ part-print-waiting-end c = search needs
 print-waiting-requires : tie.Need-print-waiting-requires Inv-loop μ-loop
 print-waiting-requires c κs = search needs
 
+returns : tie.Need-returns Inv-loop μ-loop
+returns c = search needs
+
 slice-aggregate-put-line : tie.Need-slice-aggregate-put-line Inv-loop μ-loop
 slice-aggregate-put-line c = search needs
 
@@ -54,26 +57,26 @@ next-requires-2 c κs = search needs
 
 loop-less : tie.Need-loop-less Inv-loop μ-loop
 loop-less c =
-    let m = c .before .before .before .before .before .before .before .before .before in
+    let m = c .before .before .before .before .before .before .before .before .before .before .before in
     omega (arith, next-from (m .before .before .before .args .size) (m .loop .number + 1))
 
 loop-again : tie.Need-loop-again Inv-loop μ-loop
 loop-again c = search needs
 
-sub-write-all : tie.Need-sub-write-all Inv-loop μ-loop
-sub-write-all c = search needs
+sub-print : tie.Need-sub-print Inv-loop μ-loop
+sub-print c = search needs
 
-part-write-all-start : tie.Need-part-write-all-start Inv-loop μ-loop
-part-write-all-start c = search needs
+part-print-start : tie.Need-part-print-start Inv-loop μ-loop
+part-print-start c = search needs
 
-part-write-all-end : tie.Need-part-write-all-end Inv-loop μ-loop
-part-write-all-end c = search needs
+part-print-end : tie.Need-part-print-end Inv-loop μ-loop
+part-print-end c = search needs
 
-write-all-requires : tie.Need-write-all-requires Inv-loop μ-loop
-write-all-requires c κs = search needs
+print-requires : tie.Need-print-requires Inv-loop μ-loop
+print-requires c κs = search needs
 
-returns : tie.Need-returns Inv-loop μ-loop
-returns c = search needs
+returns-2 : tie.Need-returns-2 Inv-loop μ-loop
+returns-2 c = search needs
 
 pub print-size-spec : {M : Type 1} → statement M
 print-size-spec =
@@ -89,14 +92,15 @@ print-size-spec =
     part-print-waiting-start
     part-print-waiting-end
     print-waiting-requires
+    returns
     slice-aggregate-put-line
     put-line-requires
     add-next
     next-requires-2
     loop-less
     loop-again
-    sub-write-all
-    part-write-all-start
-    part-write-all-end
-    write-all-requires
-    returns)
+    sub-print
+    part-print-start
+    part-print-end
+    print-requires
+    returns-2)

@@ -17,6 +17,9 @@ loop-holds c = search needs
 print-size-requires : tie.Need-print-size-requires Inv-loop μ-loop
 print-size-requires c κs = search needs
 
+returns : tie.Need-returns Inv-loop μ-loop
+returns c = search needs
+
 add-size : tie.Need-add-size Inv-loop μ-loop
 add-size c = search needs
 
@@ -26,10 +29,19 @@ loop-less c = search needs
 loop-again : tie.Need-loop-again Inv-loop μ-loop
 loop-again c = search needs
 
-returns : tie.Need-returns Inv-loop μ-loop
-returns c = search needs
+returns-2 : tie.Need-returns-2 Inv-loop μ-loop
+returns-2 c = search needs
 
 pub print-sizes-spec : {M : Type 1} → statement M
 print-sizes-spec =
     tie.close
-    (tie.spec Inv-loop μ-loop loop-holds print-size-requires add-size loop-less loop-again returns)
+    (tie.spec
+    Inv-loop
+    μ-loop
+    loop-holds
+    print-size-requires
+    returns
+    add-size
+    loop-less
+    loop-again
+    returns-2)
