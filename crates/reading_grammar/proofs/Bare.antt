@@ -151,7 +151,7 @@ found-float64 an b n = found-float an 0x48 8 b (float (floatOf binary64 (uint b)
 
 -- ---- the scalars that have a length and a body
 
-usual : (t n : ℕ) → eqb t 15 ≡ false → eqb t 1 ≡ false → eqb t 4 ≡ false → eqb t 14 ≡ false → eqb t 13 ≡ false → eqb t 3 ≡ false → eqb t 6 ≡ false → Usual t n
+pub usual : (t n : ℕ) → eqb t 15 ≡ false → eqb t 1 ≡ false → eqb t 4 ≡ false → eqb t 14 ≡ false → eqb t 13 ≡ false → eqb t 3 ≡ false → eqb t 6 ≡ false → Usual t n
 usual t n a b c d e f g = record { shortly = λ lt. rw (a, b, c, d); at-length = rw (a, b, c, d); framed = b; plain = rw e; short-fits = rw (f, g, d, e); long-fits = rw (f, g, d, e) }
 
 -- negative zero has no body
@@ -260,7 +260,7 @@ module _ (an : List ℕ) (kind : ℕ) (h body : List ℕ) (v : Value) (t : IonTy
     (type : containerType kind ≡ t) (events : (name : Option ℕ) → treeEvents name v ≡ begins name an t ∷ (es ++ (ends ∷ []))) (depth-is : treeDepth v ≡ 1 + d)
     (headed : HeaderFound kind h body)
     (inner : (u : List ℕ) (start f depth : ℕ) → Rest u start body → length body < f → depth + d ≤ 32 → walkFrom f u kind 0 depth start ≡ shows es) where
-  found-container : BareFound (h ++ body) an v
+  unfoldable pub found-container : BareFound (h ++ body) an v
   found-container = record {
     kind = kind;
     header = h;
@@ -277,7 +277,7 @@ module _ (an : List ℕ) (kind : ℕ) (h body : List ℕ) (v : Value) (t : IonTy
     walks = λ u start f depth name r lt le. rw (k .begun, type, inner u start f (depth + 1) r lt (omega arith), events name);
   }
 
-found-list : (an h body : List ℕ) (vs : Members Scalar) → Header listCode (length body) h → MembersFound body vs → BareFound (h ++ body) an (sequence an list vs)
+unfoldable pub found-list : (an h body : List ℕ) (vs : Members Scalar) → Header listCode (length body) h → MembersFound body vs → BareFound (h ++ body) an (sequence an list vs)
 unfolding treeEvents treeDepth
 found-list an h body vs hd ih =
     let k = first hd in
@@ -288,7 +288,7 @@ found-list an h body vs hd ih =
     (λ out s at r start stop p q y. plain-header out body r start stop hd (usual 11 (length body) refl refl refl refl refl refl refl) p q y)
     (λ u start f depth r lt le. ih f u (getD h 0 0) 0 depth start (rw (lt-leb 0xD0 (getD h 0 0) (omega arith))) (ne-eqb (getD h 0 0) 0 (λ e. omega arith)) (ne-eqb (getD h 0 0) 0xD1 (λ e. omega arith)) r lt le)
 
-found-sexp : (an h body : List ℕ) (vs : Members Scalar) → Header sexpCode (length body) h → MembersFound body vs → BareFound (h ++ body) an (sequence an sexp vs)
+unfoldable pub found-sexp : (an h body : List ℕ) (vs : Members Scalar) → Header sexpCode (length body) h → MembersFound body vs → BareFound (h ++ body) an (sequence an sexp vs)
 unfolding treeEvents treeDepth
 found-sexp an h body vs hd ih =
     let k = first hd in
@@ -304,7 +304,7 @@ found-sequence an h body list vs hd ih = found-list an h body vs hd ih
 found-sequence an h body sexp vs hd ih = found-sexp an h body vs hd ih
 
 -- a struct, sorted or not, by its type byte
-struct-found : (an : List ℕ) (kind : ℕ) (h body : List ℕ) (fs : Fields Scalar) → 0 < length h → getD h 0 0 ≡ kind → 0xD0 ≤ kind → kind < 0xDF
+unfoldable pub struct-found : (an : List ℕ) (kind : ℕ) (h body : List ℕ) (fs : Fields Scalar) → 0 < length h → getD h 0 0 ≡ kind → 0xD0 ≤ kind → kind < 0xDF
     → HeaderFound kind h body
     → (isSorted kind ≡ true → sorted 0 fs ≡ true) → FieldsFound body fs → BareFound (h ++ body) an (struct an fs)
 unfolding treeEvents treeDepth
@@ -314,10 +314,10 @@ struct-found an kind h body fs pos byte lo hi headed up ih =
     headed
     (λ u start f depth r lt le. ih f u kind 0 depth start (rw (le-leb 0xD0 kind lo, lt-ltb kind 0xDF hi)) (ne-eqb kind 0 (λ e. omega arith)) up r lt le)
 
-struct-usual : (n : ℕ) → n ≢ 1 → Usual 13 n
+pub struct-usual : (n : ℕ) → n ≢ 1 → Usual 13 n
 struct-usual n ne = let z : eqb n 1 ≡ false = ne-eqb n 1 ne in record { shortly = λ lt. refl; at-length = refl; framed = refl; plain = z; short-fits = rw z; long-fits = rw z }
 
-pub found-struct : (an h body : List ℕ) (fs : Fields Scalar) → Header structCode (length body) h → length body ≢ 1 → FieldsFound body fs → BareFound (h ++ body) an (struct an fs)
+unfoldable pub found-struct : (an h body : List ℕ) (fs : Fields Scalar) → Header structCode (length body) h → length body ≢ 1 → FieldsFound body fs → BareFound (h ++ body) an (struct an fs)
 found-struct an h body fs hd ne ih =
     let k = first hd in
     let no : getD h 0 0 ≢ 0xD1 = λ e. k .not-one ne (omega (arith, k .is)) in
@@ -325,7 +325,7 @@ found-struct an h body fs hd ne ih =
     (λ out s at r start stop p q y. plain-header out body r start stop hd (struct-usual (length body) ne) p q y)
     (λ e. contrary (ne-eqb (getD h 0 0) 0xD1 no) e) ih
 
-pub found-sorted : (an l body : List ℕ) (fs : Fields Scalar) → VarUInt l (length body) → 0 < length body → length body ≢ 1 → sorted 0 fs ≡ true → FieldsFound body fs → BareFound (0xD1 ∷ (l ++ body)) an (struct an fs)
+unfoldable pub found-sorted : (an l body : List ℕ) (fs : Fields Scalar) → VarUInt l (length body) → 0 < length body → length body ≢ 1 → sorted 0 fs ≡ true → FieldsFound body fs → BareFound (0xD1 ∷ (l ++ body)) an (struct an fs)
 found-sorted an l body fs v pos ne up ih =
     struct-found an 0xD1 (0xD1 ∷ l) body fs (omega arith) refl (omega arith) (omega arith)
     (λ out s at r start stop p q y. sorted-header out l body r start stop v (omega arith) (omega arith) q y)

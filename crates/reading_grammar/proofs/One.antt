@@ -53,10 +53,10 @@ pub record OneFound (b : List ℕ) (v : Value) : Type 0 where
 
 -- ---- without a wrapper
 
-marker-not : (k : ℕ) → isMarker k ≡ false → k ≢ 0xE0
+pub marker-not : (k : ℕ) → isMarker k ≡ false → k ≢ 0xE0
 marker-not k e q = contrary e (eq-eqb k 0xE0 q)
 
-pub one-bare : (b : List ℕ) (v : Value) → BareFound b [] v → OneFound b v
+unfoldable pub one-bare : (b : List ℕ) (v : Value) → BareFound b [] v → OneFound b v
 unfolding sidsOf varUInts
 one-bare b v w = record {
   an = [];
@@ -83,7 +83,7 @@ one-bare b v w = record {
 
 -- ---- in a wrapper
 
-wrapper-usual : (n : ℕ) → 3 ≤ n → Usual 14 n
+pub wrapper-usual : (n : ℕ) → 3 ≤ n → Usual 14 n
 wrapper-usual n h =
     let z : eqb n 0 ≡ false = ne-eqb n 0 (λ q. omega arith) in
     let y : ltb n 3 ≡ false = le-ltb n 3 h in
@@ -96,7 +96,7 @@ sids-pos (b ∷ bs) e = omega arith
 
 module _ (h l n b an : List ℕ) (a : ℕ) (v : Value) (hd : Header annotationCode (length (l ++ (n ++ b))) h) (e : VarUInt l (length n)) (k : sidsOf n ≡ some (a ∷ an)) (w : BareFound b (a ∷ an) v) where
   -- the wrapper's body, of which t is the end: its value is found
-  wrapped-found : (t : List ℕ) (at from to start stop : ℕ) → from ≡ at + length l → to ≡ from + length n → start ≡ to + length (w .header) → stop ≡ start + length (w .body) → length t ≡ stop
+  pub wrapped-found : (t : List ℕ) (at from to start stop : ℕ) → from ≡ at + length l → to ≡ from + length n → start ≡ to + length (w .header) → stop ≡ start + length (w .body) → length t ≡ stop
       → Rest t at (l ++ (n ++ b)) → wrappedAt t at ≡ W.Is from to (w .kind) start stop
   unfolding wrappedAt
   wrapped-found t at from to start stop p q i j len x =
@@ -116,16 +116,16 @@ module _ (h l n b an : List ℕ) (a : ℕ) (v : Value) (hd : Header annotationCo
         eq-eqb stop (length t) (sym len),
       )
 
-  wrapper-size : 3 ≤ length (l ++ (n ++ b))
+  pub wrapper-size : 3 ≤ length (l ++ (n ++ b))
   wrapper-size = omega (arith, length-append l (n ++ b), length-append n b, ap length (w .joins), length-append (w .header) (w .body), varUInt-pos l e, sids-pos n k, w .pos)
 
-  wrapper-byte : isWrapper (getD h 0 0) ≡ true
+  pub wrapper-byte : isWrapper (getD h 0 0) ≡ true
   wrapper-byte = let f = first hd in let z = f .not-zero (λ q. omega (arith, wrapper-size)) in K.wrapper (getD h 0 0) (omega (arith, f .is, z)) (omega (arith, f .is, f .small))
 
-  byte-first : (m : List ℕ) → getD (h ++ m) 0 0 ≢ 0xE0
+  pub byte-first : (m : List ℕ) → getD (h ++ m) 0 0 ≢ 0xE0
   byte-first m q = let f = first hd in f .not-zero (λ u. omega (arith, wrapper-size)) (omega (arith, f .is, sym (List·getD-append h m 0 0 (header-pos hd)) ∙ q))
 
-  pub one-wrapped : OneFound (h ++ (l ++ (n ++ b))) v
+  unfoldable pub one-wrapped : OneFound (h ++ (l ++ (n ++ b))) v
   one-wrapped = record {
     an = a ∷ an;
     names = n;

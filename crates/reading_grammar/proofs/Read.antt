@@ -43,17 +43,17 @@ use Rattle.reading_grammar.proofs.Values.{refused-not-whole, then-whole
 
 -- ---- bodies
 
-rest-unique : {s : List ℕ} {at : ℕ} {b c : List ℕ} → Rest s at b → Rest s at c → b ≡ c
+pub rest-unique : {s : List ℕ} {at : ℕ} {b c : List ℕ} → Rest s at b → Rest s at c → b ≡ c
 rest-unique x y = sym (x .is) ∙ y .is
 
 higher-both : (m n k : ℕ) → k + m ≤ 32 → k + n ≤ 32 → k + higher m n ≤ 32
 higher-both m n k p q = by-cases (leb m n) (λ e. rw e q) (λ e. rw e p)
 
-nothing-left : {s : List ℕ} {at : ℕ} (b : List ℕ) → Rest s at b → at ≡ length s → b ≡ []
+pub nothing-left : {s : List ℕ} {at : ℕ} (b : List ℕ) → Rest s at b → at ≡ length s → b ≡ []
 nothing-left [] x e = refl
 nothing-left (a ∷ b) x e = absurd (omega (arith, rest-length x))
 
-number-same : {v w m n : ℕ} → N.Is v m ≡ N.Is w n → (v ≡ w) × (m ≡ n)
+pub number-same : {v w m n : ℕ} → N.Is v m ≡ N.Is w n → (v ≡ w) × (m ≡ n)
 number-same e = (cc, cc)
 
 -- the members from an item on, given those behind it

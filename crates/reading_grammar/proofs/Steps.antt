@@ -41,7 +41,7 @@ not-deep : (k depth d : ℕ) → (opens k ≡ true → 0 < d) → depth + d ≤ 
 not-deep k depth d g h = by-cases (opens k) (λ p. let z : 0 < d = g p in rw (p, lt-leb 32 depth (omega arith))) (λ p. rw p)
 
 module _ (s : List ℕ) (parent least depth at name next : ℕ) (b : List ℕ) (v : Value) (r : List ℕ) (w : OneFound b v) (inside : at < length s) (named : nameAt s parent at ≡ N.Is name next)
-    (x : Rest s next (b ++ r)) (rises : (isSorted parent && ltb name least) ≡ false) (shallow : depth + treeDepth v ≤ 32)
+    (x : Rest s next (b ++ r)) (rises : (isSorted parent && ltb name least) ≡ false)
     (from to start stop : ℕ) (p : from ≡ next + length (w .x)) (q : to ≡ from + length (w .names)) (i : start ≡ to + length (w .y)) (j : stop ≡ start + length (w .body)) where
   apart : Rest s next (w .x ++ (w .names ++ (w .y ++ (w .body ++ r))))
   apart = simp append-assoc at (rw (w .joins) at x)
@@ -49,18 +49,19 @@ module _ (s : List ℕ) (parent least depth at name next : ℕ) (b : List ℕ) (
   sids-slice : slice from to s ≡ w .names
   sids-slice = rest-slice (w .names) (w .y ++ (w .body ++ r)) to q (rest-next (w .x) (w .names ++ (w .y ++ (w .body ++ r))) from p apart)
 
-  body-here : Rest s start (w .body ++ r)
+  pub body-here : Rest s start (w .body ++ r)
   body-here = rest-next (w .y) (w .body ++ r) start i (rest-next (w .names) (w .y ++ (w .body ++ r)) to q (rest-next (w .x) (w .names ++ (w .y ++ (w .body ++ r))) from p apart))
 
-  body-slice : slice start stop s ≡ w .body
+  pub body-slice : slice start stop s ≡ w .body
   body-slice = rest-slice (w .body) r stop j body-here
 
   first-byte : eqb (getD s next 0) 0xE0 ≡ false
   first-byte = ne-eqb (getD s next 0) 0xE0 (λ e. w .byte (sym (front-byte (w .x) (w .names ++ (w .y ++ (w .body ++ r))) (w .pos) apart) ∙ e))
 
-  item-found : itemAt s parent least depth at ≡ I.Is name from to (w .kind) start stop
+  -- the item, where one more container may be open
+  pub item-placed : (opens (w .kind) && leb 32 depth) ≡ false → itemAt s parent least depth at ≡ I.Is name from to (w .kind) start stop
   unfolding itemAt
-  item-found =
+  item-placed low =
       rw (
         le-ltb (length s) at (omega arith),
         ne-eqb at (length s) (λ e. omega arith),
@@ -71,13 +72,20 @@ module _ (s : List ℕ) (parent least depth at name next : ℕ) (b : List ℕ) (
         w .good,
         w .pad,
         rises,
-        not-deep (w .kind) depth (treeDepth v) (w .deep) shallow,
+        low,
       )
+
+module _ (s : List ℕ) (parent least depth at name next : ℕ) (b : List ℕ) (v : Value) (r : List ℕ) (w : OneFound b v) (inside : at < length s) (named : nameAt s parent at ≡ N.Is name next)
+    (x : Rest s next (b ++ r)) (rises : (isSorted parent && ltb name least) ≡ false) (shallow : depth + treeDepth v ≤ 32)
+    (from to start stop : ℕ) (p : from ≡ next + length (w .x)) (q : to ≡ from + length (w .names)) (i : start ≡ to + length (w .y)) (j : stop ≡ start + length (w .body)) where
+  item-found : itemAt s parent least depth at ≡ I.Is name from to (w .kind) start stop
+  item-found = item-placed s parent least depth at name next b v r w inside named x rises from to start stop p q i j (not-deep (w .kind) depth (treeDepth v) (w .deep) shallow)
 
   item-walks : (f : ℕ) → length b ≤ f → itemWalk (λ t k l d m. walkFrom f t k l d m) s parent depth name from to (w .kind) start stop ≡ shows (treeEvents (nameIn parent name) v)
   item-walks f h =
       let lt : length (w .body) < f = omega (arith, ap length (w .joins), length-append (w .x) (w .names ++ (w .y ++ w .body)), length-append (w .names) (w .y ++ w .body), length-append (w .y) (w .body), w .pos) in
-      rw (sids-slice, w .known, body-slice) (w .walks (take stop s) start f depth (nameIn parent name) (rest-within (w .body) r stop j body-here) lt shallow)
+      rw (sids-slice s parent least depth at name next b v r w inside named x rises from to start stop p q i j, w .known, body-slice s parent least depth at name next b v r w inside named x rises from to start stop p q i j)
+      (w .walks (take stop s) start f depth (nameIn parent name) (rest-within (w .body) r stop j (body-here s parent least depth at name next b v r w inside named x rises from to start stop p q i j)) lt shallow)
 
   pub step-value : (f : ℕ) (es : List Event) → length b ≤ f → walkFrom f s parent name depth stop ≡ shows es → walkFrom (suc f) s parent least depth at ≡ shows (treeEvents (nameIn parent name) v ++ es)
   unfolding walkFrom
@@ -98,7 +106,7 @@ module _ (s : List ℕ) (parent least depth at name next : ℕ) (b r : List ℕ)
   pad-byte : eqb (getD s next 0) 0xE0 ≡ false
   pad-byte = ne-eqb (getD s next 0) 0xE0 (λ e. let h : w .kind < 15 = ltb-true (w .kind) 15 (w .is .pad) in omega (arith, front-byte b r (w .pos) x, w .byte, h))
 
-  pad-item : itemAt s parent least depth at ≡ I.Is name (next + w .size) (next + w .size) (w .kind) (next + w .size) stop
+  pub pad-item : itemAt s parent least depth at ≡ I.Is name (next + w .size) (next + w .size) (w .kind) (next + w .size) stop
   unfolding itemAt
   pad-item =
       rw (
@@ -119,7 +127,7 @@ module _ (s : List ℕ) (parent least depth at name next : ℕ) (b r : List ℕ)
 
 -- ---- a version marker, which only a stream has
 
-marker-item : {s : List ℕ} {at : ℕ} (least depth : ℕ) (b : List ℕ) → Rest s at (0xE0 ∷ 0x01 ∷ 0x00 ∷ 0xEA ∷ b)
+pub marker-item : {s : List ℕ} {at : ℕ} (least depth : ℕ) (b : List ℕ) → Rest s at (0xE0 ∷ 0x01 ∷ 0x00 ∷ 0xEA ∷ b)
     → itemAt s 0 least depth at ≡ I.Is 0 (at + 1 + 1 + 1 + 1) (at + 1 + 1 + 1 + 1) 0xE0 (at + 1 + 1 + 1 + 1) (at + 1 + 1 + 1 + 1)
 unfolding itemAt topHeaderAt markerAt marked
 marker-item {s} {at} least depth b x =

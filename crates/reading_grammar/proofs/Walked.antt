@@ -58,7 +58,7 @@ walk-ends (suc f) s parent least depth at x h = rw (le-ltb (length s) at (omega 
 
 -- ---- one item
 
-one-length : {b : List ℕ} {v : Value} → OneFound b v → 0 < length b
+pub one-length : {b : List ℕ} {v : Value} → OneFound b v → 0 < length b
 one-length {b} w = omega (arith, ap length (w .joins), length-append (w .x) (w .names ++ (w .y ++ w .body)), w .pos)
 
 -- a value behind its name, and all that follows
@@ -80,7 +80,7 @@ pad-step f s parent least depth at name next p b es w inside named x rest =
 
 -- ---- members
 
-no-name : (s : List ℕ) (parent at : ℕ) → hasNames parent ≡ false → nameAt s parent at ≡ N.Is 0 at
+pub no-name : (s : List ℕ) (parent at : ℕ) → hasNames parent ≡ false → nameAt s parent at ≡ N.Is 0 at
 no-name s parent at e = rw e
 
 found-members-pad : (p b : List ℕ) (vs : Members Scalar) → PadFound p → MembersFound b vs → MembersFound (p ++ b) vs
@@ -100,7 +100,7 @@ found-members-next p b v vs w ih (suc f) s parent least depth at n t u x lt le =
 
 -- ---- fields
 
-name-found : (s : List ℕ) (parent at k next : ℕ) (l r : List ℕ) → hasNames parent ≡ true → VarUInt l k → next ≡ at + length l → Rest s at (l ++ r) → nameAt s parent at ≡ N.Is k next
+pub name-found : (s : List ℕ) (parent at k next : ℕ) (l r : List ℕ) → hasNames parent ≡ true → VarUInt l k → next ≡ at + length l → Rest s at (l ++ r) → nameAt s parent at ≡ N.Is k next
 name-found s parent at k next l r n e p x = rw (n, number-found NotIon l r next e p x)
 
 found-fields-pad : (l p b : List ℕ) (k : ℕ) (fs : Fields Scalar) → VarUInt l k → PadFound p → FieldsFound b fs → FieldsFound (l ++ (p ++ b)) fs
@@ -110,7 +110,7 @@ found-fields-pad l p b k fs e w ih (suc f) s parent least depth at n t u x lt le
     pad-step f s parent least depth at k (at + length l) p b (fieldEvents fs) w (omega (arith, rest-length x, w .pos)) (name-found s parent at k (at + length l) l (p ++ b) n e refl x) (rest-next l (p ++ b) (at + length l) refl x)
     (λ y. ih f s parent least depth (at + length l + length p) n t u y (omega (arith, w .pos)) le)
 
-rises : (parent least k : ℕ) (fs : Fields Scalar) (v : Value) → (isSorted parent ≡ true → sorted least (field k v fs) ≡ true) → (isSorted parent && ltb k least) ≡ false
+pub rises : (parent least k : ℕ) (fs : Fields Scalar) (v : Value) → (isSorted parent ≡ true → sorted least (field k v fs) ≡ true) → (isSorted parent && ltb k least) ≡ false
 rises parent least k fs v u =
     by-cases (isSorted parent)
     (λ p. let q = both {a = leb least k} (u p) in rw (p, le-ltb k least (leb-true least k (q .0))))

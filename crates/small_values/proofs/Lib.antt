@@ -3,3 +3,4 @@ pub mod Numbers
 pub mod Yields
 pub mod Steps
 pub mod Filled
+pub mod Listed
