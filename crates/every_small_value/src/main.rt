@@ -36,7 +36,10 @@ fn print(text: &[u8]) -> bool {
     if io::write_all(STDOUT_FILENO, text) {
         return true;
     }
-    io::write_all(STDERR_FILENO, b"the list is not whole: it can't be written\n");
+    io::write_all(
+        STDERR_FILENO,
+        b"the list is not whole: it can't be written\n",
+    );
     false
 }
 

@@ -4,3 +4,4 @@ pub mod Yields
 pub mod Steps
 pub mod Filled
 pub mod Listed
+pub mod Examples

@@ -8,7 +8,8 @@ use mathlib.Core.Option.{Option}
 use mathlib.Core.List.{List, [], _∷_, map}
 use Rattle.ion.specs.Value.{ionNull, nullCode, list, Scalar, null, scalar, sequence, noMembers, member, Item, value}
 use Rattle.ion.specs.Fields.{bigEndian, groups, varUInt, varUInts, varInt}
-use Rattle.ion.specs.Scalars.{areFields, fractionAt, timestampOf, scalarOf}
+use Rattle.ion.specs.Text.{begun, utf8From, utf8}
+use Rattle.ion.specs.Scalars.{decimalOf, areFields, fractionAt, timestampOf, scalarOf}
 use Rattle.ion.specs.Grammar.{short, Reads, pad, is-null, is-sequence, is-bare, members-end, members-pad, members-next, stream-end, stream-next}
 use Rattle.mark.specs.OutOfCalendar.{outOfCalendar}
 use Rattle.reading.specs.Headers.{varUIntFrom, varUIntAt, headerAt, marked, markerAt, topHeaderAt}
@@ -22,11 +23,11 @@ use Rattle.unpadded_grammar.proofs.Depth.{shallow}
 use Rattle.unpadded_grammar.proofs.Exact.{found-is-one, one-is-found, same-pads}
 
 -- the whole of the definition, to be unfolded by two names
-unfoldable scalarWhole : ℕ → List ℕ → Option Scalar
-unfolding scalarIn bodyOf codeFrom scalarOf bigEndian timestampOf areFields fractionAt varInt varUInts varUInt groups
+unfoldable pub scalarWhole : ℕ → List ℕ → Option Scalar
+unfolding scalarIn bodyOf codeFrom scalarOf bigEndian decimalOf timestampOf areFields fractionAt varInt varUInts varUInt groups utf8 utf8From begun
 scalarWhole k b = scalarIn k b
 
-unfoldable ruleWhole : List ℕ → Bool
+unfoldable pub ruleWhole : List ℕ → Bool
 unfolding isOneValue unpaddedFrom itemAt wrappedAt sidsOf headerAt topHeaderAt markerAt marked varUIntAt varUIntFrom outOfCalendar
 ruleWhole s = isOneValue s
 
