@@ -3,3 +3,4 @@ pub mod Ints
 pub mod Parts
 pub mod Sids
 pub mod Steps
+pub mod Fuel

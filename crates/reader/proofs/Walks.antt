@@ -2,7 +2,6 @@
 -- Assumes nothing.
 use Prim.Native.Nat.{ℕ, zero, suc, _+_, _-_, _≤_, _<_}
 use native.Mathlib.Omega.{arith}
-use native.Mathlib.Numerals.{sub-one}
 use mathlib.Core.Path.{_≡_, refl, sym, _∙_, ap}
 use mathlib.Core.Bool.{Bool, true, false, cond}
 use mathlib.Core.List.{List, [], _∷_}
@@ -22,6 +21,7 @@ use Rattle.reading.specs.Scalars.{sidsOf}
 use Rattle.reading.specs.Walk.{Event, ends, Walk, before, nameIn, annotations, leafWalk, _andThen_, shows, containerWalk, stepWalk, walkFrom}
 use Rattle.read_items.specs.Ints.{intEnd}
 use Rattle.read_items.proofs.Bounds.{item-bounds}
+use Rattle.read_items.proofs.Fuel.{fuelled}
 use Rattle.read_items.proofs.Ints.{IntItem, int-item}
 use Rattle.reader.specs.Values.{past, valueFrom, valueAt}
 
@@ -74,10 +74,6 @@ unfolding walkFrom valueAt
 walk-ends f s parent least depth at = step-ends f s parent least depth at (itemAt s parent least depth at)
 
 -- ---- the walk from a place, for any fuel above none
-
-fuelled : (P : ℕ → Type 0) (f : ℕ) → 1 ≤ f → ((g : ℕ) → f - 1 ≡ g → P (suc g)) → P f
-fuelled P zero h k = absurd (omega arith)
-fuelled P (suc f) h k = k f (sub-one (suc f))
 
 module _ (f : ℕ) (some : 1 ≤ f) (s : List ℕ) (parent least depth at : ℕ) where
   pub walk-at-end : at ≡ length s → R.Whole ≡ walkFrom f s parent least depth at .1

@@ -2,7 +2,6 @@
 -- Assumes nothing.
 use Prim.Native.Nat.{ℕ, zero, suc, _+_, _-_, _≤_, _<_}
 use native.Mathlib.Omega.{arith}
-use native.Mathlib.Numerals.{sub-one}
 use mathlib.Core.Path.{_≡_, refl}
 use mathlib.Core.Bool.{Bool, true, false, not}
 use mathlib.Core.List.{List, [], _∷_}
@@ -18,11 +17,8 @@ use Rattle.reading.specs.Items.{isPad, opens, itemAt}
 use Rattle.reading.specs.Scalars.{scalarIn}
 use Rattle.reading.specs.Bodies.{markIn}
 use Rattle.reading.proofs.Item.{the-type}
+use Rattle.read_items.proofs.Fuel.{fuelled}
 use Rattle.unpadded.specs.Rule.{stepIs, unpaddedFrom, contentBy, isWhole, isOneValue}
-
-fuelled : (P : ℕ → Type 0) (f : ℕ) → 1 ≤ f → ((g : ℕ) → f - 1 ≡ g → P (suc g)) → P f
-fuelled P zero h k = absurd (omega arith)
-fuelled P (suc f) h k = k f (sub-one (suc f))
 
 -- the variants that are no item
 stops-at : (go : List ℕ → ℕ → ℕ → ℕ → ℕ → Bool) (s : List ℕ) (parent least depth : ℕ) (i : Item) → OneOf (1 ∷ 2 ∷ []) (tagOf the-type i) → false ≡ stepIs go s parent least depth i
