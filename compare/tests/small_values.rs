@@ -92,6 +92,52 @@ fn counts() {
     assert_eq!(LIST.len(), 422_481);
 }
 
+/// The file that the program in crates/ is held to at every check.
+#[test]
+fn the_file_of_two_bytes_at_most() {
+    let short: Vec<Vec<u8>> = LIST.iter().filter(|value| value.len() <= 2).cloned().collect();
+    assert!(include_str!("../../crates/every_small_value/stdout") == printed(&short));
+}
+
+fn grouped(number: usize) -> String {
+    match number {
+        0..1000 => number.to_string(),
+        _ => format!("{},{:03}", grouped(number / 1000), number % 1000),
+    }
+}
+
+/// How many of one to three bytes: a row of the page, where none is an empty cell.
+fn row(name: &str, is_of: impl Fn(&[u8]) -> bool) -> String {
+    let count = |length: usize| LIST.iter().filter(|value| value.len() == length && is_of(value)).count();
+    let cell = |length: usize| match count(length) {
+        0 => " |".to_string(),
+        count => format!(" {} |", grouped(count)),
+    };
+    format!("| {name} |{}{}{}", cell(1), cell(2), cell(3))
+}
+
+#[test]
+fn the_page() {
+    let page = include_str!("../../docs/SMALL-VALUES.md");
+    let has = |line: &str| page.lines().any(|other| other == line);
+    let (int, negative) = ("int, positive or zero", "int, negative");
+    let names = [
+        "null (`0f`)", "bool", int, negative, "float", "decimal", "timestamp", "symbol", "string", "clob", "blob", "list",
+        "s-expression", "struct",
+    ];
+    for (code, name) in names.into_iter().enumerate() {
+        let row = row(name, |value| usize::from(value[0] >> 4) == code);
+        assert!(has(&row), "{row}");
+    }
+    assert!(has(&row("all", |_| true)));
+    let known_offset = |value: &[u8]| value.len() == 3 && value[0] == 0x62 && value[1] != 0xc0;
+    let offsets = LIST.iter().filter(|value| known_offset(value)).count();
+    let others = (1 << 24) + (1 << 16) + (1 << 8) + 1 - LIST.len();
+    for number in [LIST.len(), printed(&LIST).len(), offsets, others] {
+        assert!(page.contains(&grouped(number)), "{number}");
+    }
+}
+
 #[test]
 fn shorter_first_then_by_bytes_and_none_twice() {
     let ordered = |pair: &[Vec<u8>]| (pair[0].len(), &pair[0]) < (pair[1].len(), &pair[1]);
