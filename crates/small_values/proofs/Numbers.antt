@@ -2,7 +2,8 @@
 -- Assumes nothing.
 use Prim.Native.Nat.{ℕ, zero, suc, _+_, _*_, _/_, _%_, _^_, _<_, _≤_}
 use native.Mathlib.Omega.{arith}
-use native.Mathlib.Nat.{div-add-mod', mod-lt, div-lt-iff-lt-mul, div-eq-of-lt-le, mul-add-mod-self-right, mod-eq-of-lt, pow-zero, pow-suc, mul-assoc, mul-comm, mul-le-mul-right}
+use native.Mathlib.Nat.{div-add-mod', mod-lt, div-lt-iff-lt-mul, div-eq-of-lt-le, mul-add-mod-self-right, mod-eq-of-lt}
+use native.Mathlib.Nat.{pow-zero, pow-suc, mul-assoc, mul-comm, mul-le-mul-right}
 use mathlib.Core.Path.{_≡_, refl, sym, _∙_, ap}
 use mathlib.Core.Logic.{_⊎_, inl, inr, ⊎-elim}
 use mathlib.Core.Bool.{Bool, true, false, false≢true, _&&_, _||_}

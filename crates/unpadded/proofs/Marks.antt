@@ -78,7 +78,8 @@ null-unmarked : (t : Option IonType) → markIn (t >>= λ t. some (null t)) ≡ 
 null-unmarked none = refl
 null-unmarked (some t) = refl
 
-code-unmarked : (c : TypeCode) (l : ℕ) (b : List ℕ) (isNull : Bool) → (isNull ≡ false → highBits c ≢ 6) → markIn (cond isNull (nullType c >>= λ t. some (null t)) (bodyOf c l b)) ≡ false
+code-unmarked : (c : TypeCode) (l : ℕ) (b : List ℕ) (isNull : Bool) → (isNull ≡ false → highBits c ≢ 6)
+    → markIn (cond isNull (nullType c >>= λ t. some (null t)) (bodyOf c l b)) ≡ false
 code-unmarked c l b true h = null-unmarked (nullType c)
 code-unmarked c l b false h = body-unmarked c l b (h refl)
 

@@ -21,7 +21,8 @@ use Rattle.read_items.proofs.Fuel.{fuelled}
 use Rattle.unpadded.specs.Rule.{stepIs, unpaddedFrom, contentBy, isWhole, isOneValue}
 
 -- the variants that are no item
-stops-at : (go : List ℕ → ℕ → ℕ → ℕ → ℕ → Bool) (s : List ℕ) (parent least depth : ℕ) (i : Item) → OneOf (1 ∷ 2 ∷ []) (tagOf the-type i) → false ≡ stepIs go s parent least depth i
+stops-at : (go : List ℕ → ℕ → ℕ → ℕ → ℕ → Bool) (s : List ℕ) (parent least depth : ℕ) (i : Item)
+    → OneOf (1 ∷ 2 ∷ []) (tagOf the-type i) → false ≡ stepIs go s parent least depth i
 stops-at go s parent least depth I.End k = refl
 stops-at go s parent least depth (I.No r) k = refl
 stops-at go s parent least depth (I.Is name from to b start stop) k = absurd (⊎-elim (λ e. omega arith) (λ e. omega arith) k)

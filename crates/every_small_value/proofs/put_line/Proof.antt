@@ -53,7 +53,11 @@ add-end c = omega (arith, counted (c .before .before))
 slice-write-out : tie.Need-slice-write-out
 slice-write-out c =
     let d = c .before .before in let k = d .before .before .before .before .before .before .before in let a = k .args in
-    omega (arith, counted d, kept (a .out .now) (a .at) (a .size) (a .number) (d .put .result) (d .put .last .0) _ (k .pre .0) (k .pre .1) (spelled d) (d .put .ensures .0))
+    omega (
+      arith,
+      counted d,
+      kept (a .out .now) (a .at) (a .size) (a .number) (d .put .result) (d .put .last .0) _ (k .pre .0) (k .pre .1) (spelled d) (d .put .ensures .0),
+    )
 
 add-result : tie.Need-add-result
 add-result c = omega (arith, counted (c .before .before))
@@ -63,8 +67,10 @@ same-length c = search needs
 
 returns : tie.Need-returns
 returns c =
-    let d = c .before .before in let k = d .before .before .before .before .before .before .before in let a = k .args in
-    (omega (arith, counted d), line (a .out .now) (a .at) (a .size) (a .number) (d .put .result) (d .put .last .0) _ (k .pre .0) (k .pre .1) (spelled d) (d .put .ensures .0))
+    let d = c .before .before in let k = d .before .before .before .before .before .before .before in let a = k .args in (
+      omega (arith, counted d),
+      line (a .out .now) (a .at) (a .size) (a .number) (d .put .result) (d .put .last .0) _ (k .pre .0) (k .pre .1) (spelled d) (d .put .ensures .0),
+    )
 
 pub put-line-spec : {M : Type 1} → statement M
 put-line-spec =

@@ -40,7 +40,8 @@ is-value-requires c κs = asked c
 returns : tie.Need-returns Inv-loop μ-loop
 returns c =
     let d = c .before .before in
-    sym (d .before .loop .inv ∙ next-here (d .before .before .before .args .size) (d .before .loop .number) (below d) (sym (c .before .is-value .ensures) ∙ c .if1 .taken))
+    sym (d .before .loop .inv ∙ next-here (d .before .before .before .args .size) (d .before .loop .number) (below d)
+    (sym (c .before .is-value .ensures) ∙ c .if1 .taken))
 
 add-number : tie.Need-add-number Inv-loop μ-loop
 add-number c = omega arith
@@ -51,7 +52,8 @@ loop-less c = omega arith
 loop-again : tie.Need-loop-again Inv-loop μ-loop
 loop-again c =
     let d = c .before .before in
-    d .before .loop .inv ∙ next-later (d .before .before .before .args .size) (d .before .loop .number) (below d) (sym (c .before .is-value .ensures) ∙ c .if1 .left)
+    d .before .loop .inv ∙ next-later (d .before .before .before .args .size) (d .before .loop .number) (below d)
+    (sym (c .before .is-value .ensures) ∙ c .if1 .left)
 
 returns-2 : tie.Need-returns-2 Inv-loop μ-loop
 returns-2 c =

@@ -60,7 +60,8 @@ content-calls t = (is-container-reads.Asked, is-container-reads.Learnt, body-bel
 abbrev Inv : body-lts.InvT-loop
 Inv s parent least depth at i₀ low₀ i low =
     (at ≤ i) × (i ≤ length s)
-    × ((r : Bool) → ((g : ℕ) → length s - i + 1 ≤ g → r ≡ unpaddedFrom g s parent low depth i) → (f : ℕ) → length s - at + 1 ≤ f → r ≡ unpaddedFrom f s parent least depth at)
+    × ((r : Bool) → ((g : ℕ) → length s - i + 1 ≤ g → r ≡ unpaddedFrom g s parent low depth i)
+    → (f : ℕ) → length s - at + 1 ≤ f → r ≡ unpaddedFrom f s parent least depth at)
 
 abbrev μ-loop : body-lts.MeasureT-loop
 μ-loop s parent least depth at i₀ low₀ i low = length s - i
@@ -77,13 +78,19 @@ abbrev loop-of : (t : ℕ) → Found t → Loop t
 loop-of t c = c .before .before .before .before .before
 
 found-is : (t : ℕ) (c : Found t) → let m = loop-of t c in let a = m .before .before .args in let g = c .before .found .given .0 in
-    itemAt (a .s .now) (a .parent) (m .loop .low) (a .depth) (m .loop .i) ≡ I.Is (g .0) (g .1 .0) (g .1 .1 .0) (g .1 .1 .1 .0) (g .1 .1 .1 .1 .0) (g .1 .1 .1 .1 .1 .0)
+    itemAt (a .s .now) (a .parent) (m .loop .low) (a .depth) (m .loop .i)
+    ≡ I.Is (g .0) (g .1 .0) (g .1 .1 .0) (g .1 .1 .1 .0) (g .1 .1 .1 .1 .0) (g .1 .1 .1 .1 .1 .0)
 found-is t c = sym (c .before .before .before .item .ensures) ∙ c .before .found .given .1
 
 placed : (t : ℕ) (c : Found t) → let m = loop-of t c in let a = m .before .before .args in let g = c .before .found .given .0 in
     Placed (a .s .now) (a .depth) (m .loop .i) (g .0) (g .1 .0) (g .1 .1 .0) (g .1 .1 .1 .0) (g .1 .1 .1 .1 .0) (g .1 .1 .1 .1 .1 .0)
 placed t c = let m = loop-of t c in let a = m .before .before .args in
     item-bounds (a .s .now) (a .parent) (m .loop .low) (a .depth) (m .loop .i) _ _ _ _ _ _ (found-is t c)
+
+-- where the item stands
+bounds : (t : ℕ) (c : Found t) → let m = loop-of t c in let g = c .before .found .given .0 .1 .1 .1 .1 in
+    (m .loop .i < g .0) × (g .0 ≤ g .1 .0) × (g .1 .0 ≤ length (m .before .before .args .s .now))
+bounds t c = let w = placed t c .held in (omega (arith, w .after, w .sids, w .before), w .body, w .within)
 
 inside : (t : ℕ) (c : Found t) → let m = loop-of t c in m .loop .i < length (m .before .before .args .s .now)
 inside t c = omega arith
@@ -116,27 +123,30 @@ body-returns-2 t c =
 
 body-is-content-requires : (t : ℕ) → body-lts.Need-is-content-requires (body-calls t) (body-at t) are-unpadded.Post Inv μ-loop
 body-is-content-requires t c κs =
-    let k = c .before .before in let w = placed t k .held in
-    (omega (arith, w .after, w .sids, w .before, w .body, w .within), (w .body, (w .within, placed t k .room)))
+    let k = c .before .before in let b = bounds t k in
+    (omega (arith, b .0, b .1, b .2), (b .1, (b .2, placed t k .room)))
 
 body-returns-3 : (t : ℕ) → body-lts.Need-returns-3 (body-calls t) (body-at t) are-unpadded.Post Inv μ-loop
 body-returns-3 t c =
-    let e = c .before .before in let k = e .before .before in let m = loop-of t k in let a = m .before .before .args in let w = placed t k .held in
-    m .loop .inv .2 false (λ g h. wrong-content g (omega arith) (a .s .now) (a .parent) (m .loop .low) (a .depth) (m .loop .i) (inside t k) _ _ _ _ _ _ (found-is t k)
+    let e = c .before .before in let k = e .before .before in let m = loop-of t k in let a = m .before .before .args in let b = bounds t k in
+    m .loop .inv .2 false (λ g h.
+    wrong-content g (omega arith) (a .s .now) (a .parent) (m .loop .low) (a .depth) (m .loop .i) (inside t k) _ _ _ _ _ _ (found-is t k)
     (sym (e .before .is-pad .ensures) ∙ e .if1 .left)
-    (sym (not-true _ (c .if2 .taken)) ∙ c .before .is-content .ensures (g - 1) (omega (arith, w .after, w .sids, w .before, w .body, w .within))))
+    (sym (not-true _ (c .if2 .taken)) ∙ c .before .is-content .ensures (g - 1) (omega (arith, b .0, b .1, b .2))))
 
 body-loop-less : (t : ℕ) → body-lts.Need-loop-less (body-calls t) (body-at t) are-unpadded.Post Inv μ-loop
-body-loop-less t c = let w = placed t (c .before .before .before .before) .held in omega (arith, w .after, w .sids, w .before, w .body, w .within)
+body-loop-less t c = let b = bounds t (c .before .before .before .before) in omega (arith, b .0, b .1, b .2)
 
 body-loop-again : (t : ℕ) → body-lts.Need-loop-again (body-calls t) (body-at t) are-unpadded.Post Inv μ-loop
 body-loop-again t c =
-    let e = c .before .before in let k = e .before .before in let m = loop-of t k in let a = m .before .before .args in let w = placed t k .held in (
-      omega (arith, w .after, w .sids, w .before, w .body),
-      w .within,
-      λ r q. m .loop .inv .2 r (λ g h. goes-past g (omega arith) (a .s .now) (a .parent) (m .loop .low) (a .depth) (m .loop .i) (inside t k) _ _ _ _ _ _ (found-is t k)
+    let e = c .before .before in let k = e .before .before in let m = loop-of t k in let a = m .before .before .args in let b = bounds t k in (
+      omega (arith, b .0, b .1),
+      b .2,
+      λ r q. m .loop .inv .2 r (λ g h.
+          goes-past g (omega arith) (a .s .now) (a .parent) (m .loop .low) (a .depth) (m .loop .i) (inside t k) _ _ _ _ _ _ (found-is t k)
           (sym (e .before .is-pad .ensures) ∙ e .if1 .left) r
-          (sym (not-false _ (c .if2 .left)) ∙ c .before .is-content .ensures (g - 1) (omega (arith, w .after, w .sids, w .before, w .body, w .within))) (q (g - 1) (omega (arith, w .after, w .sids, w .before, w .body, w .within)))),
+          (sym (not-false _ (c .if2 .left)) ∙ c .before .is-content .ensures (g - 1) (omega (arith, b .0, b .1, b .2)))
+          (q (g - 1) (omega (arith, b .0, b .1, b .2)))),
     )
 
 body-returns-4 : (t : ℕ) → body-lts.Need-returns-4 (body-calls t) (body-at t) are-unpadded.Post Inv μ-loop
@@ -187,7 +197,8 @@ content-has-mark-requires t c κs = search needs
 content-returns-2 : (t : ℕ) → content-lts.Need-returns-2 (content-calls t) (content-at t) is-content.Post
 content-returns-2 t c = λ f h.
     let e = c .before .before in let k = e .before .before .before in let a = k .args in
-    ap not (c .has-mark .ensures ∙ ap (λ (l : List ℕ). markIn (scalarIn (a .kind) l)) (part-slice (a .s .now) (a .start) (a .stop) (k .pre .1 .0) (k .pre .1 .1 .0)))
+    ap not (c .has-mark .ensures
+    ∙ ap (λ (l : List ℕ). markIn (scalarIn (a .kind) l)) (part-slice (a .s .now) (a .start) (a .stop) (k .pre .1 .0) (k .pre .1 .1 .0)))
     ∙ content-leaf f (a .s .now) (a .depth) (a .kind) (a .start) (a .stop) (sym (e .before .is-container .ensures) ∙ e .if1 .left)
 
 pub +are-unpadded+is-content-spec : {M : Type 1} → statement M

@@ -25,7 +25,8 @@ returns : tie.Need-returns
 returns c =
     let a = c .before .before .before .args in
     let k = both {a = eqb (a .kind / 16) 6} (c .before .if1 .taken) in
-    ap (λ (x : Shown). x .marked) (c .timestamp .ensures) ∙ timestamp-mark (a .kind) (a .body .now) (eqb-true (a .kind / 16) 6 (k .0)) (ltb-true (a .kind % 16) 15 (k .1))
+    ap (λ (x : Shown). x .marked) (c .timestamp .ensures)
+    ∙ timestamp-mark (a .kind) (a .body .now) (eqb-true (a .kind / 16) 6 (k .0)) (ltb-true (a .kind % 16) 15 (k .1))
 
 -- src/lib.rt:23:1
 returns-2 : tie.Need-returns-2
