@@ -28,7 +28,7 @@ firstFrom t (suc k) n x = cond (t (lowDigits 256 n x)) x (firstFrom t k n (x + 1
 abbrev pub nextBy : (List ℕ → Bool) → ℕ → ℕ → ℕ
 nextBy t n x = firstFrom t (limit n - x) n x
 
--- The number of the next small value of n bytes, from x on; the limit where there is none.
+-- The number of the next small value of n bytes, from x on; where there is none, the limit, or x if that is past it.
 unfoldable pub nextOf : ℕ → ℕ → ℕ
 nextOf n x = nextBy isOneValue n x
 

@@ -38,7 +38,7 @@ fn is_value(size: usize, number: u32) -> bool
     unpadded::is_one_value(&bytes[..size])
 }
 
-// The number of the next small value of a size, from a number on, or the limit where there is none.
+// The number of the next small value of a size, from a number on; where there is none, the limit, or that number if it is past the limit.
 pub fn next(size: usize, from: u32) -> u32
     ensures { λ r. ⌜ r ≡ nextOf size from ⌝ }
 {

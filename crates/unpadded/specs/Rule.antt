@@ -13,11 +13,11 @@ use Rattle.reading.specs.Scalars.{scalarIn}
 use Rattle.reading.specs.Bodies.{markIn}
 use Rattle.reading.specs.Items.{isPad, isMarker, opens, itemAt}
 
--- Every item but a pad raises the least name to its own. A scalar has no mark; what a container holds is asked of the items inside,
--- given how to go on from a place
+-- a scalar has no mark; what a container holds is asked of the items inside, given how to go on from a place
 abbrev pub contentIs : (List ℕ → ℕ → ℕ → ℕ → ℕ → Bool) → List ℕ → ℕ → ℕ → ℕ → ℕ → Bool
 contentIs go s depth b start stop = cond (opens b) (go (take stop s) b 0 (depth + 1) start) (not (markIn (scalarIn b (slice start stop s))))
 
+-- an item that is no pad raises the least name to its own
 abbrev pub stepIs : (List ℕ → ℕ → ℕ → ℕ → ℕ → Bool) → List ℕ → ℕ → ℕ → ℕ → Item → Bool
 stepIs go s parent least depth I.End = false
 stepIs go s parent least depth (I.No r) = false

@@ -9,10 +9,10 @@ ghost use Rattle.reading.specs.Bodies.{markIn};
 ghost use Rattle.reading.specs.Items.{opens};
 ghost use Rattle.unpadded.specs.Rule.{contentBy, isWhole, unpaddedFrom, isOneValue};
 
-// Type bytes.
+// A version marker's type byte, a timestamp's type code, and the low four bits of a null.
 const MARKER: u8 = 0xE0;
 
-const TIMESTAMP_CODE: u8 = 6;
+const TIMESTAMP: u8 = 6;
 
 const NULL: u8 = 15;
 
@@ -23,7 +23,7 @@ const STREAM: u8 = 0;
 fn has_mark(kind: u8, body: &[u8]) -> bool
     ensures { λ r. ⌜ r ≡ markIn (scalarIn kind (now (body .entry))) ⌝ }
 {
-    if (kind / 16 == TIMESTAMP_CODE) & (kind % 16 < NULL) {
+    if (kind / 16 == TIMESTAMP) & (kind % 16 < NULL) {
         let shown = read_mark::timestamp(body);
         return shown.marked;
     }
