@@ -175,7 +175,7 @@ pub record Opened (c : TypeCode) (body h : List ℕ) : Type 0 where
   pub is : h ≡ (high_bits c * 16 + low) ∷ tail
   pub frames : (r : List ℕ) → framed low (tail ++ (body ++ r)) ≡ some (body, r)
 
-unfoldable pub opened : {c : TypeCode} {h : List ℕ} (body : List ℕ) → Header c (length body) h → Opened c body h
+unfoldable pub opened : {c : TypeCode} (body : List ℕ) {h : List ℕ} → Header c (length body) h → Opened c body h
 unfolding framed length_of
 opened body (short lt) = record {
   low = length body;

@@ -191,7 +191,7 @@ fields-length [] fs ih e = omega arith
 fields-length (x ∷ []) fs ih e = one_byte x fs (ih 2 (omega arith))
 fields-length (x ∷ y ∷ r) fs ih e = omega arith
 
-struct_low : {h : List ℕ} (body : List ℕ) (hd : Header struct_code (length body) h) → length body ≢ 1 → (opened body hd).low ≢ 1
+struct_low : (body : List ℕ) {h : List ℕ} (hd : Header struct_code (length body) h) → length body ≢ 1 → (opened body hd).low ≢ 1
 unfolding opened
 struct_low body (short lt) ne q = ne q
 struct_low body (long e) ne q = omega arith
