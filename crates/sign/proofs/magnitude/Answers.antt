@@ -11,9 +11,7 @@ use lib.Signed.{lt_z, non_neg}
 use mir.Syntax.{w64}
 use mir.Val.{SFits, Fits, of_z, to_z}
 use mir.ValLaws.{to_z-of_z}
-use borrow.Author.Rules.{rules}
-use Rattle.sign.proofs.magnitude.Statement.{statement}
-use Rattle.sign.proofs.magnitude.Tie as tie
+use Rattle.sign.proofs.magnitude.Goals as goal
 
 -- what -(v + 1) is, for a v below zero
 record Turned (v : ℤ) : Type 0 where
@@ -34,11 +32,15 @@ turned_by (pos n) f e = absurd (omega (arith, ltb-true n 0 e))
 turned_by (negsuc zero) f e = (record { sfits = omega arith }, record { sfits = omega arith }, tt, omega arith, refl)
 turned_by (negsuc (suc n)) f e = let h = f.sfits in (record { sfits = omega arith }, record { sfits = omega arith }, tt, omega arith, omega arith)
 
-known : (c : tie.Then1) → Turned c.before.args.v
-known c =
-    let v = c.before.args.v in
-    let b = to_z-of_z w64 v c.before.ranges.v in
-    let t = turned_by v c.before.ranges.v (rw b at c.if1.true) in
+positive : (v : ℤ) → SFits w64 v → lt_z v (pos 0) ≡ false → T (non_neg v) × Fits w64 (nat_abs v)
+positive (pos n) f e = let h = f.sfits in (tt, record { fits = omega arith })
+positive (negsuc n) f e = absurd (subst T e tt)
+
+pub returns-then-v-lt0 : goal.returns-then-v-lt0
+returns-then-v-lt0 c =
+    let known : Turned c.args.v = let v = c.args.v in
+    let b = to_z-of_z w64 v c.ranges.v in
+    let t = turned_by v c.ranges.v (rw b at c.if-v-lt0.true) in
     let p : v +ℤ pos 1 ≡ suc_ℤ v = +ℤ_one v in
     let q : pos 0 -ℤ suc_ℤ v ≡ neg_ℤ (suc_ℤ v) = +ℤ_idl (neg_ℤ (suc_ℤ v)) in
     let n : SFits w64 (v +ℤ pos 1) = rw p t.0 in
@@ -52,38 +54,5 @@ known c =
       whole = rw (p, q) t.2;
       small = rw (p, q) t.3;
       one_less = rw (p, q) t.4;
-    }
-
-positive : (v : ℤ) → SFits w64 v → lt_z v (pos 0) ≡ false → T (non_neg v) × Fits w64 (nat_abs v)
-positive (pos n) f e = let h = f.sfits in (tt, record { fits = omega arith })
-positive (negsuc n) f e = absurd (subst T e tt)
-
-add-result : tie.Need-overflow-add-result
-add-result c = let k = known c in rw k.same k.next_fits
-
-sub-result : tie.Need-overflow-sub-result
-sub-result c = let k = known c in rw (k.same, k.next-same) k.turned-fits
-
-cast-result : tie.Need-overflow-cast-result
-cast-result c = let k = known c in rw (k.same, k.next-same, k.turned_same) (k.whole, record { fits = omega (arith, k.small) })
-
-add-result-2 : tie.Need-overflow-add-result-2
-add-result-2 c = let k = known c in rw (k.same, k.next-same, k.turned_same) (record { fits = omega (arith, k.small) })
-
-returns : tie.Need-returns
-returns c = let k = known c in rw (k.same, k.next-same, k.turned_same) k.one_less
-
-cast-result-2 : tie.Need-overflow-cast-result-2
-cast-result-2 c =
-    let v = c.before.args.v in
-    let f = c.before.ranges.v in
-    let b = to_z-of_z w64 v f in
-    rw b (positive v f (rw b at c.if1.false))
-
-returns-2 : tie.Need-returns-2
-returns-2 c = search rules
-
-pub magnitude-spec : {M : Type 1} → statement M
-magnitude-spec =
-    tie.close
-    (tie.spec add-result sub-result cast-result add-result-2 returns cast-result-2 returns-2)
+    } in
+    let k = known in rw (k.same, k.next-same, k.turned_same) k.one_less
