@@ -1,13 +1,10 @@
 // Annotations, lent as bytes: eight bytes a sid, least significant first, the missing bytes of the last sid zero.
-ghost use mathlib.Core.Path.{_≡_};
-ghost use mathlib.Core.List.{List};
-ghost use Prim.Native.Nat.{ℕ, _+_, _*_, _^_, _<_, _≤_};
-ghost use lib.ListN.{length, getD};
-ghost use Rattle·encoding.specs.Fields.{varUIntsBytes};
-ghost use Rattle·encoding.specs.Headers.{annotationBytes};
-ghost use Rattle·buffer.specs.Laid.{placed};
-ghost use Rattle·annotations·specs.specs.Sids.{leastFirst, sidAt, sidCount, sidsOf};
-ghost use Rattle·annotations·specs.specs.Prefix.{prefixBytes, placedBefore};
+ghost use Rattle.std.specs.Prelude.{◌≡◌, List, ℕ, ◌+◌, ◌*◌, ◌^◌, ◌<◌, ◌≤◌, length, get_or};
+ghost use Rattle.encoding.specs.Fields.{var_uints_bytes};
+ghost use Rattle.encoding.specs.Headers.{annotation_bytes};
+ghost use Rattle.buffer.specs.Laid.{placed};
+ghost use Rattle.annotations.specs.Sids.{least_first, sid_at, sid_count, sids_of};
+ghost use Rattle.annotations.specs.Prefix.{prefix_bytes, placed_before};
 
 const SID_BYTES: usize = 8;
 
@@ -16,7 +13,7 @@ pub const WRAPPER: u8 = 0xE0;
 
 // A byte past the end counts as zero.
 fn byte_at(annotations: &[u8], at: usize) -> u64
-    ensures { λ r. ⌜ (r ≡ getD (now (annotations .entry)) at 0) × (r < 256) ⌝ }
+    ensures { (result ≡ get_or annotations.now at 0) × (result < 256) }
 {
     if annotations.len() <= at {
         return 0;
@@ -25,23 +22,23 @@ fn byte_at(annotations: &[u8], at: usize) -> u64
 }
 
 fn sid_count(annotations: &[u8]) -> usize
-    ensures { λ r. ⌜ r ≡ sidCount (now (annotations .entry)) ⌝ }
+    ensures { result ≡ sid_count annotations.now }
 {
     (annotations.len() + 7) / SID_BYTES
 }
 
 fn wide(x: u8) -> u64
-    ensures { λ r. ⌜ (r ≡ x) × (r < 256) ⌝ }
+    ensures { (result ≡ x) × (result < 256) }
 {
     x as u64
 }
 
 // The eight bytes from `at` on. The compiler makes one load of a sum in this form.
 fn whole_sid(annotations: &[u8], at: usize) -> u64
-    requires { ⌜ at + 8 ≤ length (now annotations) ⌝ }
-    ensures { λ r. let b = now (annotations .entry) in
-        ⌜ r ≡ getD b at 0 + 256 * getD b (at + 1) 0 + 65536 * getD b (at + 2) 0 + 16777216 * getD b (at + 3) 0 + 4294967296 * getD b (at + 4) 0
-        + 1099511627776 * getD b (at + 5) 0 + 281474976710656 * getD b (at + 6) 0 + 72057594037927936 * getD b (at + 7) 0 ⌝ }
+    requires { at + 8 ≤ length annotations.now }
+    ensures { let b = annotations.now in
+        result ≡ get_or b at 0 + 256 * get_or b (at + 1) 0 + 65536 * get_or b (at + 2) 0 + 16777216 * get_or b (at + 3) 0 + 4294967296 * get_or b (at + 4) 0
+        + 1099511627776 * get_or b (at + 5) 0 + 281474976710656 * get_or b (at + 6) 0 + 72057594037927936 * get_or b (at + 7) 0 }
 {
     wide(annotations[at])
         + 256 * wide(annotations[at + 1])
@@ -55,8 +52,8 @@ fn whole_sid(annotations: &[u8], at: usize) -> u64
 
 // The bytes from `at` on where there are fewer than eight.
 fn last_sid(annotations: &[u8], at: usize) -> u64
-    requires { ⌜ at < length (now annotations) ⌝ }
-    ensures { λ r. ⌜ r ≡ leastFirst (now (annotations .entry)) at 8 ⌝ }
+    requires { at < length annotations.now }
+    ensures { result ≡ least_first annotations.now at 8 }
 {
     let mut k = SID_BYTES;
     let mut sid: u64 = 0;
@@ -69,8 +66,8 @@ fn last_sid(annotations: &[u8], at: usize) -> u64
 
 // The sid at index `i`.
 fn sid_at(annotations: &[u8], i: usize) -> u64
-    requires { ⌜ i < sidCount (now annotations) ⌝ }
-    ensures { λ r. ⌜ r ≡ sidAt (now (annotations .entry)) i ⌝ }
+    requires { i < sid_count annotations.now }
+    ensures { result ≡ sid_at annotations.now i }
 {
     let at = SID_BYTES * i;
     if at + SID_BYTES <= annotations.len() {
@@ -81,7 +78,7 @@ fn sid_at(annotations: &[u8], i: usize) -> u64
 
 // The sum of the sids' lengths. A sid takes ten bytes at most for the eight that are lent, so the sum does not wrap.
 fn sids_size(annotations: &[u8]) -> usize
-    ensures { λ r. ⌜ (r ≡ length (varUIntsBytes (sidsOf (now (annotations .entry))))) × (r ≤ 10 * 2 ^ 60) ⌝ }
+    ensures { (result ≡ length (var_uints_bytes (sids_of annotations.now))) × (result ≤ 10 * 2 ^ 60) }
 {
     let count = sid_count(annotations);
     let mut sum: usize = 0;
@@ -96,14 +93,15 @@ fn sids_size(annotations: &[u8]) -> usize
 }
 
 // The sum of the sids' lengths, and the bytes that the annotations take: the sum as a VarUInt, then the sids.
+#[derive(Drop)]
 struct Sizes {
     sum: usize,
     whole: usize,
 }
 
 fn measure(annotations: &[u8]) -> Sizes
-    ensures { λ r. ⌜ (r .sum ≡ length (varUIntsBytes (sidsOf (now (annotations .entry)))))
-        × (r .whole ≡ length (annotationBytes (sidsOf (now (annotations .entry))))) × (r .whole ≤ 10 * 2 ^ 60 + 10) ⌝ }
+    ensures { (result.sum ≡ length (var_uints_bytes (sids_of annotations.now)))
+        × (result.whole ≡ length (annotation_bytes (sids_of annotations.now))) × (result.whole ≤ 10 * 2 ^ 60 + 10) }
 {
     let sum = sids_size(annotations);
     let whole = var_uint::encoded_size_of(sum as u64) + sum;
@@ -115,8 +113,8 @@ fn measure(annotations: &[u8]) -> Sizes
 
 // The sids, one after the other.
 fn put_sids(buf: &mut [u8], at: usize, annotations: &[u8]) -> usize
-    requires { ⌜ at + length (varUIntsBytes (sidsOf (now annotations))) ≤ length (now buf) ⌝ }
-    ensures { λ r. ⌜ _≡_ {A = ℕ × List ℕ} (r, now (buf .exit)) (placed (now (buf .entry)) at (varUIntsBytes (sidsOf (now (annotations .entry))))) ⌝ }
+    requires { at + length (var_uints_bytes (sids_of annotations.now)) ≤ length buf.old }
+    ensures { ◌≡◌ {A = ℕ × List ℕ} (result, buf.new) (placed buf.old at (var_uints_bytes (sids_of annotations.now))) }
 {
     let count = sid_count(annotations);
     let mut written: usize = 0;
@@ -130,8 +128,8 @@ fn put_sids(buf: &mut [u8], at: usize, annotations: &[u8]) -> usize
 
 // The annotations whose sids' lengths have the given sum: the sum, then the sids.
 fn put(buf: &mut [u8], at: usize, sum: usize, annotations: &[u8]) -> usize
-    requires { ⌜ (sum ≡ length (varUIntsBytes (sidsOf (now annotations)))) × (at + length (annotationBytes (sidsOf (now annotations))) ≤ length (now buf)) ⌝ }
-    ensures { λ r. ⌜ _≡_ {A = ℕ × List ℕ} (r, now (buf .exit)) (placed (now (buf .entry)) at (annotationBytes (sidsOf (now (annotations .entry))))) ⌝ }
+    requires { (sum ≡ length (var_uints_bytes (sids_of annotations.now))) × (at + length (annotation_bytes (sids_of annotations.now)) ≤ length buf.old) }
+    ensures { ◌≡◌ {A = ℕ × List ℕ} (result, buf.new) (placed buf.old at (annotation_bytes (sids_of annotations.now))) }
 {
     let first = var_uint::write(buf, at, sum as u64);
     let rest = put_sids(buf, at + first, annotations);
@@ -140,7 +138,7 @@ fn put(buf: &mut [u8], at: usize, sum: usize, annotations: &[u8]) -> usize
 
 // The annotations: the sum of the sids' lengths as a VarUInt, then the sids.
 pub fn write(buf: &mut [u8], at: usize, annotations: &[u8]) -> usize
-    ensures { λ r. ⌜ _≡_ {A = ℕ × List ℕ} (r, now (buf .exit)) (placed (now (buf .entry)) at (annotationBytes (sidsOf (now (annotations .entry))))) ⌝ }
+    ensures { ◌≡◌ {A = ℕ × List ℕ} (result, buf.new) (placed buf.old at (annotation_bytes (sids_of annotations.now))) }
 {
     let sizes = measure(annotations);
     if !buffer::has_room(buf.len(), at, sizes.whole) {
@@ -151,8 +149,8 @@ pub fn write(buf: &mut [u8], at: usize, annotations: &[u8]) -> usize
 
 // The same, where `inner` bytes fit behind them.
 pub fn write_before(buf: &mut [u8], at: usize, annotations: &[u8], inner: usize) -> usize
-    ensures { λ r. ⌜ _≡_ {A = ℕ × List ℕ} (r, now (buf .exit))
-        (placedBefore (now (buf .entry)) at (annotationBytes (sidsOf (now (annotations .entry)))) inner) ⌝ }
+    ensures { ◌≡◌ {A = ℕ × List ℕ} (result, buf.new)
+        (placed_before buf.old at (annotation_bytes (sids_of annotations.now)) inner) }
 {
     let sizes = measure(annotations);
     let whole = sizes.whole;
@@ -167,8 +165,8 @@ pub fn write_before(buf: &mut [u8], at: usize, annotations: &[u8], inner: usize)
 
 // The wrapper's header and the annotations, before a value of `inner` bytes. Nothing is put where the value would not fit behind them.
 pub fn write_prefix(buf: &mut [u8], at: usize, annotations: &[u8], inner: usize) -> usize
-    ensures { λ r. ⌜ _≡_ {A = ℕ × List ℕ} (r, now (buf .exit))
-        (placedBefore (now (buf .entry)) at (prefixBytes (sidsOf (now (annotations .entry))) inner) inner) ⌝ }
+    ensures { ◌≡◌ {A = ℕ × List ℕ} (result, buf.new)
+        (placed_before buf.old at (prefix_bytes (sids_of annotations.now) inner) inner) }
 {
     let sizes = measure(annotations);
     let whole = sizes.whole;

@@ -1,10 +1,6 @@
 -- Bytes laid into a lent buffer: what every function that writes at a place answers and leaves.
 -- Assumes nothing.
-use Prim.Native.Nat.{ℕ, _+_}
-use mathlib.Core.Bool.{true, false}
-use mathlib.Core.List.{List, _++_}
-use lib.Dec.{leb}
-use lib.ListN.{length, take, drop}
+use Rattle.std.specs.Prelude.{ℕ, ◌+◌, true, false, List, ◌++◌, leb, length, take, drop}
 
 -- `out` in the place of as many bytes of b, from `at` on
 unfoldable pub laid : List ℕ → ℕ → List ℕ → List ℕ

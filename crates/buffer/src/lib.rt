@@ -1,13 +1,10 @@
 // Bytes laid into a lent buffer. Each function that puts bytes tests its room itself: it answers how many bytes it put, and puts all or none.
-ghost use mathlib.Core.Path.{_≡_};
-ghost use mathlib.Core.List.{List, [], _∷_};
-ghost use Prim.Native.Nat.{ℕ, _+_};
-ghost use lib.Dec.{leb};
-ghost use Rattle·buffer·specs.specs.Laid.{placed};
+ghost use Rattle.std.specs.Prelude.{◌≡◌, List, [], ◌∷◌, ℕ, ◌+◌, leb};
+ghost use Rattle.buffer.specs.Laid.{placed};
 
 // Whether `count` bytes from `at` on lie within `room`. The sum may be more than a word holds.
 pub fn has_room(room: usize, at: usize, count: usize) -> bool
-    ensures { λ r. ⌜ r ≡ leb (at + count) room ⌝ }
+    ensures { result ≡ leb (at + count) room }
 {
     if room < at {
         return false;
@@ -17,7 +14,7 @@ pub fn has_room(room: usize, at: usize, count: usize) -> bool
 
 // One byte at `at`.
 pub fn put(buf: &mut [u8], at: usize, byte: u8) -> usize
-    ensures { λ r. ⌜ _≡_ {A = ℕ × List ℕ} (r, now (buf .exit)) (placed (now (buf .entry)) at (byte ∷ [])) ⌝ }
+    ensures { ◌≡◌ {A = ℕ × List ℕ} (result, buf.new) (placed buf.old at (byte ∷ [])) }
 {
     if buf.len() <= at {
         return 0;
@@ -28,7 +25,7 @@ pub fn put(buf: &mut [u8], at: usize, byte: u8) -> usize
 
 // The bytes of `src`, from `at` on.
 pub fn copy(buf: &mut [u8], at: usize, src: &[u8]) -> usize
-    ensures { λ r. ⌜ _≡_ {A = ℕ × List ℕ} (r, now (buf .exit)) (placed (now (buf .entry)) at (now (src .entry))) ⌝ }
+    ensures { ◌≡◌ {A = ℕ × List ℕ} (result, buf.new) (placed buf.old at src.now) }
 {
     if !has_room(buf.len(), at, src.len()) {
         return 0;

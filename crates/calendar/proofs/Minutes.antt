@@ -1,14 +1,14 @@
 -- The minutes of the years 1 to 9999: the first of them, and the first behind them.
 -- Assumes nothing.
 use native.Mathlib.Omega.{arith}
-use mathlib.Core.Path.{_≡_, refl}
-use Rattle·ion.specs.Calendar.{daysBeforeMonth, daysBeforeYear, dayNumber, minuteNumber}
-use Rattle·calendar·proofs.proofs.Counted.{years-counted}
+use mathlib.Core.Path.{◌≡◌, refl}
+use Rattle.ion.specs.Calendar.{days_before_month, days_before_year, day_number, minute_number}
+use Rattle.calendar.proofs.Counted.{years_counted}
 
-pub first-minute : minuteNumber 1 1 1 0 0 ≡ 528480
-unfolding minuteNumber dayNumber daysBeforeYear daysBeforeMonth
-first-minute = refl
+pub first_minute : minute_number 1 1 1 0 0 ≡ 528480
+unfolding minute_number day_number days_before_year days_before_month
+first_minute = refl
 
-pub limit-minute : minuteNumber 10000 1 1 0 0 ≡ 5259493440
-unfolding minuteNumber dayNumber daysBeforeMonth
-limit-minute = omega (arith, years-counted 10000)
+pub limit_minute : minute_number 10000 1 1 0 0 ≡ 5259493440
+unfolding minute_number day_number days_before_month
+limit_minute = omega (arith, years_counted 10000)

@@ -1,6 +1,6 @@
 // The Gregorian calendar: the days of a month, and the days and minutes counted from the year 0 on.
-ghost use mathlib.Core.Path.{_≡_};
-ghost use Rattle·ion.specs.Calendar.{isLeapYear, daysInMonth, daysBeforeMonth, daysBeforeYear, minuteNumber};
+ghost use Rattle.std.specs.Prelude.{◌≡◌};
+ghost use Rattle.ion.specs.Calendar.{is_leap_year, days_in_month, days_before_month, days_before_year, minute_number};
 
 // ---- days of a month
 
@@ -8,14 +8,14 @@ ghost use Rattle·ion.specs.Calendar.{isLeapYear, daysInMonth, daysBeforeMonth, 
 const DAYS_IN_MONTH: [u32; 13] = [0, 31, 28, 31, 30, 31, 30, 31, 31, 30, 31, 30, 31];
 
 pub fn is_leap_year(year: u32) -> bool
-    ensures { λ r. ⌜ r ≡ isLeapYear year ⌝ }
+    ensures { result ≡ is_leap_year year }
 {
     (year % 4 == 0) & ((year % 100 != 0) | (year % 400 == 0))
 }
 
 // 0 for a month that is not.
 pub fn days_in_month(year: u32, month: u32) -> u32
-    ensures { λ r. ⌜ r ≡ daysInMonth year month ⌝ }
+    ensures { result ≡ days_in_month year month }
 {
     if (month == 2) & is_leap_year(year) {
         return 29;
@@ -32,7 +32,7 @@ pub fn days_in_month(year: u32, month: u32) -> u32
 const DAYS_BEFORE_MONTH: [u64; 13] = [0, 0, 31, 59, 90, 120, 151, 181, 212, 243, 273, 304, 334];
 
 fn days_in_year(year: u32) -> u64
-    ensures { λ r. ⌜ r ≡ daysBeforeMonth year 13 ⌝ }
+    ensures { result ≡ days_before_month year 13 }
 {
     if is_leap_year(year) {
         return 366;
@@ -42,7 +42,7 @@ fn days_in_year(year: u32) -> u64
 
 // Of the year's days, those before a month: all of them for one behind December.
 pub fn days_before_month(year: u32, month: u32) -> u64
-    ensures { λ r. ⌜ r ≡ daysBeforeMonth year month ⌝ }
+    ensures { result ≡ days_before_month year month }
 {
     if 12 < month {
         return days_in_year(year);
@@ -55,7 +55,7 @@ pub fn days_before_month(year: u32, month: u32) -> u64
 
 // From the first of January of the year 0 on. The year 0 is a leap year, so the years of each rule are rounded up.
 pub fn days_before_year(year: u32) -> u64
-    ensures { λ r. ⌜ r ≡ daysBeforeYear year ⌝ }
+    ensures { result ≡ days_before_year year }
 {
     let y = year as u64;
     365 * y + (y + 3) / 4 - (y + 99) / 100 + (y + 399) / 400
@@ -63,7 +63,7 @@ pub fn days_before_year(year: u32) -> u64
 
 // Counted from the same day on, which has the number one.
 pub fn minute_number(year: u32, month: u32, day: u32, hour: u32, minute: u32) -> u64
-    ensures { λ r. ⌜ r ≡ minuteNumber year month day hour minute ⌝ }
+    ensures { result ≡ minute_number year month day hour minute }
 {
     let days = days_before_year(year) + days_before_month(year, month) + day as u64;
     days * 1440 + (hour as u64 * 60 + minute as u64)

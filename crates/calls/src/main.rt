@@ -12,18 +12,11 @@
 // Where a call's words name none, `no call` is printed.
 mod writes;
 
-ghost use mathlib.Core.Path.{_≡_};
-ghost use Prim.Native.Nat.{_≤_};
-ghost use lib.ListN.{length};
-use libc::STDIN_FILENO;
-use libc::STDOUT_FILENO;
-use machine::Answer;
-use machine::Closed;
-use machine::Container;
-use machine::Refusal;
-use machine::State;
-use words::least;
-use words::word;
+ghost use Rattle.std.specs.Prelude.{◌≡◌, ◌≤◌, length};
+
+use libc::{STDIN_FILENO, STDOUT_FILENO};
+use machine::{Answer, Closed, Container, Refusal, State};
+use words::{least, word};
 
 const MOST_U64: u64 = 18446744073709551615;
 
@@ -35,6 +28,7 @@ fn print(text: &[u8]) {
 }
 
 // The numbers behind the first word of a line.
+#[derive(Drop)]
 struct Numbers {
     first: usize,
     second: usize,
@@ -264,7 +258,7 @@ fn step(line: &[u8], state: State, buf: &mut [u8]) -> State {
 }
 
 fn run_lines(text: &[u8], buf: &mut [u8])
-    requires { ⌜ length (now text) ≤ 65536 ⌝ }
+    requires { length text.now ≤ 65536 }
 {
     let mut state = fresh(buf);
     let mut at: usize = 0;
@@ -278,7 +272,7 @@ fn run_lines(text: &[u8], buf: &mut [u8])
 
 // The `ensures` gives the length, which lending the array as a slice needs.
 fn longest_buffer() -> [u8; 2200000]
-    ensures { λ r. ⌜ 2200000 ≡ length r ⌝ }
+    ensures { 2200000 ≡ length result }
 {
     [FILL; 2200000]
 }

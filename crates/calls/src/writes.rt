@@ -1,19 +1,11 @@
 // The writer's call that words name: the function and its arguments, before which may stand `ann` and the sids of the annotations, eight bytes each.
 // A float is named by its bits: `f32` and `f64` hand those on, `f32_value` and `f64_value` the float itself.
-ghost use mathlib.Core.Path.{_≡_};
-ghost use Prim.Native.Nat.{_≤_};
-ghost use lib.ListN.{length};
-use machine::Closed;
-use machine::State;
-use machine::Written;
+ghost use Rattle.std.specs.Prelude.{◌≡◌, ◌≤◌, length};
+
+use machine::{Closed, State, Written};
 use scalars::IonType;
-use timestamp::Fraction;
-use timestamp::Offset;
-use timestamp::Precision;
-use timestamp::Timestamp;
-use words::hex;
-use words::numbers;
-use words::word;
+use timestamp::{Fraction, Offset, Precision, Timestamp};
+use words::{hex, numbers, word};
 use writer::ContainerType;
 
 const MOST_U64: u64 = 18446744073709551615;
@@ -83,7 +75,7 @@ fn is_annotated(call: &[u8]) -> bool {
 
 // Puts the bytes of a call's sids, and answers their number.
 fn sids(call: &[u8], out: &mut [u8]) -> usize
-    ensures { λ r. ⌜ r ≤ length (now (out .exit)) ⌝ }
+    ensures { result ≤ length out.new }
 {
     if is_annotated(call) {
         return hex::bytes(word(call, 1), out);
@@ -113,7 +105,7 @@ pub(crate) fn is_call(call: &[u8]) -> bool {
 
 // Puts the bytes of a call and answers their number. Those of a blob are as many bytes 55 as its word says, and stand there already.
 fn bytes_of(function: usize, call: &[u8], out: &mut [u8]) -> usize
-    ensures { λ r. ⌜ r ≤ length (now (out .exit)) ⌝ }
+    ensures { result ≤ length out.new }
 {
     match function {
         BLOB => words::least(
@@ -127,7 +119,7 @@ fn bytes_of(function: usize, call: &[u8], out: &mut [u8]) -> usize
 
 // The `ensures` gives the length, which lending the array as a slice needs.
 fn longest_body() -> [u8; 65536]
-    ensures { λ r. ⌜ 65536 ≡ length r ⌝ }
+    ensures { 65536 ≡ length result }
 {
     [BODY; 65536]
 }
@@ -163,6 +155,7 @@ fn f64_of(bits: u64) -> f64 {
 }
 
 // A call's words, each read in every way that a function takes it.
+#[derive(Drop)]
 struct Arguments {
     negative: bool,
     number: u64,

@@ -1,21 +1,19 @@
 // Containers in a lent buffer: opening reserves two bytes for each header, closing puts the headers in their short form and moves what lies behind them.
-ghost use mathlib.Core.Path.{_≡_};
-ghost use mathlib.Core.Bool.{Bool};
-ghost use mathlib.Core.List.{List, [], _∷_, _++_};
-ghost use Prim.Native.Nat.{ℕ, _+_, _-_, _*_, _/_, _<_, _≤_};
-ghost use lib.ListN.{length, take, drop, replicate};
-ghost use Rattle·encoding.specs.Headers.{headerBytes, annotationBytes};
-ghost use Rattle·machine.specs.Machine.{reserve, closedBytes, lengthIfMoved, movedBytes};
-ghost use Rattle·buffer.specs.Laid.{laid, placed};
-ghost use Rattle·annotations.specs.Sids.{sidsOf};
-ghost use Rattle·containers·specs.specs.declared.Closing.{Closing};
-ghost use Rattle·containers·specs.specs.Containers.{spliced, closedOn, abandonedOn};
+ghost use Rattle.std.specs.Prelude.{◌≡◌, Bool, List, [], ◌∷◌, ◌++◌, ℕ, ◌+◌, ◌-◌, ◌*◌, ◌/◌, ◌<◌, ◌≤◌, length, take, drop, replicate};
+ghost use Rattle.encoding.specs.Headers.{header_bytes, annotation_bytes};
+ghost use Rattle.machine.specs.Machine.{reserve, closed_bytes, length_if_moved, moved_bytes};
+ghost use Rattle.buffer.specs.Laid.{laid, placed};
+ghost use Rattle.annotations.specs.Sids.{sids_of};
+ghost use Rattle.containers.specs.declared.Closing.{Closing};
+ghost use Rattle.containers.specs.Containers.{spliced, closed_on, abandoned_on};
+
 use annotations::WRAPPER;
 
 // The bytes reserved for a header.
 const RESERVE: usize = 2;
 
 // What a close answers: the used length on return, and how many bytes moved.
+#[derive(Drop)]
 pub struct Closing {
     pub used: usize,
     pub moved: usize,
@@ -23,8 +21,8 @@ pub struct Closing {
 
 // The `count` bytes at `from` to `to`, which lies before, first byte first: how many it moved.
 fn move_left(buf: &mut [u8], from: usize, to: usize, count: usize) -> usize
-    requires { ⌜ (to ≤ from) × (from + count ≤ length (now buf)) ⌝ }
-    ensures { λ r. ⌜ (r ≡ count) × (now (buf .exit) ≡ laid (now (buf .entry)) to (take count (drop from (now (buf .entry))))) ⌝ }
+    requires { (to ≤ from) × (from + count ≤ length buf.old) }
+    ensures { (result ≡ count) × (buf.new ≡ laid buf.old to (take count (drop from buf.old))) }
 {
     let mut i: usize = 0;
     while i < count {
@@ -36,8 +34,8 @@ fn move_left(buf: &mut [u8], from: usize, to: usize, count: usize) -> usize
 
 // The `count` bytes at `from` to `to`, which lies behind, last byte first: how many it moved.
 fn move_right(buf: &mut [u8], from: usize, to: usize, count: usize) -> usize
-    requires { ⌜ (from ≤ to) × (to + count ≤ length (now buf)) ⌝ }
-    ensures { λ r. ⌜ (r ≡ count) × (now (buf .exit) ≡ laid (now (buf .entry)) to (take count (drop from (now (buf .entry))))) ⌝ }
+    requires { (from ≤ to) × (to + count ≤ length buf.old) }
+    ensures { (result ≡ count) × (buf.new ≡ laid buf.old to (take count (drop from buf.old))) }
 {
     let mut i = count;
     while 0 < i {
@@ -49,9 +47,9 @@ fn move_right(buf: &mut [u8], from: usize, to: usize, count: usize) -> usize
 
 // The `count` bytes at `from` to `to`, either way: how many moved. Where they lie there already, none does.
 fn move_bytes(buf: &mut [u8], from: usize, to: usize, count: usize) -> usize
-    requires { ⌜ (from + count ≤ length (now buf)) × (to + count ≤ length (now buf)) ⌝ }
-    ensures { λ r. ⌜ (r ≡ lengthIfMoved from to count)
-        × (now (buf .exit) ≡ laid (now (buf .entry)) to (take count (drop from (now (buf .entry))))) ⌝ }
+    requires { (from + count ≤ length buf.old) × (to + count ≤ length buf.old) }
+    ensures { (result ≡ length_if_moved from to count)
+        × (buf.new ≡ laid buf.old to (take count (drop from buf.old))) }
 {
     if to < from {
         return move_left(buf, from, to, count);
@@ -64,8 +62,8 @@ fn move_bytes(buf: &mut [u8], from: usize, to: usize, count: usize) -> usize
 
 // Zero bytes from `from` on, up to `to`; none where `to` lies before.
 fn clear(buf: &mut [u8], from: usize, to: usize)
-    requires { ⌜ (from ≤ length (now buf)) × (to ≤ length (now buf)) ⌝ }
-    ensures { λ r. ⌜ now (buf .exit) ≡ laid (now (buf .entry)) from (replicate (to - from) 0) ⌝ }
+    requires { (from ≤ length buf.old) × (to ≤ length buf.old) }
+    ensures { buf.new ≡ laid buf.old from (replicate (to - from) 0) }
 {
     let mut i = from;
     while i < to {
@@ -76,18 +74,18 @@ fn clear(buf: &mut [u8], from: usize, to: usize)
 
 // The header of `body` bytes. The type code has nothing in its low four bits.
 fn put_header(buf: &mut [u8], at: usize, code: u8, body: usize)
-    requires { ⌜ (code / 16 * 16 ≡ code) × (at + length (headerBytes 0 body) ≤ length (now buf)) ⌝ }
-    ensures { λ r. ⌜ now (buf .exit) ≡ laid (now (buf .entry)) at (headerBytes code body) ⌝ }
+    requires { (code / 16 * 16 ≡ code) × (at + length (header_bytes 0 body) ≤ length buf.old) }
+    ensures { buf.new ≡ laid buf.old at (header_bytes code body) }
 {
     header::write(buf, at, code, body);
 }
 
 // A container without annotations: its header in the short form, and its body behind it.
 fn close_plain(buf: &mut [u8], used: usize, start: usize, code: u8) -> Closing
-    requires { ⌜ (code / 16 * 16 ≡ code) × (start + 2 ≤ used) × (used ≤ length (now buf)) ⌝ }
-    ensures { λ r. ⌜ _≡_ {A = Closing × List ℕ} (r, now (buf .exit))
-        (spliced used start (closedBytes start start code (take used (now (buf .entry)))) (movedBytes start start code (take used (now (buf .entry))))
-        (now (buf .entry))) ⌝ }
+    requires { (code / 16 * 16 ≡ code) × (start + 2 ≤ used) × (used ≤ length buf.old) }
+    ensures { ◌≡◌ {A = Closing × List ℕ} (result, buf.new)
+        (spliced used start (closed_bytes start start code (take used buf.old)) (moved_bytes start start code (take used buf.old))
+        buf.old) }
 {
     let body = used - (start + RESERVE);
     let size = header::encoded_size_of(body);
@@ -113,11 +111,11 @@ fn lay_wrapped(
     inner: usize,
     wrapper: usize,
 ) -> usize
-    requires { ⌜ (code / 16 * 16 ≡ code) × (start + 2 ≤ header) × (header + 2 + body ≤ length (now buf))
-        × (start + wrapper + (header - (start + 2)) + inner + body ≤ length (now buf))
-        × (inner ≡ length (headerBytes 0 body)) × (wrapper ≡ length (headerBytes 0 (header - (start + 2) + inner + body))) ⌝ }
-    ensures { λ r. ⌜ (r ≡ movedBytes start header code (take (header + 2 + body) (now (buf .entry))))
-        × (now (buf .exit) ≡ laid (now (buf .entry)) start (closedBytes start header code (take (header + 2 + body) (now (buf .entry))))) ⌝ }
+    requires { (code / 16 * 16 ≡ code) × (start + 2 ≤ header) × (header + 2 + body ≤ length buf.old)
+        × (start + wrapper + (header - (start + 2)) + inner + body ≤ length buf.old)
+        × (inner ≡ length (header_bytes 0 body)) × (wrapper ≡ length (header_bytes 0 (header - (start + 2) + inner + body))) }
+    ensures { (result ≡ moved_bytes start header code (take (header + 2 + body) buf.old))
+        × (buf.new ≡ laid buf.old start (closed_bytes start header code (take (header + 2 + body) buf.old))) }
 {
     let noted = header - (start + RESERVE);
     let place = start + wrapper + noted;
@@ -137,10 +135,10 @@ fn lay_wrapped(
 
 // A container with annotations: the wrapper's length counts the inner header in its final size.
 fn close_annotated(buf: &mut [u8], used: usize, start: usize, header: usize, code: u8) -> Closing
-    requires { ⌜ (code / 16 * 16 ≡ code) × (start + 2 ≤ header) × (header + 2 ≤ used) × (used ≤ length (now buf)) ⌝ }
-    ensures { λ r. ⌜ _≡_ {A = Closing × List ℕ} (r, now (buf .exit))
-        (spliced used start (closedBytes start header code (take used (now (buf .entry)))) (movedBytes start header code (take used (now (buf .entry))))
-        (now (buf .entry))) ⌝ }
+    requires { (code / 16 * 16 ≡ code) × (start + 2 ≤ header) × (header + 2 ≤ used) × (used ≤ length buf.old) }
+    ensures { ◌≡◌ {A = Closing × List ℕ} (result, buf.new)
+        (spliced used start (closed_bytes start header code (take used buf.old)) (moved_bytes start header code (take used buf.old))
+        buf.old) }
 {
     let body = used - (header + RESERVE);
     let inner = header::encoded_size_of(body);
@@ -158,7 +156,7 @@ fn close_annotated(buf: &mut [u8], used: usize, start: usize, header: usize, cod
 // The container that ends at `used`, with its headers in their final form: the used length on return, and how many bytes moved. Freed bytes become zero.
 // 0 and 0, and the buffer as it was, where the container does not fit or the result would pass the buffer.
 pub fn close(buf: &mut [u8], used: usize, c: machine::Container) -> Closing
-    ensures { λ r. ⌜ _≡_ {A = Closing × List ℕ} (r, now (buf .exit)) (closedOn c used (now (buf .entry))) ⌝ }
+    ensures { ◌≡◌ {A = Closing × List ℕ} (result, buf.new) (closed_on c used buf.old) }
 {
     if !(place::container_fits(c, used) & (used <= buf.len())) {
         return Closing { used: 0, moved: 0 };
@@ -171,7 +169,7 @@ pub fn close(buf: &mut [u8], used: usize, c: machine::Container) -> Closing
 
 // The bytes from `start` up to `used` become zero: whether they lie in the buffer, and else nothing alters.
 pub fn abandon(buf: &mut [u8], used: usize, start: usize) -> bool
-    ensures { λ r. ⌜ _≡_ {A = Bool × List ℕ} (r, now (buf .exit)) (abandonedOn used start (now (buf .entry))) ⌝ }
+    ensures { ◌≡◌ {A = Bool × List ℕ} (result, buf.new) (abandoned_on used start buf.old) }
 {
     if !((start <= used) & (used <= buf.len())) {
         return false;
@@ -182,7 +180,7 @@ pub fn abandon(buf: &mut [u8], used: usize, start: usize) -> bool
 
 // The reserve of a header: two zero bytes.
 fn put_reserve(buf: &mut [u8], at: usize) -> usize
-    ensures { λ r. ⌜ _≡_ {A = ℕ × List ℕ} (r, now (buf .exit)) (placed (now (buf .entry)) at (0 ∷ 0 ∷ [])) ⌝ }
+    ensures { ◌≡◌ {A = ℕ × List ℕ} (result, buf.new) (placed buf.old at (0 ∷ 0 ∷ [])) }
 {
     if !buffer::has_room(buf.len(), at, RESERVE) {
         return 0;
@@ -193,8 +191,8 @@ fn put_reserve(buf: &mut [u8], at: usize) -> usize
 
 // The wrapper's reserve, the annotations and the header's reserve.
 fn open_annotated(buf: &mut [u8], at: usize, annotations: &[u8]) -> usize
-    ensures { λ r. ⌜ _≡_ {A = ℕ × List ℕ} (r, now (buf .exit))
-        (placed (now (buf .entry)) at (0 ∷ 0 ∷ (annotationBytes (sidsOf (now (annotations .entry))) ++ (0 ∷ 0 ∷ [])))) ⌝ }
+    ensures { ◌≡◌ {A = ℕ × List ℕ} (result, buf.new)
+        (placed buf.old at (0 ∷ 0 ∷ (annotation_bytes (sids_of annotations.now) ++ (0 ∷ 0 ∷ [])))) }
 {
     if !buffer::has_room(buf.len(), at, 2 * RESERVE) {
         return 0;
@@ -211,7 +209,7 @@ fn open_annotated(buf: &mut [u8], at: usize, annotations: &[u8]) -> usize
 
 // What an opening reserves: two zero bytes; with annotations two zero bytes, the annotations and two more.
 pub fn open(buf: &mut [u8], at: usize, annotations: &[u8]) -> usize
-    ensures { λ r. ⌜ _≡_ {A = ℕ × List ℕ} (r, now (buf .exit)) (placed (now (buf .entry)) at (reserve (sidsOf (now (annotations .entry))))) ⌝ }
+    ensures { ◌≡◌ {A = ℕ × List ℕ} (result, buf.new) (placed buf.old at (reserve (sids_of annotations.now))) }
 {
     if annotations.len() == 0 {
         return put_reserve(buf, at);

@@ -1,12 +1,9 @@
 // Decimals: document 01's module binary/decimal. A body is the exponent as a VarInt, then the coefficient as an Int; positive zero with exponent 0 has none.
 // The coefficient is given as a sign and a big-endian magnitude, whose leading zero bytes do not count.
-ghost use mathlib.Core.Path.{_≡_};
-ghost use mathlib.Core.List.{List};
-ghost use Prim.Native.Nat.{ℕ, _+_, _≤_};
-ghost use lib.ListN.{length};
-ghost use Rattle·buffer.specs.Laid.{placed};
-ghost use Rattle·encoding.specs.Decimal.{decimalBody};
-ghost use Rattle·encoding.specs.Argument.{writeDecimal, checkedBytes};
+ghost use Rattle.std.specs.Prelude.{◌≡◌, List, ℕ, ◌+◌, ◌≤◌, length};
+ghost use Rattle.buffer.specs.Laid.{placed};
+ghost use Rattle.encoding.specs.Decimal.{decimal_body};
+ghost use Rattle.encoding.specs.Argument.{write_decimal, checked_bytes};
 
 const TYPE_CODE: u8 = 0x50;
 
@@ -15,7 +12,7 @@ pub const MAX_BODY: usize = 32;
 
 // The length of the body. A slice is shorter than 2 to the 63, so the sum does not wrap.
 pub fn body_size(negative: bool, magnitude: &[u8], exponent: i64) -> usize
-    ensures { λ r. ⌜ r ≡ length (decimalBody negative (now (magnitude .entry)) exponent) ⌝ }
+    ensures { result ≡ length (decimal_body negative magnitude.now exponent) }
 {
     let coefficient = int::encoded_size_of(negative, magnitude);
     let scale = sign::magnitude(exponent);
@@ -27,7 +24,7 @@ pub fn body_size(negative: bool, magnitude: &[u8], exponent: i64) -> usize
 
 // The bytes that the decimal takes, header and body; none where the body is longer than 32 bytes.
 pub fn size(negative: bool, magnitude: &[u8], exponent: i64) -> usize
-    ensures { λ r. ⌜ r ≡ length (checkedBytes (writeDecimal negative (now (magnitude .entry)) exponent)) ⌝ }
+    ensures { result ≡ length (checked_bytes (write_decimal negative magnitude.now exponent)) }
 {
     let body = body_size(negative, magnitude, exponent);
     if MAX_BODY < body {
@@ -45,8 +42,8 @@ fn put_body(
     magnitude: &[u8],
     exponent: i64,
 ) -> usize
-    requires { ⌜ (body ≡ length (decimalBody negative (now magnitude) exponent)) × (at + body ≤ length (now buf)) ⌝ }
-    ensures { λ r. ⌜ _≡_ {A = ℕ × List ℕ} (r, now (buf .exit)) (placed (now (buf .entry)) at (decimalBody negative (now (magnitude .entry)) exponent)) ⌝ }
+    requires { (body ≡ length (decimal_body negative magnitude.now exponent)) × (at + body ≤ length buf.old) }
+    ensures { ◌≡◌ {A = ℕ × List ℕ} (result, buf.new) (placed buf.old at (decimal_body negative magnitude.now exponent)) }
 {
     if body == 0 {
         return 0;
@@ -62,8 +59,8 @@ fn put_body(
 
 // Header and body. Nothing is put where the body is longer than 32 bytes.
 pub fn write(buf: &mut [u8], at: usize, negative: bool, magnitude: &[u8], exponent: i64) -> usize
-    ensures { λ r. ⌜ _≡_ {A = ℕ × List ℕ} (r, now (buf .exit))
-        (placed (now (buf .entry)) at (checkedBytes (writeDecimal negative (now (magnitude .entry)) exponent))) ⌝ }
+    ensures { ◌≡◌ {A = ℕ × List ℕ} (result, buf.new)
+        (placed buf.old at (checked_bytes (write_decimal negative magnitude.now exponent))) }
 {
     let body = body_size(negative, magnitude, exponent);
     if MAX_BODY < body {

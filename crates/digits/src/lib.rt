@@ -1,14 +1,12 @@
 // Digits of a number in a base, and the bits that tell how many there are.
-ghost use mathlib.Core.Path.{_≡_};
-ghost use mathlib.Core.List.{List};
-ghost use Prim.Native.Nat.{ℕ, _+_, _-_};
-ghost use lib.Count.{leadingZeros};
-ghost use Rattle·encoding.specs.Digits.{lowDigits};
-ghost use Rattle·buffer.specs.Laid.{placed};
+ghost use Rattle.std.specs.Prelude.{◌≡◌, List, ℕ, ◌+◌, ◌-◌};
+ghost use Rattle.std.specs.Int.Count.{count_leading_zeros};
+ghost use Rattle.encoding.specs.Digits.{low_digits};
+ghost use Rattle.buffer.specs.Laid.{placed};
 
 // The bits that `value` takes: none for zero.
 pub fn bits_used(value: u64) -> usize
-    ensures { λ r. ⌜ r ≡ 64 - leadingZeros 64 value ⌝ }
+    ensures { result ≡ 64 - count_leading_zeros 64 value }
 {
     (64 - u64::leading_zeros(value)) as usize
 }
@@ -16,7 +14,7 @@ pub fn bits_used(value: u64) -> usize
 // The lowest `count` digits of `value`, most significant first, in the base whose greatest digit is `greatest`: no such base is zero, and each digit is a byte.
 // They are put from the last to the first.
 pub fn put_digits(buf: &mut [u8], at: usize, count: usize, greatest: u8, value: u64) -> usize
-    ensures { λ r. ⌜ _≡_ {A = ℕ × List ℕ} (r, now (buf .exit)) (placed (now (buf .entry)) at (lowDigits (greatest + 1) count value)) ⌝ }
+    ensures { ◌≡◌ {A = ℕ × List ℕ} (result, buf.new) (placed buf.old at (low_digits (greatest + 1) count value)) }
 {
     if !buffer::has_room(buf.len(), at, count) {
         return 0;

@@ -1,22 +1,21 @@
 // The entry points for names and containers: numbers and byte slices in, state and buffer lent.
 // Each answers 0 for an accepted call, or the refusal's number. A refused call leaves what is lent as it was.
-ghost use mathlib.Core.Path.{_≡_};
-ghost use Rattle·annotations.specs.Sids.{sidsOf};
-ghost use Rattle·machine.specs.Call.{opening};
-ghost use Rattle·steps.specs.Kinds.{kindOf};
-ghost use Rattle·state_bytes.specs.StateBytes.{entered, answered};
-ghost use Rattle·entry_steps.specs.Entries.{enteredAs};
-ghost use Rattle·entry_numbers.specs.EntryCall.{gmFieldName, gmOpenList, gmOpenSexp, gmOpenStruct, gmClose, gmAbandon, callOf};
-use machine::Container;
-use machine::MOST_OPEN;
-use machine::Refusal;
+ghost use Rattle.std.specs.Prelude.{◌≡◌};
+ghost use Rattle.annotations.specs.Sids.{sids_of};
+ghost use Rattle.machine.specs.Call.{opening};
+ghost use Rattle.steps.specs.Kinds.{kind_of};
+ghost use Rattle.state_bytes.specs.StateBytes.{entered, answered};
+ghost use Rattle.entry_steps.specs.Entries.{entered_as};
+ghost use Rattle.entry_numbers.specs.EntryCall.{gm_field_name, gm_open_list, gm_open_sexp, gm_open_struct, gm_close, gm_abandon, call_of};
+
+use machine::{Container, MOST_OPEN, Refusal};
 use steps::ContainerType;
 
 // A field name: its sid as a VarUInt.
-#[no_mangle]
+#[unsafe(no_mangle)]
 pub extern "C" fn gm_field_name(state: &mut [u8], buf: &mut [u8], sid: u64) -> u8
-    ensures { λ r. ⌜ enteredAs r (now (state .exit)) (now (buf .exit))
-        ≡ entered (callOf (gmFieldName sid)) (now (state .entry)) (now (buf .entry)) ⌝ }
+    ensures { entered_as result state.new buf.new
+        ≡ entered (call_of (gm_field_name sid)) state.old buf.old }
 {
     if !state_bytes::name_passes(state, buf.len()) {
         return entry_numbers::answered(state_bytes::name_place(state, buf.len()));
@@ -27,8 +26,8 @@ pub extern "C" fn gm_field_name(state: &mut [u8], buf: &mut [u8], sid: u64) -> u
 
 // An opening: it reserves two bytes for its header, and with annotations two more for the wrapper's before them.
 fn open(state: &mut [u8], buf: &mut [u8], annotations: &[u8], kind: ContainerType) -> u8
-    ensures { λ r. ⌜ enteredAs r (now (state .exit)) (now (buf .exit))
-        ≡ entered (opening (sidsOf (now (annotations .entry))) (kindOf kind)) (now (state .entry)) (now (buf .entry)) ⌝ }
+    ensures { entered_as result state.new buf.new
+        ≡ entered (opening (sids_of annotations.now) (kind_of kind)) state.old buf.old }
 {
     if !state_bytes::value_passes(state, buf.len()) {
         return entry_numbers::answered(state_bytes::value_place(state, buf.len()));
@@ -57,26 +56,26 @@ fn open(state: &mut [u8], buf: &mut [u8], annotations: &[u8], kind: ContainerTyp
     0
 }
 
-#[no_mangle]
+#[unsafe(no_mangle)]
 pub extern "C" fn gm_open_list(state: &mut [u8], buf: &mut [u8], annotations: &[u8]) -> u8
-    ensures { λ r. ⌜ enteredAs r (now (state .exit)) (now (buf .exit))
-        ≡ entered (callOf (gmOpenList (now (annotations .entry)))) (now (state .entry)) (now (buf .entry)) ⌝ }
+    ensures { entered_as result state.new buf.new
+        ≡ entered (call_of (gm_open_list annotations.now)) state.old buf.old }
 {
     open(state, buf, annotations, ContainerType::List)
 }
 
-#[no_mangle]
+#[unsafe(no_mangle)]
 pub extern "C" fn gm_open_sexp(state: &mut [u8], buf: &mut [u8], annotations: &[u8]) -> u8
-    ensures { λ r. ⌜ enteredAs r (now (state .exit)) (now (buf .exit))
-        ≡ entered (callOf (gmOpenSexp (now (annotations .entry)))) (now (state .entry)) (now (buf .entry)) ⌝ }
+    ensures { entered_as result state.new buf.new
+        ≡ entered (call_of (gm_open_sexp annotations.now)) state.old buf.old }
 {
     open(state, buf, annotations, ContainerType::Sexp)
 }
 
-#[no_mangle]
+#[unsafe(no_mangle)]
 pub extern "C" fn gm_open_struct(state: &mut [u8], buf: &mut [u8], annotations: &[u8]) -> u8
-    ensures { λ r. ⌜ enteredAs r (now (state .exit)) (now (buf .exit))
-        ≡ entered (callOf (gmOpenStruct (now (annotations .entry)))) (now (state .entry)) (now (buf .entry)) ⌝ }
+    ensures { entered_as result state.new buf.new
+        ≡ entered (call_of (gm_open_struct annotations.now)) state.old buf.old }
 {
     open(state, buf, annotations, ContainerType::Struct)
 }
@@ -84,10 +83,10 @@ pub extern "C" fn gm_open_struct(state: &mut [u8], buf: &mut [u8], annotations: 
 // A closing: the header, and the wrapper's, in their final form. What it answers of the container, in four bytes each, least significant first:
 // how many bytes it takes, how many members it has, and how many bytes moved. It answers in the slice `closed`, as far as that holds the numbers whole.
 // The container is then a member of the one that it lies in.
-#[no_mangle]
+#[unsafe(no_mangle)]
 pub extern "C" fn gm_close(state: &mut [u8], buf: &mut [u8], closed: &mut [u8]) -> u8
-    ensures { λ r. ⌜ (enteredAs r (now (state .exit)) (now (buf .exit)) ≡ entered (callOf gmClose) (now (state .entry)) (now (buf .entry)))
-        × (now (closed .exit) ≡ answered (now (state .entry)) (now (buf .entry)) (now (closed .entry))) ⌝ }
+    ensures { (entered_as result state.new buf.new ≡ entered (call_of gm_close) state.old buf.old)
+        × (closed.new ≡ answered state.old buf.old closed.old) }
 {
     if !state_bytes::close_passes(state, buf.len()) {
         return entry_numbers::answered(state_bytes::close_place(state, buf.len()));
@@ -105,10 +104,10 @@ pub extern "C" fn gm_close(state: &mut [u8], buf: &mut [u8], closed: &mut [u8]) 
 }
 
 // An abandonment: the innermost container's bytes are given back, and a name before it waits again.
-#[no_mangle]
+#[unsafe(no_mangle)]
 pub extern "C" fn gm_abandon(state: &mut [u8], buf: &mut [u8]) -> u8
-    ensures { λ r. ⌜ enteredAs r (now (state .exit)) (now (buf .exit))
-        ≡ entered (callOf gmAbandon) (now (state .entry)) (now (buf .entry)) ⌝ }
+    ensures { entered_as result state.new buf.new
+        ≡ entered (call_of gm_abandon) state.old buf.old }
 {
     if !state_bytes::abandon_passes(state, buf.len()) {
         return entry_numbers::answered(state_bytes::abandon_place(state, buf.len()));

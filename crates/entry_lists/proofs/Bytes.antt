@@ -1,38 +1,38 @@
 -- The state that stored bytes spell: what was stored in the head, in a container or as a count, and all else as it was.
 -- Assumes nothing.
-use Prim.Native.Nat.{ℕ, zero, suc, _+_, _*_, _/_, _%_, _^_, _<_, _≤_}
+use Prim.Native.Nat.{ℕ, zero, suc, ◌+◌, ◌*◌, ◌/◌, ◌%◌, ◌^◌, ◌<◌, ◌≤◌}
 use native.Mathlib.Omega.{arith}
-use native.Mathlib.Nat.{mod-eq-of-lt}
-use mathlib.Core.Path.{_≡_, refl, sym, _∙_, ap}
+use native.Mathlib.Nat.{mod-eq_of_lt}
+use mathlib.Core.Path.{◌≡◌, refl, sym, ◌∙◌, ap}
 use mathlib.Core.Bool.{Bool, true, false, not}
-use mathlib.Core.Logic.{⊎-elim}
-use mathlib.Core.List.{List, [], _∷_, _++_}
+use mathlib.Core.Logic.{⊎_elim}
+use mathlib.Core.List.{List, [], ◌∷◌, ◌++◌}
 use lib.Dec.{eqb, ltb}
-use lib.ListN.{length, getD, take, drop, set, length-set, List·getD-append}
-use lib.Seq.{getD-append-add, getD-set-same, getD-set-other, length-take-le, ext-getD}
+use lib.ListN.{length, get_or, take, drop, set, length-set, get_or-append}
+use lib.Seq.{get_or-append-add, get_or-set_same, get_or-set_other, length-take-le, ext_get_or}
 use borrow.Author.Tests.{eq-eqb, lt-ltb, eqb-true, eqb-false, ltb-true, ltb-false}
-use Rattle·ion.proofs.Tests.{by-cases}
-use Rattle·buffer.specs.Laid.{laid, placed}
-use Rattle·buffer.proofs.Laid.{length-laid, byte-before, byte-behind, placed-fits, placed-or}
-use Rattle·machine.specs.declared.Container.{Container}
-use Rattle·machine.specs.Machine.{mostOpen, noContainer, withMember, counted}
-use Rattle·state_bytes.specs.StateBytes.{recordSize, stateSize, four, placeOf, containerAt, containersFrom, stateOf, fourBytes, flag, headBytes}
-use Rattle·state_bytes.specs.StateBytes.{containerBytes, storedHead, storedContainer, storedMembers, storedCount, numbersLaid}
-use Rattle·state_bytes.proofs.Laws.{state-is, container-is, length-containers}
+use Rattle.ion.proofs.Tests.{by_cases}
+use Rattle.buffer.specs.Laid.{laid, placed}
+use Rattle.buffer.proofs.Laid.{length-laid, byte_before, byte_behind, placed-fits, placed_or}
+use Rattle.machine.specs.declared.Container.{Container}
+use Rattle.machine.specs.Machine.{most_open, no_container, with_member, counted}
+use Rattle.state_bytes.specs.StateBytes.{record_size, state_size, four, place_of, container_at, containers_from, state_of, four_bytes, flag, head_bytes}
+use Rattle.state_bytes.specs.StateBytes.{container_bytes, stored_head, stored_container, stored_members, stored_count, numbers_laid}
+use Rattle.state_bytes.proofs.Laws.{state_is, container_is, length_containers}
 
 -- ---- a byte among laid ones
 
 module _ (b : List ℕ) (at : ℕ) (xs : List ℕ) (h : at + length xs ≤ length b) where
-  byte-within : (p j : ℕ) → p ≡ at + j → j < length xs → getD (laid b at xs) p 0 ≡ getD xs j 0
+  byte_within : (p j : ℕ) → p ≡ at + j → j < length xs → get_or (laid b at xs) p 0 ≡ get_or xs j 0
   unfolding laid
-  byte-within p j e k =
+  byte_within p j e k =
       let q : p ≡ length (take at b) + j = e ∙ ap (λ (n : ℕ). n + j) (sym (length-take-le at b (omega arith))) in
-      ap (λ (n : ℕ). getD (take at b ++ (xs ++ drop (at + length xs) b)) n 0) q
-      ∙ (getD-append-add (take at b) (xs ++ drop (at + length xs) b) j 0 ∙ List·getD-append xs (drop (at + length xs) b) 0 j k)
+      ap (λ (n : ℕ). get_or (take at b ++ (xs ++ drop (at + length xs) b)) n 0) q
+      ∙ (get_or-append-add (take at b) (xs ++ drop (at + length xs) b) j 0 ∙ get_or-append xs (drop (at + length xs) b) 0 j k)
 
 -- four bytes give their number back
-pub four-back : (n : ℕ) → n < 2 ^ 32 → n % 256 + 256 * (n / 256 % 256) + 65536 * (n / 65536 % 256) + 16777216 * (n / 16777216 % 256) ≡ n
-four-back n h =
+pub four_back : (n : ℕ) → n < 2 ^ 32 → n % 256 + 256 * (n / 256 % 256) + 65536 * (n / 65536 % 256) + 16777216 * (n / 16777216 % 256) ≡ n
+four_back n h =
     let p : n / 65536 ≡ n / 256 / 256 = omega arith in
     let q : n / 16777216 ≡ n / 65536 / 256 = omega arith in
     let r : n / 16777216 % 256 ≡ n / 16777216 = omega arith in
@@ -45,17 +45,17 @@ four-back n h =
     sum a b c d e f g x y z = omega arith
 
 -- a number among laid bytes
-pub four-within : (b : List ℕ) (at : ℕ) (xs : List ℕ) → at + length xs ≤ length b → (p j : ℕ) → p ≡ at + j → j + 4 ≤ length xs
+pub four_within : (b : List ℕ) (at : ℕ) (xs : List ℕ) → at + length xs ≤ length b → (p j : ℕ) → p ≡ at + j → j + 4 ≤ length xs
     → four (laid b at xs) p ≡ four xs j
-four-within b at xs h p j e k =
+four_within b at xs h p j e k =
     rw (
-      byte-within b at xs h p j e (omega arith),
-      byte-within b at xs h (p + 1) (j + 1) (omega arith) (omega arith),
-      byte-within b at xs h (p + 2) (j + 2) (omega arith) (omega arith),
-      byte-within b at xs h (p + 3) (j + 3) (omega arith) (omega arith),
+      byte_within b at xs h p j e (omega arith),
+      byte_within b at xs h (p + 1) (j + 1) (omega arith) (omega arith),
+      byte_within b at xs h (p + 2) (j + 2) (omega arith) (omega arith),
+      byte_within b at xs h (p + 3) (j + 3) (omega arith) (omega arith),
     )
 
-same-four : (b c : List ℕ) (at : ℕ) → ((p : ℕ) → at ≤ p → p < at + 4 → getD b p 0 ≡ getD c p 0) → four b at ≡ four c at
+same-four : (b c : List ℕ) (at : ℕ) → ((p : ℕ) → at ≤ p → p < at + 4 → get_or b p 0 ≡ get_or c p 0) → four b at ≡ four c at
 same-four b c at f =
     rw (
       f at (omega arith) (omega arith),
@@ -66,41 +66,41 @@ same-four b c at f =
 
 -- ---- the numbers that a closing answers
 
-placed-kept : (b : List ℕ) (at p : ℕ) (xs : List ℕ) → p + 4 ≤ at → four (placed b at xs .1) p ≡ four b p
-placed-kept b at p xs h =
-    ⊎-elim
-    (λ q. ap (λ (x : ℕ × List ℕ). four (x .1) p) (q .1) ∙ same-four (laid b at xs) b p (λ k i j. byte-before b at xs (q .0) k (omega arith)))
-    (λ q. ap (λ (x : ℕ × List ℕ). four (x .1) p) (q .1))
-    (placed-or b at xs)
+placed_kept : (b : List ℕ) (at p : ℕ) (xs : List ℕ) → p + 4 ≤ at → four (placed b at xs).1 p ≡ four b p
+placed_kept b at p xs h =
+    ⊎_elim
+    (λ q. ap (λ (x : ℕ × List ℕ). four x.1 p) q.1 ∙ same-four (laid b at xs) b p (λ k i j. byte_before b at xs q.0 k (omega arith)))
+    (λ q. ap (λ (x : ℕ × List ℕ). four x.1 p) q.1)
+    (placed_or b at xs)
 
-length-placed : (b : List ℕ) (at : ℕ) (xs : List ℕ) → length (placed b at xs .1) ≡ length b
+length-placed : (b : List ℕ) (at : ℕ) (xs : List ℕ) → length (placed b at xs).1 ≡ length b
 length-placed b at xs =
-    ⊎-elim
-    (λ q. ap (λ (x : ℕ × List ℕ). length (x .1)) (q .1) ∙ length-laid b at xs (q .0))
-    (λ q. ap (λ (x : ℕ × List ℕ). length (x .1)) (q .1))
-    (placed-or b at xs)
+    ⊎_elim
+    (λ q. ap (λ (x : ℕ × List ℕ). length x.1) q.1 ∙ length-laid b at xs q.0)
+    (λ q. ap (λ (x : ℕ × List ℕ). length x.1) q.1)
+    (placed_or b at xs)
 
 -- those behind leave it
-numbers-kept : (at p : ℕ) (ns b : List ℕ) → p + 4 ≤ at → four (numbersLaid at ns b) p ≡ four b p
-unfolding numbersLaid
-numbers-kept at p [] b h = refl
-numbers-kept at p (n ∷ ns) b h = numbers-kept (at + 4) p ns (placed b at (fourBytes n) .1) (omega arith) ∙ placed-kept b at p (fourBytes n) h
+numbers_kept : (at p : ℕ) (ns b : List ℕ) → p + 4 ≤ at → four (numbers_laid at ns b) p ≡ four b p
+unfolding numbers_laid
+numbers_kept at p [] b h = refl
+numbers_kept at p (n ∷ ns) b h = numbers_kept (at + 4) p ns (placed b at (four_bytes n)).1 (omega arith) ∙ placed_kept b at p (four_bytes n) h
 
 -- the number n, with ms before it and ns behind it
 pub number-laid : (ms : List ℕ) (n : ℕ) (ns : List ℕ) (at p : ℕ) (b : List ℕ) → p ≡ at + 4 * length ms → p + 4 ≤ length b → n < 2 ^ 32
-    → four (numbersLaid at (ms ++ (n ∷ ns)) b) p ≡ n
-unfolding numbersLaid
+    → four (numbers_laid at (ms ++ (n ∷ ns)) b) p ≡ n
+unfolding numbers_laid
 number-laid [] n ns at p b e h k =
-    let f = placed-fits b at (fourBytes n) (omega arith) in
-    numbers-kept (at + 4) p ns (placed b at (fourBytes n) .1) (omega arith)
-    ∙ (ap (λ (x : ℕ × List ℕ). four (x .1) p) f ∙ (four-within b at (fourBytes n) (omega arith) p 0 (omega arith) (omega arith) ∙ four-back n k))
+    let f = placed-fits b at (four_bytes n) (omega arith) in
+    numbers_kept (at + 4) p ns (placed b at (four_bytes n)).1 (omega arith)
+    ∙ (ap (λ (x : ℕ × List ℕ). four x.1 p) f ∙ (four_within b at (four_bytes n) (omega arith) p 0 (omega arith) (omega arith) ∙ four_back n k))
 number-laid (m ∷ ms) n ns at p b e h k =
-    number-laid ms n ns (at + 4) p (placed b at (fourBytes m) .1) (omega arith) (omega (arith, length-placed b at (fourBytes m))) k
+    number-laid ms n ns (at + 4) p (placed b at (four_bytes m)).1 (omega arith) (omega (arith, length-placed b at (four_bytes m))) k
 
 -- ---- containers that lie in the same bytes
 
-same-container : (b c : List ℕ) (at : ℕ) → ((p : ℕ) → at ≤ p → p < at + recordSize → getD b p 0 ≡ getD c p 0) → containerAt b at ≡ containerAt c at
-same-container b c at f =
+same_container : (b c : List ℕ) (at : ℕ) → ((p : ℕ) → at ≤ p → p < at + record_size → get_or b p 0 ≡ get_or c p 0) → container_at b at ≡ container_at c at
+same_container b c at f =
     rw (
       same-four b c at (λ p h k. f p h (omega arith)),
       same-four b c (at + 4) (λ p h k. f p (omega arith) (omega arith)),
@@ -110,144 +110,144 @@ same-container b c at f =
 
 -- ---- the head
 
-flag-back : (t : Bool) → not (eqb (flag t) 0) ≡ t
-flag-back true = refl
-flag-back false = refl
+flag_back : (t : Bool) → not (eqb (flag t) 0) ≡ t
+flag_back true = refl
+flag_back false = refl
 
-module _ (st : List ℕ) (u d : ℕ) (wt : Bool) (h : length st ≡ stateSize) where
-  head-laid : storedHead u d wt st ≡ laid st 0 (headBytes u d wt)
-  unfolding storedHead
-  head-laid = rw (eq-eqb (length st) stateSize h, storedHead)
+module _ (st : List ℕ) (u d : ℕ) (wt : Bool) (h : length st ≡ state_size) where
+  head_laid : stored_head u d wt st ≡ laid st 0 (head_bytes u d wt)
+  unfolding stored_head
+  head_laid = rw (eq-eqb (length st) state_size h, stored_head)
 
-  pub length-head : length (storedHead u d wt st) ≡ stateSize
-  length-head = ap length head-laid ∙ (length-laid st 0 (headBytes u d wt) (omega arith) ∙ h)
+  pub length_head : length (stored_head u d wt st) ≡ state_size
+  length_head = ap length head_laid ∙ (length-laid st 0 (head_bytes u d wt) (omega arith) ∙ h)
 
-  containers-head : containersFrom (storedHead u d wt st) 0 mostOpen ≡ containersFrom st 0 mostOpen
-  containers-head =
-      ext-getD noContainer (containersFrom (storedHead u d wt st) 0 mostOpen) (containersFrom st 0 mostOpen)
-      (length-containers (storedHead u d wt st) 0 mostOpen ∙ sym (length-containers st 0 mostOpen))
+  containers_head : containers_from (stored_head u d wt st) 0 most_open ≡ containers_from st 0 most_open
+  containers_head =
+      ext_get_or no_container (containers_from (stored_head u d wt st) 0 most_open) (containers_from st 0 most_open)
+      (length_containers (stored_head u d wt st) 0 most_open ∙ sym (length_containers st 0 most_open))
       (λ i k.
-      let j : i < mostOpen = omega (arith, k, length-containers (storedHead u d wt st) 0 mostOpen) in
-      container-is (storedHead u d wt st) i j
-      ∙ (same-container (storedHead u d wt st) st (placeOf i)
-      (λ p q r. ap (λ (l : List ℕ). getD l p 0) head-laid ∙ byte-behind st 0 (headBytes u d wt) (omega arith) p (omega arith))
-      ∙ sym (container-is st i j)))
+      let j : i < most_open = omega (arith, k, length_containers (stored_head u d wt st) 0 most_open) in
+      container_is (stored_head u d wt st) i j
+      ∙ (same_container (stored_head u d wt st) st (place_of i)
+      (λ p q r. ap (λ (l : List ℕ). get_or l p 0) head_laid ∙ byte_behind st 0 (head_bytes u d wt) (omega arith) p (omega arith))
+      ∙ sym (container_is st i j)))
 
-  pub state-head : u < 2 ^ 32 → d < 256 → stateOf (storedHead u d wt st) ≡ record { used = u; depth = d; waiting = wt; containers = stateOf st .containers }
+  pub state_head : u < 2 ^ 32 → d < 256 → state_of (stored_head u d wt st) ≡ record { used = u; depth = d; waiting = wt; containers = (state_of st).containers }
   unfolding laid
-  state-head ku kd =
-      state-is (storedHead u d wt st) length-head
-      ∙ rw (containers-head, head-laid, four-back u ku, flag-back wt, mod-eq-of-lt {n = d} {m = 256} kd, state-is st h)
+  state_head ku kd =
+      state_is (stored_head u d wt st) length_head
+      ∙ rw (containers_head, head_laid, four_back u ku, flag_back wt, mod-eq_of_lt {n = d} {m = 256} kd, state_is st h)
 
 -- ---- a container
 
 -- bytes laid within the record of the container i
-module _ (st : List ℕ) (i at : ℕ) (xs : List ℕ) (h : length st ≡ stateSize) (k : i < mostOpen) (from : placeOf i ≤ at)
-    (to : at + length xs ≤ placeOf i + recordSize) where
+module _ (st : List ℕ) (i at : ℕ) (xs : List ℕ) (h : length st ≡ state_size) (k : i < most_open) (from : place_of i ≤ at)
+    (to : at + length xs ≤ place_of i + record_size) where
   abbrev after : List ℕ
   after = laid st at xs
 
-  length-within : length after ≡ stateSize
-  length-within = length-laid st at xs (omega arith) ∙ h
+  length_within : length after ≡ state_size
+  length_within = length-laid st at xs (omega arith) ∙ h
 
   -- another container lies in other bytes
-  container-other : (j : ℕ) → (j ≡ i → ⊥) → containerAt after (placeOf j) ≡ containerAt st (placeOf j)
-  container-other j n =
-      same-container after st (placeOf j)
+  container_other : (j : ℕ) → (j ≡ i → ⊥) → container_at after (place_of j) ≡ container_at st (place_of j)
+  container_other j n =
+      same_container after st (place_of j)
       (λ p q r.
-      by-cases (ltb j i)
-      (λ t. byte-before st at xs (omega arith) p (omega (arith, ltb-true j i t)))
-      (λ t. byte-behind st at xs (omega arith) p (omega (arith, ltb-false j i t, n))))
+      by_cases (ltb j i)
+      (λ t. byte_before st at xs (omega arith) p (omega (arith, ltb-true j i t)))
+      (λ t. byte_behind st at xs (omega arith) p (omega (arith, ltb-false j i t, n))))
 
   -- c is the container that they leave
-  module _ (c : Container) (back : containerAt after (placeOf i) ≡ c) where
-    containers-set : containersFrom after 0 mostOpen ≡ set (containersFrom st 0 mostOpen) i c
-    containers-set =
-        ext-getD noContainer (containersFrom after 0 mostOpen) (set (containersFrom st 0 mostOpen) i c)
-        (length-containers after 0 mostOpen ∙ sym (length-set (containersFrom st 0 mostOpen) i c ∙ length-containers st 0 mostOpen))
+  module _ (c : Container) (back : container_at after (place_of i) ≡ c) where
+    containers_set : containers_from after 0 most_open ≡ set (containers_from st 0 most_open) i c
+    containers_set =
+        ext_get_or no_container (containers_from after 0 most_open) (set (containers_from st 0 most_open) i c)
+        (length_containers after 0 most_open ∙ sym (length-set (containers_from st 0 most_open) i c ∙ length_containers st 0 most_open))
         (λ j q.
-        let m : j < mostOpen = omega (arith, q, length-containers after 0 mostOpen) in
-        container-is after j m
-        ∙ by-cases (eqb j i)
-        (λ t. rw (eqb-true j i t) (back ∙ sym (getD-set-same (containersFrom st 0 mostOpen) i c noContainer (omega (arith, length-containers st 0 mostOpen)))))
-        (λ t. container-other j (eqb-false j i t)
-        ∙ sym (getD-set-other (containersFrom st 0 mostOpen) i j c noContainer (eqb-false j i t) ∙ container-is st j m)))
+        let m : j < most_open = omega (arith, q, length_containers after 0 most_open) in
+        container_is after j m
+        ∙ by_cases (eqb j i)
+        (λ t. rw (eqb-true j i t) (back ∙ sym (get_or-set_same (containers_from st 0 most_open) i c no_container (omega (arith, length_containers st 0 most_open)))))
+        (λ t. container_other j (eqb-false j i t)
+        ∙ sym (get_or-set_other (containers_from st 0 most_open) i j c no_container (eqb-false j i t) ∙ container_is st j m)))
 
-    state-within : stateOf after .containers ≡ set (stateOf st .containers) i c
-    state-within = rw (state-is after length-within, state-is st h) containers-set
+    state_within : (state_of after).containers ≡ set (state_of st).containers i c
+    state_within = rw (state_is after length_within, state_is st h) containers_set
 
-module _ (st : List ℕ) (i : ℕ) (c : Container) (h : length st ≡ stateSize) (k : i < mostOpen) where
-  container-laid : storedContainer i c st ≡ laid st (placeOf i) (containerBytes c)
-  unfolding storedContainer
-  container-laid = rw (eq-eqb (length st) stateSize h, lt-ltb i mostOpen k, storedContainer)
+module _ (st : List ℕ) (i : ℕ) (c : Container) (h : length st ≡ state_size) (k : i < most_open) where
+  container_laid : stored_container i c st ≡ laid st (place_of i) (container_bytes c)
+  unfolding stored_container
+  container_laid = rw (eq-eqb (length st) state_size h, lt-ltb i most_open k, stored_container)
 
-  pub length-container : length (storedContainer i c st) ≡ stateSize
-  length-container = ap length container-laid ∙ length-within st i (placeOf i) (containerBytes c) h k (omega arith) (omega arith)
+  pub length_container : length (stored_container i c st) ≡ state_size
+  length_container = ap length container_laid ∙ length_within st i (place_of i) (container_bytes c) h k (omega arith) (omega arith)
 
-  container-back : c .start < 2 ^ 32 → c .header < 2 ^ 32 → c .members < 2 ^ 32 → containerAt (laid st (placeOf i) (containerBytes c)) (placeOf i) ≡ c
-  container-back ks kh km =
-      let f : (p j : ℕ) → p ≡ placeOf i + j → j + 4 ≤ recordSize
-      → four (laid st (placeOf i) (containerBytes c)) p ≡ four (containerBytes c) j =
-      four-within st (placeOf i) (containerBytes c) (omega arith) in
+  container_back : c.start < 2 ^ 32 → c.header < 2 ^ 32 → c.members < 2 ^ 32 → container_at (laid st (place_of i) (container_bytes c)) (place_of i) ≡ c
+  container_back ks kh km =
+      let f : (p j : ℕ) → p ≡ place_of i + j → j + 4 ≤ record_size
+      → four (laid st (place_of i) (container_bytes c)) p ≡ four (container_bytes c) j =
+      four_within st (place_of i) (container_bytes c) (omega arith) in
       rw (
-        f (placeOf i) 0 (omega arith) (omega arith),
-        f (placeOf i + 4) 4 refl (omega arith),
-        byte-within st (placeOf i) (containerBytes c) (omega arith) (placeOf i + 8) 8 refl (omega arith),
-        f (placeOf i + 9) 9 refl (omega arith),
-        four-back (c .start) ks,
-        four-back (c .header) kh,
-        four-back (c .members) km,
+        f (place_of i) 0 (omega arith) (omega arith),
+        f (place_of i + 4) 4 refl (omega arith),
+        byte_within st (place_of i) (container_bytes c) (omega arith) (place_of i + 8) 8 refl (omega arith),
+        f (place_of i + 9) 9 refl (omega arith),
+        four_back c.start ks,
+        four_back c.header kh,
+        four_back c.members km,
       )
 
-  pub state-container : c .start < 2 ^ 32 → c .header < 2 ^ 32 → c .members < 2 ^ 32
-      → stateOf (storedContainer i c st) .containers ≡ set (stateOf st .containers) i c
-  state-container ks kh km = rw container-laid (state-within st i (placeOf i) (containerBytes c) h k (omega arith) (omega arith) c (container-back ks kh km))
+  pub state_container : c.start < 2 ^ 32 → c.header < 2 ^ 32 → c.members < 2 ^ 32
+      → (state_of (stored_container i c st)).containers ≡ set (state_of st).containers i c
+  state_container ks kh km = rw container_laid (state_within st i (place_of i) (container_bytes c) h k (omega arith) (omega arith) c (container_back ks kh km))
 
 -- ---- a count
 
-module _ (st : List ℕ) (i n : ℕ) (h : length st ≡ stateSize) (k : i < mostOpen) where
-  members-laid : storedMembers i n st ≡ laid st (placeOf i + 9) (fourBytes n)
-  unfolding storedMembers
-  members-laid = rw (eq-eqb (length st) stateSize h, lt-ltb i mostOpen k, storedMembers)
+module _ (st : List ℕ) (i n : ℕ) (h : length st ≡ state_size) (k : i < most_open) where
+  members-laid : stored_members i n st ≡ laid st (place_of i + 9) (four_bytes n)
+  unfolding stored_members
+  members-laid = rw (eq-eqb (length st) state_size h, lt-ltb i most_open k, stored_members)
 
-  length-members : length (storedMembers i n st) ≡ stateSize
-  length-members = ap length members-laid ∙ length-within st i (placeOf i + 9) (fourBytes n) h k (omega arith) (omega arith)
+  length-members : length (stored_members i n st) ≡ state_size
+  length-members = ap length members-laid ∙ length_within st i (place_of i + 9) (four_bytes n) h k (omega arith) (omega arith)
 
-  abbrev withCount : Container → Container
-  withCount c = record { start = c .start; header = c .header; code = c .code; members = n }
+  abbrev with_count : Container → Container
+  with_count c = record { start = c.start; header = c.header; code = c.code; members = n }
 
-  members-back : n < 2 ^ 32 → containerAt (laid st (placeOf i + 9) (fourBytes n)) (placeOf i) ≡ withCount (containerAt st (placeOf i))
-  members-back kn =
-      let f : (p : ℕ) → p < placeOf i + 9 → getD (laid st (placeOf i + 9) (fourBytes n)) p 0 ≡ getD st p 0 =
-      byte-before st (placeOf i + 9) (fourBytes n) (omega arith) in
+  members_back : n < 2 ^ 32 → container_at (laid st (place_of i + 9) (four_bytes n)) (place_of i) ≡ with_count (container_at st (place_of i))
+  members_back kn =
+      let f : (p : ℕ) → p < place_of i + 9 → get_or (laid st (place_of i + 9) (four_bytes n)) p 0 ≡ get_or st p 0 =
+      byte_before st (place_of i + 9) (four_bytes n) (omega arith) in
       rw (
-        same-four (laid st (placeOf i + 9) (fourBytes n)) st (placeOf i) (λ p q r. f p (omega arith)),
-        same-four (laid st (placeOf i + 9) (fourBytes n)) st (placeOf i + 4) (λ p q r. f p (omega arith)),
-        f (placeOf i + 8) (omega arith),
-        four-within st (placeOf i + 9) (fourBytes n) (omega arith) (placeOf i + 9) 0 (omega arith) (omega arith),
-        four-back n kn,
+        same-four (laid st (place_of i + 9) (four_bytes n)) st (place_of i) (λ p q r. f p (omega arith)),
+        same-four (laid st (place_of i + 9) (four_bytes n)) st (place_of i + 4) (λ p q r. f p (omega arith)),
+        f (place_of i + 8) (omega arith),
+        four_within st (place_of i + 9) (four_bytes n) (omega arith) (place_of i + 9) 0 (omega arith) (omega arith),
+        four_back n kn,
       )
 
-  state-members : n < 2 ^ 32
-      → stateOf (storedMembers i n st) .containers
-      ≡ set (stateOf st .containers) i (withCount (getD (stateOf st .containers) i noContainer))
-  state-members kn =
-      let g : getD (stateOf st .containers) i noContainer ≡ containerAt st (placeOf i) = rw (state-is st h) (container-is st i k) in
-      rw (members-laid, g) (state-within st i (placeOf i + 9) (fourBytes n) h k (omega arith) (omega arith)
-      (withCount (containerAt st (placeOf i))) (members-back kn))
+  state_members : n < 2 ^ 32
+      → (state_of (stored_members i n st)).containers
+      ≡ set (state_of st).containers i (with_count (get_or (state_of st).containers i no_container))
+  state_members kn =
+      let g : get_or (state_of st).containers i no_container ≡ container_at st (place_of i) = rw (state_is st h) (container_is st i k) in
+      rw (members-laid, g) (state_within st i (place_of i + 9) (four_bytes n) h k (omega arith) (omega arith)
+      (with_count (container_at st (place_of i))) (members_back kn))
 
 -- the count of the innermost of d containers
-module _ (st : List ℕ) (h : length st ≡ stateSize) where
-  pub length-count : (cs : List Container) (d : ℕ) → d ≤ mostOpen → length (storedCount d cs st) ≡ stateSize
-  length-count cs zero k = h
-  length-count cs (suc i) k = length-members st i (getD cs i noContainer .members) h (omega arith)
+module _ (st : List ℕ) (h : length st ≡ state_size) where
+  pub length_count : (cs : List Container) (d : ℕ) → d ≤ most_open → length (stored_count d cs st) ≡ state_size
+  length_count cs zero k = h
+  length_count cs (suc i) k = length-members st i (get_or cs i no_container).members h (omega arith)
 
-  pub state-count : (d : ℕ) → d ≤ mostOpen → ((j : ℕ) → j < d → getD (stateOf st .containers) j noContainer .members + 1 < 2 ^ 32)
-      → stateOf (storedCount d (counted (stateOf st .containers) d) st) .containers ≡ counted (stateOf st .containers) d
-  state-count zero k few = refl
-  state-count (suc i) k few =
-      let cs : List Container = stateOf st .containers in
-      let l : length cs ≡ mostOpen = rw (state-is st h) (length-containers st 0 mostOpen) in
-      let g : getD (counted cs (suc i)) i noContainer ≡ withMember (getD cs i noContainer) =
-      getD-set-same cs i (withMember (getD cs i noContainer)) noContainer (omega arith) in
-      rw g (state-members st i (getD cs i noContainer .members + 1) h (omega arith) (few i (omega arith)))
+  pub state_count : (d : ℕ) → d ≤ most_open → ((j : ℕ) → j < d → (get_or (state_of st).containers j no_container).members + 1 < 2 ^ 32)
+      → (state_of (stored_count d (counted (state_of st).containers d) st)).containers ≡ counted (state_of st).containers d
+  state_count zero k few = refl
+  state_count (suc i) k few =
+      let cs : List Container = (state_of st).containers in
+      let l : length cs ≡ most_open = rw (state_is st h) (length_containers st 0 most_open) in
+      let g : get_or (counted cs (suc i)) i no_container ≡ with_member (get_or cs i no_container) =
+      get_or-set_same cs i (with_member (get_or cs i no_container)) no_container (omega arith) in
+      rw g (state_members st i ((get_or cs i no_container).members + 1) h (omega arith) (few i (omega arith)))

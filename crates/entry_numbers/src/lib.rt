@@ -1,18 +1,16 @@
 // The numbers that cross between a host and the writer: a refusal's, a type's, a precision's, and what says whether an offset or a fraction is given.
-ghost use mathlib.Core.Path.{_≡_};
-ghost use Rattle·machine.specs.Numbers.{number, verdictOf};
-ghost use Rattle·state_bytes.specs.StateBytes.{numberOf};
-ghost use Rattle·entry_numbers·specs.specs.Lent.{typeCoded, precisionNumbered, offsetLent, fractionLent};
-use machine::Answer;
-use machine::Refusal;
+ghost use Rattle.std.specs.Prelude.{◌≡◌};
+ghost use Rattle.machine.specs.Numbers.{number, verdict_of};
+ghost use Rattle.state_bytes.specs.StateBytes.{number_of};
+ghost use Rattle.entry_numbers.specs.Lent.{type_coded, precision_numbered, offset_lent, fraction_lent};
+
+use machine::{Answer, Refusal};
 use scalars::IonType;
-use timestamp::Fraction;
-use timestamp::Offset;
-use timestamp::Precision;
+use timestamp::{Fraction, Offset, Precision};
 
 // The number of a refusal in document 01's table.
 pub fn number_of(why: Refusal) -> u8
-    ensures { λ r. ⌜ r ≡ number why ⌝ }
+    ensures { result ≡ number why }
 {
     match why {
         Refusal::BufferTooLong => 1,
@@ -29,7 +27,7 @@ pub fn number_of(why: Refusal) -> u8
 
 // 0 for an accepted call, or the refusal's number.
 pub fn answered(answer: Answer) -> u8
-    ensures { λ r. ⌜ r ≡ numberOf (verdictOf answer) ⌝ }
+    ensures { result ≡ number_of (verdict_of answer) }
 {
     match answer {
         Answer::Accepted => 0,
@@ -39,7 +37,7 @@ pub fn answered(answer: Answer) -> u8
 
 // The type of a null by its type code in the Ion document. 3, which is of negative ints, is int; a number past 13 stands for null.
 pub fn type_of_code(code: u8) -> IonType
-    ensures { λ r. ⌜ r ≡ typeCoded code ⌝ }
+    ensures { result ≡ type_coded code }
 {
     match code {
         0 => IonType::Null,
@@ -62,7 +60,7 @@ pub fn type_of_code(code: u8) -> IonType
 
 // From 0 for year to 4 for second; a larger number is second too.
 pub fn precision_of(number: u8) -> Precision
-    ensures { λ r. ⌜ r ≡ precisionNumbered number ⌝ }
+    ensures { result ≡ precision_numbered number }
 {
     match number {
         0 => Precision::Year,
@@ -75,7 +73,7 @@ pub fn precision_of(number: u8) -> Precision
 
 // An offset, where one is known.
 pub fn offset_of(known: u8, minutes: i32) -> Offset
-    ensures { λ r. ⌜ r ≡ offsetLent known minutes ⌝ }
+    ensures { result ≡ offset_lent known minutes }
 {
     if known == 0 {
         return Offset::Unknown;
@@ -85,7 +83,7 @@ pub fn offset_of(known: u8, minutes: i32) -> Offset
 
 // A fraction of the second, where one is given.
 pub fn fraction_of(given: u8, digits: u32, coefficient: u64) -> Fraction
-    ensures { λ r. ⌜ r ≡ fractionLent given digits coefficient ⌝ }
+    ensures { result ≡ fraction_lent given digits coefficient }
 {
     if given == 0 {
         return Fraction::None;

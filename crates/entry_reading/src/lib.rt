@@ -1,17 +1,18 @@
 // The entry points of the reader: a lent stream and numbers in, numbers in a lent slice out.
 // Each answers 0, or the refusal's number, and then leaves the slice as it was; `gm_read_rest` puts a refusal's place there.
-ghost use mathlib.Core.Path.{_≡_};
-ghost use Rattle·reading.specs.declared.Refusal.the-variants.{NotIon};
-ghost use Rattle·reading.specs.Headers.{varUIntAt};
-ghost use Rattle·reading.specs.Bodies.{decimalIn, shownIn, symbolIn};
-ghost use Rattle·reading.specs.Walk.{walkIn};
-ghost use Rattle·reader.specs.Values.{nextIn};
-ghost use Rattle·read_answers.specs.Answers.{Answered, itemAnswer, readingAnswer, numberAnswer, decimalAnswer, timestampAnswer, symbolAnswer};
+ghost use Rattle.std.specs.Prelude.{◌≡◌};
+ghost use Rattle.reading.specs.declared.Refusal.TheVariants.{NotIon};
+ghost use Rattle.reading.specs.Headers.{var_uint_at};
+ghost use Rattle.reading.specs.Bodies.{decimal_in, shown_in, symbol_in};
+ghost use Rattle.reading.specs.Walk.{walk_in};
+ghost use Rattle.reader.specs.Values.{next_in};
+ghost use Rattle.read_answers.specs.Answers.{Answered, itemAnswer, readingAnswer, numberAnswer, decimalAnswer, timestampAnswer, symbolAnswer};
+
 use reading::Refusal;
 
 // The item at a position of what ends at `end`: the stream, with 0 for `parent`, or a container, with its type byte. Six numbers: its name, where its
 // sids start and stop, its type byte, where its body starts and stops.
-#[no_mangle]
+#[unsafe(no_mangle)]
 pub extern "C" fn gm_read_item(
     stream: &[u8],
     end: usize,
@@ -21,8 +22,8 @@ pub extern "C" fn gm_read_item(
     position: usize,
     item: &mut [u64],
 ) -> u8
-    ensures { λ r. ⌜ _≡_ {A = Answered} (r, now (item .exit))
-        (itemAnswer position (nextIn (now (stream .entry)) end parent least depth position) (now (item .entry))) ⌝ }
+    ensures { ◌≡◌ {A = Answered} (result, item.new)
+        (itemAnswer position (next_in stream.now end parent least depth position) item.old) }
 {
     read_answers::answer_item(
         reader::next(stream, end, parent, least, depth, position),
@@ -32,7 +33,7 @@ pub extern "C" fn gm_read_item(
 }
 
 // All from a position to `end`, containers entered: 0 if it reads, else the refusal, with the place of the item that does not read.
-#[no_mangle]
+#[unsafe(no_mangle)]
 pub extern "C" fn gm_read_rest(
     stream: &[u8],
     end: usize,
@@ -42,8 +43,8 @@ pub extern "C" fn gm_read_rest(
     position: usize,
     place: &mut [u64],
 ) -> u8
-    ensures { λ r. ⌜ _≡_ {A = Answered} (r, now (place .exit))
-        (readingAnswer (walkIn (now (stream .entry)) end parent least depth position .1) (now (place .entry))) ⌝ }
+    ensures { ◌≡◌ {A = Answered} (result, place.new)
+        (readingAnswer (walk_in stream.now end parent least depth position).1 place.old) }
 {
     read_answers::answer_reading(
         reader::read(stream, end, parent, least, depth, position),
@@ -52,35 +53,35 @@ pub extern "C" fn gm_read_rest(
 }
 
 // A sid of the part that an item's sids are, and where the next starts.
-#[no_mangle]
+#[unsafe(no_mangle)]
 pub extern "C" fn gm_read_sid(sids: &[u8], position: usize, sid: &mut [u64]) -> u8
-    ensures { λ r. ⌜ _≡_ {A = Answered} (r, now (sid .exit))
-        (numberAnswer (varUIntAt NotIon (now (sids .entry)) position) (now (sid .entry))) ⌝ }
+    ensures { ◌≡◌ {A = Answered} (result, sid.new)
+        (numberAnswer (var_uint_at NotIon sids.now position) sid.old) }
 {
     read_answers::answer_number(read_fields::var_uint(sids, position, Refusal::NotIon), sid)
 }
 
 // A decimal's body: the exponent's sign (1 if negative) and magnitude, and where the coefficient starts, an Int.
-#[no_mangle]
+#[unsafe(no_mangle)]
 pub extern "C" fn gm_read_decimal(body: &[u8], decimal: &mut [u64]) -> u8
-    ensures { λ r. ⌜ _≡_ {A = Answered} (r, now (decimal .exit)) (decimalAnswer (decimalIn (now (body .entry))) (now (decimal .entry))) ⌝ }
+    ensures { ◌≡◌ {A = Answered} (result, decimal.new) (decimalAnswer (decimal_in body.now) decimal.old) }
 {
     read_answers::answer_decimal(read_bodies::decimal(body), decimal)
 }
 
 // A timestamp's body: whether its offset is known, the offset's sign and minutes; how many fields there are, and six of them, in UTC; how many digits
 // the fraction has, and where its coefficient starts, an Int; whether it is marked as out of the calendar.
-#[no_mangle]
+#[unsafe(no_mangle)]
 pub extern "C" fn gm_read_timestamp(body: &[u8], timestamp: &mut [u64]) -> u8
-    ensures { λ r. ⌜ _≡_ {A = Answered} (r, now (timestamp .exit)) (timestampAnswer (shownIn (now (body .entry))) (now (timestamp .entry))) ⌝ }
+    ensures { ◌≡◌ {A = Answered} (result, timestamp.new) (timestampAnswer (shown_in body.now) timestamp.old) }
 {
     read_answers::answer_timestamp(read_mark::timestamp(body), timestamp)
 }
 
 // A symbol's body: its sid.
-#[no_mangle]
+#[unsafe(no_mangle)]
 pub extern "C" fn gm_read_symbol(body: &[u8], sid: &mut [u64]) -> u8
-    ensures { λ r. ⌜ _≡_ {A = Answered} (r, now (sid .exit)) (symbolAnswer (symbolIn (now (body .entry))) (now (sid .entry))) ⌝ }
+    ensures { ◌≡◌ {A = Answered} (result, sid.new) (symbolAnswer (symbol_in body.now) sid.old) }
 {
     read_answers::answer_symbol(read_bodies::symbol(body), sid)
 }

@@ -1,27 +1,28 @@
 // The entry points that write a scalar given by numbers; state and buffer are lent.
 // Each answers 0 for an accepted call, or the refusal's number. A refused call leaves state and buffer as they were.
 // A number that stands for yes or no is no where it is 0.
-ghost use mathlib.Core.Path.{_≡_};
-ghost use Rattle·annotations.specs.Sids.{sidsOf};
-ghost use Rattle·timestamp.specs.Arguments.{argumentOf};
-ghost use Rattle·machine.specs.Call.{write};
-ghost use Rattle·state_bytes.specs.StateBytes.{entered};
-ghost use Rattle·entry_steps.specs.Entries.{enteredAs};
-ghost use Rattle·entry_numbers.specs.EntryCall.{gmWriteNull, gmWriteBool, gmWriteI64, gmWriteF32, gmWriteF64, gmWriteTimestamp, gmWriteSymbol};
-ghost use Rattle·entry_numbers.specs.EntryCall.{callOf};
+ghost use Rattle.std.specs.Prelude.{◌≡◌};
+ghost use Rattle.annotations.specs.Sids.{sids_of};
+ghost use Rattle.timestamp.specs.Arguments.{argument_of};
+ghost use Rattle.machine.specs.Call.{write};
+ghost use Rattle.state_bytes.specs.StateBytes.{entered};
+ghost use Rattle.entry_steps.specs.Entries.{entered_as};
+ghost use Rattle.entry_numbers.specs.EntryCall.{gm_write_null, gm_write_bool, gm_write_i64, gm_write_f32, gm_write_f64, gm_write_timestamp, gm_write_symbol};
+ghost use Rattle.entry_numbers.specs.EntryCall.{call_of};
+
 use machine::Refusal;
 use timestamp::Timestamp;
 
 // A null, by the type code.
-#[no_mangle]
+#[unsafe(no_mangle)]
 pub extern "C" fn gm_write_null(
     state: &mut [u8],
     buf: &mut [u8],
     annotations: &[u8],
     code: u8,
 ) -> u8
-    ensures { λ r. ⌜ enteredAs r (now (state .exit)) (now (buf .exit))
-        ≡ entered (callOf (gmWriteNull (now (annotations .entry)) code)) (now (state .entry)) (now (buf .entry)) ⌝ }
+    ensures { entered_as result state.new buf.new
+        ≡ entered (call_of (gm_write_null annotations.now code)) state.old buf.old }
 {
     if !state_bytes::value_passes(state, buf.len()) {
         return entry_numbers::answered(state_bytes::value_place(state, buf.len()));
@@ -36,15 +37,15 @@ pub extern "C" fn gm_write_null(
 }
 
 // A bool.
-#[no_mangle]
+#[unsafe(no_mangle)]
 pub extern "C" fn gm_write_bool(
     state: &mut [u8],
     buf: &mut [u8],
     annotations: &[u8],
     value: u8,
 ) -> u8
-    ensures { λ r. ⌜ enteredAs r (now (state .exit)) (now (buf .exit))
-        ≡ entered (callOf (gmWriteBool (now (annotations .entry)) value)) (now (state .entry)) (now (buf .entry)) ⌝ }
+    ensures { entered_as result state.new buf.new
+        ≡ entered (call_of (gm_write_bool annotations.now value)) state.old buf.old }
 {
     if !state_bytes::value_passes(state, buf.len()) {
         return entry_numbers::answered(state_bytes::value_place(state, buf.len()));
@@ -54,15 +55,15 @@ pub extern "C" fn gm_write_bool(
 }
 
 // An int of 64 bits with its sign.
-#[no_mangle]
+#[unsafe(no_mangle)]
 pub extern "C" fn gm_write_i64(
     state: &mut [u8],
     buf: &mut [u8],
     annotations: &[u8],
     value: i64,
 ) -> u8
-    ensures { λ r. ⌜ enteredAs r (now (state .exit)) (now (buf .exit))
-        ≡ entered (callOf (gmWriteI64 (now (annotations .entry)) value)) (now (state .entry)) (now (buf .entry)) ⌝ }
+    ensures { entered_as result state.new buf.new
+        ≡ entered (call_of (gm_write_i64 annotations.now value)) state.old buf.old }
 {
     if !state_bytes::value_passes(state, buf.len()) {
         return entry_numbers::answered(state_bytes::value_place(state, buf.len()));
@@ -72,15 +73,15 @@ pub extern "C" fn gm_write_i64(
 }
 
 // A float by the bits of binary32.
-#[no_mangle]
+#[unsafe(no_mangle)]
 pub extern "C" fn gm_write_f32(
     state: &mut [u8],
     buf: &mut [u8],
     annotations: &[u8],
     bits: u32,
 ) -> u8
-    ensures { λ r. ⌜ enteredAs r (now (state .exit)) (now (buf .exit))
-        ≡ entered (callOf (gmWriteF32 (now (annotations .entry)) bits)) (now (state .entry)) (now (buf .entry)) ⌝ }
+    ensures { entered_as result state.new buf.new
+        ≡ entered (call_of (gm_write_f32 annotations.now bits)) state.old buf.old }
 {
     if !state_bytes::value_passes(state, buf.len()) {
         return entry_numbers::answered(state_bytes::value_place(state, buf.len()));
@@ -90,15 +91,15 @@ pub extern "C" fn gm_write_f32(
 }
 
 // A float by the bits of binary64, in four bytes where binary32 holds it.
-#[no_mangle]
+#[unsafe(no_mangle)]
 pub extern "C" fn gm_write_f64(
     state: &mut [u8],
     buf: &mut [u8],
     annotations: &[u8],
     bits: u64,
 ) -> u8
-    ensures { λ r. ⌜ enteredAs r (now (state .exit)) (now (buf .exit))
-        ≡ entered (callOf (gmWriteF64 (now (annotations .entry)) bits)) (now (state .entry)) (now (buf .entry)) ⌝ }
+    ensures { entered_as result state.new buf.new
+        ≡ entered (call_of (gm_write_f64 annotations.now bits)) state.old buf.old }
 {
     if !state_bytes::value_passes(state, buf.len()) {
         return entry_numbers::answered(state_bytes::value_place(state, buf.len()));
@@ -109,8 +110,8 @@ pub extern "C" fn gm_write_f64(
 
 // A timestamp by its local fields and its offset.
 fn write_timestamp(state: &mut [u8], buf: &mut [u8], annotations: &[u8], value: Timestamp) -> u8
-    ensures { λ r. ⌜ enteredAs r (now (state .exit)) (now (buf .exit))
-        ≡ entered (write (sidsOf (now (annotations .entry))) (argumentOf value)) (now (state .entry)) (now (buf .entry)) ⌝ }
+    ensures { entered_as result state.new buf.new
+        ≡ entered (write (sids_of annotations.now) (argument_of value)) state.old buf.old }
 {
     if !state_bytes::value_passes(state, buf.len()) {
         return entry_numbers::answered(state_bytes::value_place(state, buf.len()));
@@ -123,7 +124,7 @@ fn write_timestamp(state: &mut [u8], buf: &mut [u8], annotations: &[u8], value: 
 }
 
 // The same by numbers. A field past the precision means nothing, nor does an offset that is not known or a fraction that is not given.
-#[no_mangle]
+#[unsafe(no_mangle)]
 pub extern "C" fn gm_write_timestamp(
     state: &mut [u8],
     buf: &mut [u8],
@@ -141,8 +142,8 @@ pub extern "C" fn gm_write_timestamp(
     digits: u32,
     coefficient: u64,
 ) -> u8
-    ensures { λ r. ⌜ enteredAs r (now (state .exit)) (now (buf .exit))
-        ≡ entered (callOf (gmWriteTimestamp (now (annotations .entry)) (record {
+    ensures { entered_as result state.new buf.new
+        ≡ entered (call_of (gm_write_timestamp annotations.now (record {
           precision = precision;
           year = year;
           month = month;
@@ -155,7 +156,7 @@ pub extern "C" fn gm_write_timestamp(
           given = given;
           digits = digits;
           coefficient = coefficient;
-        }))) (now (state .entry)) (now (buf .entry)) ⌝ }
+        }))) state.old buf.old }
 {
     let value = Timestamp {
         precision: entry_numbers::precision_of(precision),
@@ -172,15 +173,15 @@ pub extern "C" fn gm_write_timestamp(
 }
 
 // A symbol by its sid.
-#[no_mangle]
+#[unsafe(no_mangle)]
 pub extern "C" fn gm_write_symbol(
     state: &mut [u8],
     buf: &mut [u8],
     annotations: &[u8],
     sid: u64,
 ) -> u8
-    ensures { λ r. ⌜ enteredAs r (now (state .exit)) (now (buf .exit))
-        ≡ entered (callOf (gmWriteSymbol (now (annotations .entry)) sid)) (now (state .entry)) (now (buf .entry)) ⌝ }
+    ensures { entered_as result state.new buf.new
+        ≡ entered (call_of (gm_write_symbol annotations.now sid)) state.old buf.old }
 {
     if !state_bytes::value_passes(state, buf.len()) {
         return entry_numbers::answered(state_bytes::value_place(state, buf.len()));

@@ -1,14 +1,15 @@
 // The entry points that write a scalar given by a slice: ints and decimals of any size, strings and lobs; state and buffer are lent.
 // Each answers 0 for an accepted call, or the refusal's number. A refused call leaves state and buffer as they were.
 // A number that stands for yes or no is no where it is 0.
-ghost use mathlib.Core.Path.{_≡_};
-ghost use Rattle·state_bytes.specs.StateBytes.{entered};
-ghost use Rattle·entry_steps.specs.Entries.{enteredAs};
-ghost use Rattle·entry_numbers.specs.EntryCall.{gmWriteInt, gmWriteDecimal, gmWriteString, gmWriteClob, gmWriteBlob, callOf};
+ghost use Rattle.std.specs.Prelude.{◌≡◌};
+ghost use Rattle.state_bytes.specs.StateBytes.{entered};
+ghost use Rattle.entry_steps.specs.Entries.{entered_as};
+ghost use Rattle.entry_numbers.specs.EntryCall.{gm_write_int, gm_write_decimal, gm_write_string, gm_write_clob, gm_write_blob, call_of};
+
 use machine::Refusal;
 
 // An int of any size: its sign, and its magnitude from the highest byte on.
-#[no_mangle]
+#[unsafe(no_mangle)]
 pub extern "C" fn gm_write_int(
     state: &mut [u8],
     buf: &mut [u8],
@@ -16,8 +17,8 @@ pub extern "C" fn gm_write_int(
     negative: u8,
     magnitude: &[u8],
 ) -> u8
-    ensures { λ r. ⌜ enteredAs r (now (state .exit)) (now (buf .exit))
-        ≡ entered (callOf (gmWriteInt (now (annotations .entry)) negative (now (magnitude .entry)))) (now (state .entry)) (now (buf .entry)) ⌝ }
+    ensures { entered_as result state.new buf.new
+        ≡ entered (call_of (gm_write_int annotations.now negative magnitude.now)) state.old buf.old }
 {
     if !state_bytes::value_passes(state, buf.len()) {
         return entry_numbers::answered(state_bytes::value_place(state, buf.len()));
@@ -36,7 +37,7 @@ pub extern "C" fn gm_write_int(
 }
 
 // A decimal: sign, coefficient from the highest byte on, exponent.
-#[no_mangle]
+#[unsafe(no_mangle)]
 pub extern "C" fn gm_write_decimal(
     state: &mut [u8],
     buf: &mut [u8],
@@ -45,8 +46,8 @@ pub extern "C" fn gm_write_decimal(
     coefficient: &[u8],
     exponent: i64,
 ) -> u8
-    ensures { λ r. ⌜ enteredAs r (now (state .exit)) (now (buf .exit))
-        ≡ entered (callOf (gmWriteDecimal (now (annotations .entry)) negative (now (coefficient .entry)) exponent)) (now (state .entry)) (now (buf .entry)) ⌝ }
+    ensures { entered_as result state.new buf.new
+        ≡ entered (call_of (gm_write_decimal annotations.now negative coefficient.now exponent)) state.old buf.old }
 {
     if !state_bytes::value_passes(state, buf.len()) {
         return entry_numbers::answered(state_bytes::value_place(state, buf.len()));
@@ -70,15 +71,15 @@ pub extern "C" fn gm_write_decimal(
 }
 
 // A string, in UTF-8.
-#[no_mangle]
+#[unsafe(no_mangle)]
 pub extern "C" fn gm_write_string(
     state: &mut [u8],
     buf: &mut [u8],
     annotations: &[u8],
     bytes: &[u8],
 ) -> u8
-    ensures { λ r. ⌜ enteredAs r (now (state .exit)) (now (buf .exit))
-        ≡ entered (callOf (gmWriteString (now (annotations .entry)) (now (bytes .entry)))) (now (state .entry)) (now (buf .entry)) ⌝ }
+    ensures { entered_as result state.new buf.new
+        ≡ entered (call_of (gm_write_string annotations.now bytes.now)) state.old buf.old }
 {
     if !state_bytes::value_passes(state, buf.len()) {
         return entry_numbers::answered(state_bytes::value_place(state, buf.len()));
@@ -91,15 +92,15 @@ pub extern "C" fn gm_write_string(
 }
 
 // A clob.
-#[no_mangle]
+#[unsafe(no_mangle)]
 pub extern "C" fn gm_write_clob(
     state: &mut [u8],
     buf: &mut [u8],
     annotations: &[u8],
     bytes: &[u8],
 ) -> u8
-    ensures { λ r. ⌜ enteredAs r (now (state .exit)) (now (buf .exit))
-        ≡ entered (callOf (gmWriteClob (now (annotations .entry)) (now (bytes .entry)))) (now (state .entry)) (now (buf .entry)) ⌝ }
+    ensures { entered_as result state.new buf.new
+        ≡ entered (call_of (gm_write_clob annotations.now bytes.now)) state.old buf.old }
 {
     if !state_bytes::value_passes(state, buf.len()) {
         return entry_numbers::answered(state_bytes::value_place(state, buf.len()));
@@ -109,15 +110,15 @@ pub extern "C" fn gm_write_clob(
 }
 
 // A blob.
-#[no_mangle]
+#[unsafe(no_mangle)]
 pub extern "C" fn gm_write_blob(
     state: &mut [u8],
     buf: &mut [u8],
     annotations: &[u8],
     bytes: &[u8],
 ) -> u8
-    ensures { λ r. ⌜ enteredAs r (now (state .exit)) (now (buf .exit))
-        ≡ entered (callOf (gmWriteBlob (now (annotations .entry)) (now (bytes .entry)))) (now (state .entry)) (now (buf .entry)) ⌝ }
+    ensures { entered_as result state.new buf.new
+        ≡ entered (call_of (gm_write_blob annotations.now bytes.now)) state.old buf.old }
 {
     if !state_bytes::value_passes(state, buf.len()) {
         return entry_numbers::answered(state_bytes::value_place(state, buf.len()));

@@ -1,19 +1,17 @@
 // Prints every small value (document 02, Item 12) in lower-case hex, one a line, shorter first and then by bytes. With an argument, 1, 2 or 3, it prints
 // those of at most so many bytes.
-ghost use mathlib.Core.Path.{_≡_};
-ghost use mathlib.Core.List.{[], _∷_, _++_};
-ghost use Prim.Native.Nat.{_+_, _*_, _≤_};
-ghost use lib.ListN.{length};
-ghost use Rattle·encoding.specs.Digits.{lowDigits};
-ghost use Rattle·buffer.specs.Laid.{laid};
-ghost use Rattle·words.specs.Hex.{hexText};
-use libc::STDERR_FILENO;
-use libc::STDOUT_FILENO;
+ghost use Rattle.std.specs.Prelude.{◌≡◌, [], ◌∷◌, ◌++◌, ◌+◌, ◌*◌, ◌≤◌, length};
+ghost use Rattle.encoding.specs.Digits.{low_digits};
+ghost use Rattle.buffer.specs.Laid.{laid};
+ghost use Rattle.words.specs.Hex.{hex_text};
+
+use libc::{STDERR_FILENO, STDOUT_FILENO};
 
 // How many bytes may wait to be printed where a line, of at most six digits and a line feed, is put behind them.
 const MOST_WAITING: usize = 65529;
 
 // Whether bytes could be printed, and how many wait now.
+#[derive(Drop)]
 struct Printed {
     all: bool,
     waiting: usize,
@@ -21,8 +19,8 @@ struct Printed {
 
 // Puts the line of a string from `at` on. The result is where it ends.
 fn put_line(out: &mut [u8], at: usize, size: usize, number: u32) -> usize
-    requires { ⌜ (size ≤ 3) × (at + 7 ≤ length (now out)) ⌝ }
-    ensures { λ r. ⌜ (r ≡ at + 2 * size + 1) × (now (out .exit) ≡ laid (now (out .entry)) at (hexText (lowDigits 256 size number) ++ (10 ∷ []))) ⌝ }
+    requires { (size ≤ 3) × (at + 7 ≤ length out.old) }
+    ensures { (result ≡ at + 2 * size + 1) × (out.new ≡ laid out.old at (hex_text (low_digits 256 size number) ++ (10 ∷ []))) }
 {
     let mut bytes = [0u8; 3];
     small_values::spell(&mut bytes[..size], number);
@@ -45,7 +43,7 @@ fn print(text: &[u8]) -> bool {
 
 // Prints the bytes that wait, if they are too many.
 fn print_waiting(waiting: &[u8]) -> Printed
-    ensures { λ r. ⌜ r .waiting ≤ 65529 ⌝ }
+    ensures { result.waiting ≤ 65529 }
 {
     if waiting.len() <= MOST_WAITING {
         return Printed {
@@ -61,7 +59,7 @@ fn print_waiting(waiting: &[u8]) -> Printed
 
 // Prints the lines of one size, or stops where they can't be printed.
 fn print_size(size: usize) -> bool
-    requires { ⌜ size ≤ 3 ⌝ }
+    requires { size ≤ 3 }
 {
     let mut out = io::large_buffer();
     let mut used: usize = 0;
@@ -78,7 +76,7 @@ fn print_size(size: usize) -> bool
 }
 
 fn print_sizes(most: usize)
-    requires { ⌜ most ≤ 3 ⌝ }
+    requires { most ≤ 3 }
 {
     let mut size: usize = 1;
     while size <= most {
@@ -91,7 +89,7 @@ fn print_sizes(most: usize)
 
 // The number that a digit from 1 to 3 stands for, or 0 for any other byte.
 fn small_digit(byte: u8) -> usize
-    ensures { λ r. ⌜ r ≤ 3 ⌝ }
+    ensures { result ≤ 3 }
 {
     match byte {
         b'1' => 1,
@@ -103,7 +101,7 @@ fn small_digit(byte: u8) -> usize
 
 // The most bytes that are asked for: three without an argument, 0 with one that is no number of bytes.
 fn most_bytes() -> usize
-    ensures { λ r. ⌜ r ≤ 3 ⌝ }
+    ensures { result ≤ 3 }
 {
     if os::arg_count() < 2 {
         return 3;

@@ -1,15 +1,12 @@
 // Floats: `write_f32` and `write_f64` of document 01's value_writer. The type byte is 4 and the size of what follows: 40, 44 or 48.
 // A call that keeps a NaN's own bits takes bits, since the language has one NaN; a call that takes an f32 or f64 compares it with zero.
-ghost use mathlib.Core.Path.{_≡_};
-ghost use mathlib.Core.List.{List, _∷_};
-ghost use Prim.Native.Nat.{ℕ, _+_, _≤_, _<_};
-ghost use lib.Dec.{eqb};
-ghost use lib.ListN.{length};
-ghost use lib.Ieee.{binary32, binary64, toBits};
-ghost use Rattle·buffer.specs.Laid.{laid, placed};
-ghost use Rattle·encoding.specs.Fields.{fixedBytes};
-ghost use Rattle·encoding.specs.Argument.{float32Bytes, float64Bytes};
-ghost use Rattle·floats·specs.specs.Narrowed.{narrowedBits, Dropped};
+ghost use Rattle.std.specs.Prelude.{◌≡◌, List, ◌∷◌, ℕ, ◌+◌, ◌≤◌, ◌<◌, eqb, length};
+ghost use Rattle.std.specs.Float.{binary32, binary64};
+ghost use Rattle.std.specs.Float.Ieee.{to_bits};
+ghost use Rattle.buffer.specs.Laid.{laid, placed};
+ghost use Rattle.encoding.specs.Fields.{fixed_bytes};
+ghost use Rattle.encoding.specs.Argument.{float32_bytes, float64_bytes};
+ghost use Rattle.floats.specs.Narrowed.{narrowed_bits, Dropped};
 
 // The sign bits, and the weight of the exponent's field.
 const SIGN_32: u32 = 0x8000_0000;
@@ -39,6 +36,7 @@ const GREATEST: u64 = 1150;
 const MORE_DIGITS: u64 = 29;
 
 // Whether binary32 holds the value of an f64 exactly, and its bits there.
+#[derive(Drop)]
 pub enum Narrowed {
     Exact(u32),
     No,
@@ -46,8 +44,8 @@ pub enum Narrowed {
 
 // How many of the 53 digits at the field x binary32 has no place for: those too many, and those below 2^-149.
 fn dropped_digits(x: u64) -> u64
-    requires { ⌜ 874 ≤ x ⌝ }
-    ensures { λ r. ⌜ Dropped x r ⌝ }
+    requires { 874 ≤ x }
+    ensures { Dropped x result }
 {
     if x < LAST_IS_LEAST - MORE_DIGITS {
         return LAST_IS_LEAST - x;
@@ -57,7 +55,7 @@ fn dropped_digits(x: u64) -> u64
 
 // An f64 by its bits; a NaN is not narrowed. The digits that are dropped must be zeros, which the trailing zeros tell.
 pub fn narrow(bits: u64) -> Narrowed
-    ensures { λ r. ⌜ r ≡ narrowedBits bits ⌝ }
+    ensures { result ≡ narrowed_bits bits }
 {
     let sign = (bits / SIGN_64) as u32 * SIGN_32;
     let magnitude = bits % SIGN_64;
@@ -84,8 +82,8 @@ pub fn narrow(bits: u64) -> Narrowed
 
 // The lowest `size` bytes of n, big-endian, from the last to the first.
 fn fill(buf: &mut [u8], at: usize, size: usize, n: u64)
-    requires { ⌜ at + size ≤ length (now buf) ⌝ }
-    ensures { λ r. ⌜ now (buf .exit) ≡ laid (now (buf .entry)) at (fixedBytes size n) ⌝ }
+    requires { at + size ≤ length buf.old }
+    ensures { buf.new ≡ laid buf.old at (fixed_bytes size n) }
 {
     let mut rest = n;
     let mut i = size;
@@ -98,8 +96,8 @@ fn fill(buf: &mut [u8], at: usize, size: usize, n: u64)
 
 // The type byte and `size` bytes of bits; 0 where there is no room.
 fn write_sized(buf: &mut [u8], at: usize, size: usize, bits: u64) -> usize
-    requires { ⌜ size ≤ 8 ⌝ }
-    ensures { λ r. ⌜ _≡_ {A = ℕ × List ℕ} (r, now (buf .exit)) (placed (now (buf .entry)) at ((0x40 + size) ∷ fixedBytes size bits)) ⌝ }
+    requires { size ≤ 8 }
+    ensures { ◌≡◌ {A = ℕ × List ℕ} (result, buf.new) (placed buf.old at ((0x40 + size) ∷ fixed_bytes size bits)) }
 {
     if buf.len() <= at {
         return 0;
@@ -114,7 +112,7 @@ fn write_sized(buf: &mut [u8], at: usize, size: usize, bits: u64) -> usize
 
 // The size of what `write_f32_bits` puts.
 pub fn f32_bits_size(bits: u32) -> usize
-    ensures { λ r. ⌜ r ≡ length (float32Bytes bits) ⌝ }
+    ensures { result ≡ length (float32_bytes bits) }
 {
     if bits == 0 {
         return 1;
@@ -124,7 +122,7 @@ pub fn f32_bits_size(bits: u32) -> usize
 
 // Positive zero is 40; every other f32 is 44 and its own bits, a NaN's too. Answers the size, or 0 where there is no room.
 pub fn write_f32_bits(buf: &mut [u8], at: usize, bits: u32) -> usize
-    ensures { λ r. ⌜ _≡_ {A = ℕ × List ℕ} (r, now (buf .exit)) (placed (now (buf .entry)) at (float32Bytes bits)) ⌝ }
+    ensures { ◌≡◌ {A = ℕ × List ℕ} (result, buf.new) (placed buf.old at (float32_bytes bits)) }
 {
     if bits == 0 {
         return write_sized(buf, at, 0, 0);
@@ -134,7 +132,7 @@ pub fn write_f32_bits(buf: &mut [u8], at: usize, bits: u32) -> usize
 
 // The size of what `write_f64_bits` puts.
 pub fn f64_bits_size(bits: u64) -> usize
-    ensures { λ r. ⌜ r ≡ length (float64Bytes bits) ⌝ }
+    ensures { result ≡ length (float64_bytes bits) }
 {
     match narrow(bits) {
         Narrowed::Exact(n) => f32_bits_size(n),
@@ -144,7 +142,7 @@ pub fn f64_bits_size(bits: u64) -> usize
 
 // An f64 that binary32 holds exactly goes out as an f32; every other, and every NaN, is 48 and its own bits.
 pub fn write_f64_bits(buf: &mut [u8], at: usize, bits: u64) -> usize
-    ensures { λ r. ⌜ _≡_ {A = ℕ × List ℕ} (r, now (buf .exit)) (placed (now (buf .entry)) at (float64Bytes bits)) ⌝ }
+    ensures { ◌≡◌ {A = ℕ × List ℕ} (result, buf.new) (placed buf.old at (float64_bytes bits)) }
 {
     match narrow(bits) {
         Narrowed::Exact(n) => write_f32_bits(buf, at, n),
@@ -154,7 +152,7 @@ pub fn write_f64_bits(buf: &mut [u8], at: usize, bits: u64) -> usize
 
 // A NaN has the bits 7FC00000: `to_bits` is not defined there.
 fn bits_of_f32(v: f32) -> u32
-    ensures { λ r. ⌜ r ≡ toBits binary32 v ⌝ }
+    ensures { result ≡ to_bits binary32 v }
 {
     if v != v {
         return QUIET_NAN_32;
@@ -164,7 +162,7 @@ fn bits_of_f32(v: f32) -> u32
 
 // A NaN has the bits 7FF8000000000000.
 fn bits_of_f64(v: f64) -> u64
-    ensures { λ r. ⌜ r ≡ toBits binary64 v ⌝ }
+    ensures { result ≡ to_bits binary64 v }
 {
     if v != v {
         return QUIET_NAN_64;
@@ -174,21 +172,21 @@ fn bits_of_f64(v: f64) -> u64
 
 // Whether an f32 is positive zero. Negative zero equals it, so the sign bit is asked too.
 fn is_positive_zero_f32(v: f32) -> bool
-    ensures { λ r. ⌜ r ≡ eqb (toBits binary32 v) 0 ⌝ }
+    ensures { result ≡ eqb (to_bits binary32 v) 0 }
 {
     (v == 0.0) & (bits_of_f32(v) < SIGN_32)
 }
 
 // The same of an f64.
 fn is_positive_zero_f64(v: f64) -> bool
-    ensures { λ r. ⌜ r ≡ eqb (toBits binary64 v) 0 ⌝ }
+    ensures { result ≡ eqb (to_bits binary64 v) 0 }
 {
     (v == 0.0) & (bits_of_f64(v) < SIGN_64)
 }
 
 // The size of what `write_f32` puts.
 pub fn f32_size(v: f32) -> usize
-    ensures { λ r. ⌜ r ≡ length (float32Bytes (toBits binary32 v)) ⌝ }
+    ensures { result ≡ length (float32_bytes (to_bits binary32 v)) }
 {
     if is_positive_zero_f32(v) {
         return 1;
@@ -198,7 +196,7 @@ pub fn f32_size(v: f32) -> usize
 
 // An f32 by its value.
 pub fn write_f32(buf: &mut [u8], at: usize, v: f32) -> usize
-    ensures { λ r. ⌜ _≡_ {A = ℕ × List ℕ} (r, now (buf .exit)) (placed (now (buf .entry)) at (float32Bytes (toBits binary32 v))) ⌝ }
+    ensures { ◌≡◌ {A = ℕ × List ℕ} (result, buf.new) (placed buf.old at (float32_bytes (to_bits binary32 v))) }
 {
     if is_positive_zero_f32(v) {
         return write_sized(buf, at, 0, 0);
@@ -208,7 +206,7 @@ pub fn write_f32(buf: &mut [u8], at: usize, v: f32) -> usize
 
 // The size of what `write_f64` puts.
 pub fn f64_size(v: f64) -> usize
-    ensures { λ r. ⌜ r ≡ length (float64Bytes (toBits binary64 v)) ⌝ }
+    ensures { result ≡ length (float64_bytes (to_bits binary64 v)) }
 {
     if is_positive_zero_f64(v) {
         return 1;
@@ -218,7 +216,7 @@ pub fn f64_size(v: f64) -> usize
 
 // An f64 by its value.
 pub fn write_f64(buf: &mut [u8], at: usize, v: f64) -> usize
-    ensures { λ r. ⌜ _≡_ {A = ℕ × List ℕ} (r, now (buf .exit)) (placed (now (buf .entry)) at (float64Bytes (toBits binary64 v))) ⌝ }
+    ensures { ◌≡◌ {A = ℕ × List ℕ} (result, buf.new) (placed buf.old at (float64_bytes (to_bits binary64 v))) }
 {
     if is_positive_zero_f64(v) {
         return write_sized(buf, at, 0, 0);

@@ -1,37 +1,27 @@
 // The entry points for a host, whole: here those for the stream, and those of the crates below handed on.
 // The state is lent as bytes, which crate state_bytes describes.
 // Each answers 0 for an accepted call, or the refusal's number. A refused call leaves what is lent as it was.
-ghost use mathlib.Core.Path.{_≡_};
-ghost use lib.ListN.{length, replicate};
-ghost use Rattle·machine.specs.Machine.{finishedLength};
-ghost use Rattle·state_bytes.specs.StateBytes.{stateOf, entered};
-ghost use Rattle·entry_steps.specs.Entries.{enteredAs, startEntered};
-ghost use Rattle·entry_numbers.specs.EntryCall.{gmVersionMarker, gmEmpty, callOf};
-pub use entry_containers::gm_abandon;
-pub use entry_containers::gm_close;
-pub use entry_containers::gm_field_name;
-pub use entry_containers::gm_open_list;
-pub use entry_containers::gm_open_sexp;
-pub use entry_containers::gm_open_struct;
-pub use entry_scalars::gm_write_bool;
-pub use entry_scalars::gm_write_f32;
-pub use entry_scalars::gm_write_f64;
-pub use entry_scalars::gm_write_i64;
-pub use entry_scalars::gm_write_null;
-pub use entry_scalars::gm_write_symbol;
-pub use entry_scalars::gm_write_timestamp;
-pub use entry_slices::gm_write_blob;
-pub use entry_slices::gm_write_clob;
-pub use entry_slices::gm_write_decimal;
-pub use entry_slices::gm_write_int;
-pub use entry_slices::gm_write_string;
-use machine::LONGEST_BUFFER;
-use machine::MARKER;
-use machine::Refusal;
+ghost use Rattle.std.specs.Prelude.{◌≡◌, length, replicate};
+ghost use Rattle.machine.specs.Machine.{finished_length};
+ghost use Rattle.state_bytes.specs.StateBytes.{state_of, entered};
+ghost use Rattle.entry_steps.specs.Entries.{entered_as, start_entered};
+ghost use Rattle.entry_numbers.specs.EntryCall.{gm_version_marker, gm_empty, call_of};
+
+pub use entry_containers::{
+    gm_abandon, gm_close, gm_field_name, gm_open_list, gm_open_sexp, gm_open_struct,
+};
+pub use entry_scalars::{
+    gm_write_bool, gm_write_f32, gm_write_f64, gm_write_i64, gm_write_null, gm_write_symbol,
+    gm_write_timestamp,
+};
+pub use entry_slices::{
+    gm_write_blob, gm_write_clob, gm_write_decimal, gm_write_int, gm_write_string,
+};
+use machine::{LONGEST_BUFFER, MARKER, Refusal};
 pub use state_bytes::STATE_SIZE;
 
 fn clear(state: &mut [u8])
-    ensures { λ r. ⌜ now (state .exit) ≡ replicate (length (now (state .entry))) 0 ⌝ }
+    ensures { state.new ≡ replicate (length state.old) 0 }
 {
     let mut i: usize = 0;
     while i < state.len() {
@@ -41,9 +31,9 @@ fn clear(state: &mut [u8])
 }
 
 // A start: the empty state over a lent buffer that begins with a version marker.
-#[no_mangle]
+#[unsafe(no_mangle)]
 pub extern "C" fn gm_start(state: &mut [u8], buf: &mut [u8]) -> u8
-    ensures { λ r. ⌜ enteredAs r (now (state .exit)) (now (buf .exit)) ≡ startEntered (now (state .entry)) (now (buf .entry)) ⌝ }
+    ensures { entered_as result state.new buf.new ≡ start_entered state.old buf.old }
 {
     if state.len() != STATE_SIZE {
         if LONGEST_BUFFER < buf.len() {
@@ -64,10 +54,10 @@ pub extern "C" fn gm_start(state: &mut [u8], buf: &mut [u8]) -> u8
 }
 
 // A version marker, at the place of the call.
-#[no_mangle]
+#[unsafe(no_mangle)]
 pub extern "C" fn gm_version_marker(state: &mut [u8], buf: &mut [u8]) -> u8
-    ensures { λ r. ⌜ enteredAs r (now (state .exit)) (now (buf .exit))
-        ≡ entered (callOf gmVersionMarker) (now (state .entry)) (now (buf .entry)) ⌝ }
+    ensures { entered_as result state.new buf.new
+        ≡ entered (call_of gm_version_marker) state.old buf.old }
 {
     if !state_bytes::top_passes(state, buf.len()) {
         return entry_numbers::answered(state_bytes::top_place(state, buf.len()));
@@ -77,10 +67,10 @@ pub extern "C" fn gm_version_marker(state: &mut [u8], buf: &mut [u8]) -> u8
 }
 
 // An emptying: the used length becomes zero, and no byte of the buffer alters.
-#[no_mangle]
+#[unsafe(no_mangle)]
 pub extern "C" fn gm_empty(state: &mut [u8], buf: &[u8]) -> u8
-    ensures { λ r. ⌜ enteredAs r (now (state .exit)) (now (buf .entry))
-        ≡ entered (callOf gmEmpty) (now (state .entry)) (now (buf .entry)) ⌝ }
+    ensures { entered_as result state.new buf.now
+        ≡ entered (call_of gm_empty) state.old buf.now }
 {
     if !state_bytes::top_passes(state, buf.len()) {
         return entry_numbers::answered(state_bytes::top_place(state, buf.len()));
@@ -92,9 +82,9 @@ pub extern "C" fn gm_empty(state: &mut [u8], buf: &[u8]) -> u8
 }
 
 // A taking: how many bytes from the buffer's front are finished.
-#[no_mangle]
+#[unsafe(no_mangle)]
 pub extern "C" fn gm_finished(state: &[u8], buf: &[u8]) -> usize
-    ensures { λ r. ⌜ r ≡ finishedLength (stateOf (now (state .entry))) (length (now (buf .entry))) ⌝ }
+    ensures { result ≡ finished_length (state_of state.now) (length buf.now) }
 {
     state_bytes::finished_length(state, buf.len())
 }

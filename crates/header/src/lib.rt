@@ -1,17 +1,14 @@
 // The header of a value: the type code in the high four bits; the length in the low four, or from 14 on E there and a VarUInt behind.
-ghost use mathlib.Core.Path.{_≡_};
-ghost use mathlib.Core.List.{List};
-ghost use Prim.Native.Nat.{ℕ, _*_, _/_};
-ghost use lib.ListN.{length};
-ghost use Rattle·encoding.specs.Headers.{headerBytes};
-ghost use Rattle·buffer.specs.Laid.{placed};
+ghost use Rattle.std.specs.Prelude.{◌≡◌, List, ℕ, ◌*◌, ◌/◌, length};
+ghost use Rattle.encoding.specs.Headers.{header_bytes};
+ghost use Rattle.buffer.specs.Laid.{placed};
 
 // The least length that goes into a VarUInt, and the low four bits that say so.
 const LONG: usize = 14;
 
 // The bytes that the header of `body` bytes takes, of any type.
 pub fn encoded_size_of(body: usize) -> usize
-    ensures { λ r. ⌜ r ≡ length (headerBytes 0 body) ⌝ }
+    ensures { result ≡ length (header_bytes 0 body) }
 {
     if body < LONG {
         return 1;
@@ -21,7 +18,7 @@ pub fn encoded_size_of(body: usize) -> usize
 
 // The header of `body` bytes. `code` has the type code in its high four bits; its low four do not count.
 pub fn write(buf: &mut [u8], at: usize, code: u8, body: usize) -> usize
-    ensures { λ r. ⌜ _≡_ {A = ℕ × List ℕ} (r, now (buf .exit)) (placed (now (buf .entry)) at (headerBytes (code / 16 * 16) body)) ⌝ }
+    ensures { ◌≡◌ {A = ℕ × List ℕ} (result, buf.new) (placed buf.old at (header_bytes (code / 16 * 16) body)) }
 {
     let high = code / 16 * 16;
     if body < LONG {

@@ -1,17 +1,13 @@
 // Int: a UInt with the sign in the top bit of the first byte; where the magnitude takes that bit, a byte with the sign alone goes before it.
-ghost use mathlib.Core.Path.{_≡_};
-ghost use mathlib.Core.Bool.{false};
-ghost use mathlib.Core.List.{List, _∷_};
-ghost use Prim.Native.Nat.{ℕ};
-ghost use lib.ListN.{length};
-ghost use Rattle·encoding.specs.Fields.{uintBytes, trimmed, intBytes};
-ghost use Rattle·buffer.specs.Laid.{placed};
+ghost use Rattle.std.specs.Prelude.{◌≡◌, false, List, ◌∷◌, ℕ, length};
+ghost use Rattle.encoding.specs.Fields.{uint_bytes, trimmed, int_bytes};
+ghost use Rattle.buffer.specs.Laid.{placed};
 
 const SIGN: u8 = 0x80;
 
 // The bytes that an Int of this sign and big-endian magnitude takes: none for zero, one for negative zero.
 pub fn encoded_size_of(negative: bool, magnitude: &[u8]) -> usize
-    ensures { λ r. ⌜ r ≡ length (intBytes negative (trimmed (now (magnitude .entry)))) ⌝ }
+    ensures { result ≡ length (int_bytes negative (trimmed magnitude.now)) }
 {
     let zeros = uint::leading_zero_bytes(magnitude);
     if zeros == magnitude.len() {
@@ -23,7 +19,7 @@ pub fn encoded_size_of(negative: bool, magnitude: &[u8]) -> usize
 
 // A first byte and those of `rest`.
 fn write_first(buf: &mut [u8], at: usize, first: u8, rest: &[u8]) -> usize
-    ensures { λ r. ⌜ _≡_ {A = ℕ × List ℕ} (r, now (buf .exit)) (placed (now (buf .entry)) at (first ∷ now (rest .entry))) ⌝ }
+    ensures { ◌≡◌ {A = ℕ × List ℕ} (result, buf.new) (placed buf.old at (first ∷ rest.now)) }
 {
     if !buffer::has_room(buf.len(), at, rest.len() + 1) {
         return 0;
@@ -35,7 +31,7 @@ fn write_first(buf: &mut [u8], at: usize, first: u8, rest: &[u8]) -> usize
 
 // The sign and a big-endian magnitude as an Int. Zero keeps its sign.
 pub fn write(buf: &mut [u8], at: usize, negative: bool, magnitude: &[u8]) -> usize
-    ensures { λ r. ⌜ _≡_ {A = ℕ × List ℕ} (r, now (buf .exit)) (placed (now (buf .entry)) at (intBytes negative (trimmed (now (magnitude .entry))))) ⌝ }
+    ensures { ◌≡◌ {A = ℕ × List ℕ} (result, buf.new) (placed buf.old at (int_bytes negative (trimmed magnitude.now))) }
 {
     let zeros = uint::leading_zero_bytes(magnitude);
     let sign = SIGN * (negative as u8);
@@ -54,7 +50,7 @@ pub fn write(buf: &mut [u8], at: usize, negative: bool, magnitude: &[u8]) -> usi
 
 // The bytes that `value` takes as an Int: n of them hold 8 n - 1 bits, and zero takes none.
 pub fn encoded_size_of_u64(value: u64) -> usize
-    ensures { λ r. ⌜ r ≡ length (intBytes false (uintBytes value)) ⌝ }
+    ensures { result ≡ length (int_bytes false (uint_bytes value)) }
 {
     if value == 0 {
         return 0;
@@ -64,7 +60,7 @@ pub fn encoded_size_of_u64(value: u64) -> usize
 
 // `value` as an Int: its bytes with the top bit clear, so that a zero byte goes before them where the top bit is taken.
 pub fn write_u64(buf: &mut [u8], at: usize, value: u64) -> usize
-    ensures { λ r. ⌜ _≡_ {A = ℕ × List ℕ} (r, now (buf .exit)) (placed (now (buf .entry)) at (intBytes false (uintBytes value))) ⌝ }
+    ensures { ◌≡◌ {A = ℕ × List ℕ} (result, buf.new) (placed buf.old at (int_bytes false (uint_bytes value))) }
 {
     uint::write_fixed(buf, at, encoded_size_of_u64(value), value)
 }

@@ -1,14 +1,14 @@
 -- Cases on a test, and what a conjunction and a disjunction of tests tell.
 -- Assumes nothing.
-use Prim.Native.Nat.{ℕ, zero, suc, _≤_}
+use Prim.Native.Nat.{ℕ, zero, suc, ◌≤◌}
 use native.Mathlib.Omega.{arith}
-use mathlib.Core.Path.{_≡_, refl}
-use mathlib.Core.Bool.{Bool, true, false, false≢true, _&&_, _||_}
-use mathlib.Core.Logic.{_⊎_, inl, inr}
+use mathlib.Core.Path.{◌≡◌, refl}
+use mathlib.Core.Bool.{Bool, true, false, false≢true, ◌&&◌, ◌||◌}
+use mathlib.Core.Logic.{◌⊎◌, inl, inr}
 
-pub by-cases : {X : Type 0} (b : Bool) → (b ≡ true → X) → (b ≡ false → X) → X
-by-cases true f g = f refl
-by-cases false f g = g refl
+pub by_cases : {X : Type 0} (b : Bool) → (b ≡ true → X) → (b ≡ false → X) → X
+by_cases true f g = f refl
+by_cases false f g = g refl
 
 pub both : {a b : Bool} → (a && b) ≡ true → (a ≡ true) × (b ≡ true)
 both {a = true} e = (refl, e)
@@ -27,6 +27,6 @@ abbrev pub NoneBelow : ℕ → ℕ → Type 0
 NoneBelow k zero = Unit {0}
 NoneBelow k (suc n) = NoneBelow k n × (k ≡ n → ⊥)
 
-pub none-below : (k n : ℕ) → NoneBelow k n → n ≤ k
-none-below k zero h = omega arith
-none-below k (suc n) h = omega (arith, h .1, none-below k n (h .0))
+pub none_below : (k n : ℕ) → NoneBelow k n → n ≤ k
+none_below k zero h = omega arith
+none_below k (suc n) h = omega (arith, h.1, none_below k n h.0)

@@ -1,11 +1,11 @@
 -- UTF-8 by RFC 3629: both ends of each range of its table, and one beyond each end; no byte begins two alternatives.
 -- Computation. Assumes nothing.
 use Prim.Native.Nat.{ℕ, zero, suc}
-use mathlib.Core.Path.{_≡_, refl}
+use mathlib.Core.Path.{◌≡◌, refl}
 use mathlib.Core.Bool.{true, false}
-use mathlib.Core.List.{List, [], _∷_, map, reverse}
-use Rattle·ion·specs.specs.Text.{characters, begun, utf8From, utf8}
-use Rattle·ion·proofs.proofs.Readings.{bytesBefore, hex}
+use mathlib.Core.List.{List, [], ◌∷◌, map, reverse}
+use Rattle.ion.specs.Text.{characters, begun, utf8_from, utf8}
+use Rattle.ion.proofs.Readings.{bytes_before, hex}
 
 abbrev texts : List ℕ
 texts =
@@ -19,8 +19,8 @@ texts =
     ∷ 0x6FC3A9E282ACF09F98806F
     ∷ []
 
-abbrev noTexts : List ℕ
-noTexts =
+abbrev no_texts : List ℕ
+no_texts =
     -- bytes that begin no character
     0x80 ∷ 0xBF ∷ 0xC180 ∷ 0xF5808080 ∷ 0xFF
     -- a second byte out of its range
@@ -36,13 +36,13 @@ noTexts =
     ∷ 0xC2 ∷ 0xE282 ∷ 0xF09F98 ∷ 0xC28080
     ∷ []
 
-pub texts-read : utf8 [] ∷ utf8 (0x00 ∷ []) ∷ map (λ (n : ℕ). utf8 (hex n)) texts ≡ true ∷ true ∷ map (λ (n : ℕ). true) texts
-unfolding bytesBefore begun utf8From utf8
-texts-read = refl
+pub texts_read : utf8 [] ∷ utf8 (0x00 ∷ []) ∷ map (λ (n : ℕ). utf8 (hex n)) texts ≡ true ∷ true ∷ map (λ (n : ℕ). true) texts
+unfolding bytes_before begun utf8_from utf8
+texts_read = refl
 
-pub texts-refused : map (λ (n : ℕ). utf8 (hex n)) noTexts ≡ map (λ (n : ℕ). false) noTexts
-unfolding bytesBefore begun utf8From utf8
-texts-refused = refl
+pub texts_refused : map (λ (n : ℕ). utf8 (hex n)) no_texts ≡ map (λ (n : ℕ). false) no_texts
+unfolding bytes_before begun utf8_from utf8
+texts_refused = refl
 
 -- ---- the order of the alternatives does not count
 

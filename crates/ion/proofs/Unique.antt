@@ -1,436 +1,436 @@
 -- Every reading is what the reader answers; so two readings of the same bytes are equal.
 -- Assumes nothing.
-use Prim.Native.Nat.{ℕ, zero, suc, _+_, _*_, _%_, _^_, _<_, _≤_}
+use Prim.Native.Nat.{ℕ, zero, suc, ◌+◌, ◌*◌, ◌%◌, ◌^◌, ◌<◌, ◌≤◌}
 use native.Mathlib.Omega.{arith}
-use mathlib.Core.Path.{_≡_, refl, sym, _∙_}
-use mathlib.Core.Logic.{_≢_}
+use mathlib.Core.Path.{◌≡◌, refl, sym, ◌∙◌}
+use mathlib.Core.Logic.{◌≢◌}
 use mathlib.Core.Bool.{Bool, true, false}
-use mathlib.Core.List.{List, [], _∷_, _++_, append-assoc, append-nil}
-use mathlib.Core.Option.{Option, none, some, Option·some-injective, Option·none-ne-some}
+use mathlib.Core.List.{List, [], ◌∷◌, ◌++◌, append_assoc, append-nil}
+use mathlib.Core.Option.{Option, none, some, some-injective, none-ne-some}
 use lib.Dec.{ltb}
 use lib.ListN.{length, length-append}
-use Rattle·ion·specs.specs.Value.{IonType, TypeCode, nullCode, boolCode, positiveCode, negativeCode, floatCode, decimalCode, timestampCode}
-use Rattle·ion·specs.specs.Value.{symbolCode, stringCode, clobCode, blobCode, listCode, sexpCode, structCode, annotationCode, highBits, nullType}
-use Rattle·ion·specs.specs.Value.{sequenceCode, FloatValue, finite, Scalar, null, bool, float, SequenceType, list, sexp, Value, scalar, sequence}
-use Rattle·ion·specs.specs.Value.{struct, Members, noMembers, member, Fields, noFields, field, Item, marker, value}
+use Rattle.ion.specs.Value.{IonType, TypeCode, null_code, bool_code, positive_code, negative_code, float_code, decimal_code, timestamp_code}
+use Rattle.ion.specs.Value.{symbol_code, string_code, clob_code, blob_code, list_code, sexp_code, struct_code, annotation_code, high_bits, null_type}
+use Rattle.ion.specs.Value.{sequence_code, FloatValue, finite, Scalar, null, bool, float, SequenceType, list, sexp, Value, scalar, sequence}
+use Rattle.ion.specs.Value.{struct, Members, no_members, member, Fields, no_fields, field, Item, marker, value}
 use lib.Ieee.{binary32, binary64}
-use Rattle·ion·specs.specs.Fields.{groups, varUInt, VarUInt, uint}
-use Rattle·ion·specs.specs.Scalars.{floatOf, scalarOf}
-use Rattle·ion·specs.specs.Grammar.{Header, short, long, sorted, Phrase, padding, sids, bare, one, members, fields, stream, _⟶_, pad, sids-end}
-use Rattle·ion·specs.specs.Grammar.{sids-next, is-null, is-false, is-true, is-zero, is-float32, is-float64, is-scalar, is-sequence, is-struct}
-use Rattle·ion·specs.specs.Grammar.{is-sorted, is-bare, is-annotated, members-end, members-pad, members-next, fields-end, fields-pad, fields-next}
-use Rattle·ion·specs.specs.Grammar.{stream-end, stream-pad, stream-marker, stream-next, Reads}
-use borrow.Author.Tests.{lt-ltb, ne-eqb}
-use Rattle·ion·proofs.proofs.Tests.{by-cases}
-use Rattle·ion·proofs.proofs.Fields.{varUInt-append, varUInt-pos}
-use Rattle·ion·proofs.proofs.Reader.{Shape, padShape, scalarShape, sequenceShape, structShape, wrapperShape, cut-seam, shape, shapeAt, bodyAt}
-use Rattle·ion·proofs.proofs.Reader.{sortedAt, boolAt, bitsAt, floatAt, plain, shapeOf, shape-header, shape-td, shapeAt-body, opened, plainCode}
-use Rattle·ion·proofs.proofs.Reader.{sidsOf, bareOf, innerOf, wrapperOf, valueOf, isPad, nextMember, nextField, nextItem, readMembers, readFields}
-use Rattle·ion·proofs.proofs.Reader.{afterMarker, orElse, readStream}
+use Rattle.ion.specs.Fields.{groups, var_uint, VarUInt, uint}
+use Rattle.ion.specs.Scalars.{float_of, scalar_of}
+use Rattle.ion.specs.Grammar.{Header, short, long, sorted, Phrase, padding, sids, bare, one, members, fields, stream, ◌⟶◌, pad, sids_end}
+use Rattle.ion.specs.Grammar.{sids_next, is-null, is_false, is_true, is_zero, is_float32, is_float64, is_scalar, is-sequence, is_struct}
+use Rattle.ion.specs.Grammar.{is_sorted, is_bare, is_annotated, members_end, members_pad, members-next, fields_end, fields_pad, fields-next}
+use Rattle.ion.specs.Grammar.{stream_end, stream_pad, stream_marker, stream_next, Reads}
+use borrow.Author.Tests.{lt-ltb, ne_eqb}
+use Rattle.ion.proofs.Tests.{by_cases}
+use Rattle.ion.proofs.Fields.{var_uint_append, var_uint_pos}
+use Rattle.ion.proofs.Reader.{Shape, pad_shape, scalar_shape, sequence_shape, struct_shape, wrapper_shape, cut_seam, shape, shape_at, body_at}
+use Rattle.ion.proofs.Reader.{sorted_at, bool_at, bits_at, float_at, plain, shape_of, shape_header, shape_td, shape_at-body, opened, plain_code}
+use Rattle.ion.proofs.Reader.{sids_of, bare_of, inner_of, wrapper_of, value_of, is_pad, next_member, next_field, next_item, read_members, read_fields}
+use Rattle.ion.proofs.Reader.{after_marker, or_else, read_stream}
 
 -- neither a pad nor an annotation wrapper
 pub ordinary : Shape → Bool
-ordinary padShape = false
-ordinary (scalarShape s) = true
-ordinary (sequenceShape k body) = true
-ordinary (structShape t body) = true
-ordinary (wrapperShape body) = false
+ordinary pad_shape = false
+ordinary (scalar_shape s) = true
+ordinary (sequence_shape k body) = true
+ordinary (struct_shape t body) = true
+ordinary (wrapper_shape body) = false
 
 pub record BareRead (f : ℕ) (an b : List ℕ) (v : Value) : Type 0 where
   pub sh : Shape
   pub at : (r : List ℕ) → shape (b ++ r) ≡ some (sh, r)
   pub kind : ordinary sh ≡ true
-  pub gives : bareOf (λ c. readMembers f c) (λ c. readFields f c) an sh ≡ some v
+  pub gives : bare_of (λ c. read_members f c) (λ c. read_fields f c) an sh ≡ some v
 
 pub record ValueRead (f : ℕ) (b : List ℕ) (v : Value) : Type 0 where
   pub sh : Shape
   pub at : (r : List ℕ) → shape (b ++ r) ≡ some (sh, r)
-  pub kind : isPad sh ≡ false
-  pub gives : valueOf (λ c. readMembers f c) (λ c. readFields f c) sh ≡ some v
+  pub kind : is_pad sh ≡ false
+  pub gives : value_of (λ c. read_members f c) (λ c. read_fields f c) sh ≡ some v
 
 -- ---- single steps of the reader
 
-step-members : (f : ℕ) (b r : List ℕ) (sh : Shape) (v : Value) (vs : Members Scalar) → shape b ≡ some (sh, r) → isPad sh ≡ false
-    → valueOf (λ c. readMembers f c) (λ c. readFields f c) sh ≡ some v → readMembers f r ≡ some vs → readMembers (suc f) b ≡ some (member v vs)
-unfolding readMembers shape nextMember
-step-members f [] r sh v vs p q x y = cc
-step-members f (b ∷ bs) r sh v vs p q x y = rw (p, readMembers, q, x, y)
+step_members : (f : ℕ) (b r : List ℕ) (sh : Shape) (v : Value) (vs : Members Scalar) → shape b ≡ some (sh, r) → is_pad sh ≡ false
+    → value_of (λ c. read_members f c) (λ c. read_fields f c) sh ≡ some v → read_members f r ≡ some vs → read_members (suc f) b ≡ some (member v vs)
+unfolding read_members shape next_member
+step_members f [] r sh v vs p q x y = cc
+step_members f (b ∷ bs) r sh v vs p q x y = rw (p, read_members, q, x, y)
 
-step-members-pad : (f : ℕ) (b r : List ℕ) (vs : Members Scalar) → shape b ≡ some (padShape, r) → readMembers f r ≡ some vs → readMembers (suc f) b ≡ some vs
-unfolding readMembers shape isPad nextMember
-step-members-pad f [] r vs p y = cc
-step-members-pad f (b ∷ bs) r vs p y = rw (p, readMembers, y)
+step_members_pad : (f : ℕ) (b r : List ℕ) (vs : Members Scalar) → shape b ≡ some (pad_shape, r) → read_members f r ≡ some vs → read_members (suc f) b ≡ some vs
+unfolding read_members shape is_pad next_member
+step_members_pad f [] r vs p y = cc
+step_members_pad f (b ∷ bs) r vs p y = rw (p, read_members, y)
 
-step-fields : (f : ℕ) (b s r : List ℕ) (k : ℕ) (sh : Shape) (v : Value) (fs : Fields Scalar) → varUInt b ≡ some (k, s)
-    → shape s ≡ some (sh, r) → isPad sh ≡ false
-    → valueOf (λ c. readMembers f c) (λ c. readFields f c) sh ≡ some v → readFields f r ≡ some fs → readFields (suc f) b ≡ some (field k v fs)
-unfolding readFields varUInt groups nextField
-step-fields f [] s r k sh v fs o p q x y = cc
-step-fields f (b ∷ bs) s r k sh v fs o p q x y = rw (o, readFields, p, q, x, y)
+step_fields : (f : ℕ) (b s r : List ℕ) (k : ℕ) (sh : Shape) (v : Value) (fs : Fields Scalar) → var_uint b ≡ some (k, s)
+    → shape s ≡ some (sh, r) → is_pad sh ≡ false
+    → value_of (λ c. read_members f c) (λ c. read_fields f c) sh ≡ some v → read_fields f r ≡ some fs → read_fields (suc f) b ≡ some (field k v fs)
+unfolding read_fields var_uint groups next_field
+step_fields f [] s r k sh v fs o p q x y = cc
+step_fields f (b ∷ bs) s r k sh v fs o p q x y = rw (o, read_fields, p, q, x, y)
 
-step-fields-pad : (f : ℕ) (b s r : List ℕ) (k : ℕ) (fs : Fields Scalar) → varUInt b ≡ some (k, s) → shape s ≡ some (padShape, r)
-    → readFields f r ≡ some fs → readFields (suc f) b ≡ some fs
-unfolding readFields varUInt groups isPad nextField
-step-fields-pad f [] s r k fs o p y = cc
-step-fields-pad f (b ∷ bs) s r k fs o p y = rw (o, readFields, p, y)
+step_fields_pad : (f : ℕ) (b s r : List ℕ) (k : ℕ) (fs : Fields Scalar) → var_uint b ≡ some (k, s) → shape s ≡ some (pad_shape, r)
+    → read_fields f r ≡ some fs → read_fields (suc f) b ≡ some fs
+unfolding read_fields var_uint groups is_pad next_field
+step_fields_pad f [] s r k fs o p y = cc
+step_fields_pad f (b ∷ bs) s r k fs o p y = rw (o, read_fields, p, y)
 
 -- ---- lengths
 
-pub header-pos : {c : TypeCode} {n : ℕ} {h : List ℕ} → Header c n h → 0 < length h
-header-pos (short lt) = omega arith
-header-pos (long e) = omega arith
+pub header_pos : {c : TypeCode} {n : ℕ} {h : List ℕ} → Header c n h → 0 < length h
+header_pos (short lt) = omega arith
+header_pos (long e) = omega arith
 
 -- ---- what completeness says of each kind of phrase, and each production
 
 abbrev pub Result : List ℕ → Phrase → Type 0
-Result b padding = (0 < length b) × ((r : List ℕ) → shape (b ++ r) ≡ some (padShape, r))
-Result b (sids an) = (f : ℕ) → length b < f → sidsOf f b ≡ some an
+Result b padding = (0 < length b) × ((r : List ℕ) → shape (b ++ r) ≡ some (pad_shape, r))
+Result b (sids an) = (f : ℕ) → length b < f → sids_of f b ≡ some an
 Result b (bare an v) = (0 < length b) × ((f : ℕ) → length b ≤ f → BareRead f an b v)
 Result b (one v) = (0 < length b) × ((f : ℕ) → length b ≤ f → ValueRead f b v)
-Result b (members vs) = (f : ℕ) → length b < f → readMembers f b ≡ some vs
-Result b (fields fs) = (f : ℕ) → length b < f → readFields f b ≡ some fs
-Result b (stream is) = (f : ℕ) → length b < f → readStream f b ≡ some is
+Result b (members vs) = (f : ℕ) → length b < f → read_members f b ≡ some vs
+Result b (fields fs) = (f : ℕ) → length b < f → read_fields f b ≡ some fs
+Result b (stream is) = (f : ℕ) → length b < f → read_stream f b ≡ some is
 
-complete-pad : {h : List ℕ} (body : List ℕ) → Header nullCode (length body) h → Result (h ++ body) padding
-unfolding shapeOf plainCode
-complete-pad body hd = (simp length-append (omega (arith, header-pos hd)), λ r. shape-header nullCode body r padShape refl hd refl)
+complete_pad : {h : List ℕ} (body : List ℕ) → Header null_code (length body) h → Result (h ++ body) padding
+unfolding shape_of plain_code
+complete_pad body hd = (simp length-append (omega (arith, header_pos hd)), λ r. shape_header null_code body r pad_shape refl hd refl)
 
-complete-sids : (l b an : List ℕ) (a : ℕ) → VarUInt l a → Result b (sids an) → Result (l ++ b) (sids (a ∷ an))
-unfolding sidsOf varUInt groups
-complete-sids l b an a e ih zero lt = absurd (omega arith)
-complete-sids [] b an a e ih (suc f) lt = cc
-complete-sids (x ∷ xs) b an a e ih (suc f) lt =
-    rw (varUInt-append (x ∷ xs) a [] b e, ih f (omega (arith, length-append xs b)))
+complete_sids : (l b an : List ℕ) (a : ℕ) → VarUInt l a → Result b (sids an) → Result (l ++ b) (sids (a ∷ an))
+unfolding sids_of var_uint groups
+complete_sids l b an a e ih zero lt = absurd (omega arith)
+complete_sids [] b an a e ih (suc f) lt = cc
+complete_sids (x ∷ xs) b an a e ih (suc f) lt =
+    rw (var_uint_append (x ∷ xs) a [] b e, ih f (omega (arith, length-append xs b)))
 
-scalar-plain : (c : TypeCode) (body : List ℕ) (s : Scalar) → scalarOf c body ≡ some s → plainCode c ≡ true
-unfolding scalarOf plainCode
-scalar-plain nullCode body s e = cc
-scalar-plain boolCode body s e = cc
-scalar-plain positiveCode body s e = refl
-scalar-plain negativeCode body s e = refl
-scalar-plain floatCode body s e = cc
-scalar-plain decimalCode body s e = refl
-scalar-plain timestampCode body s e = refl
-scalar-plain symbolCode body s e = refl
-scalar-plain stringCode body s e = refl
-scalar-plain clobCode body s e = refl
-scalar-plain blobCode body s e = refl
-scalar-plain listCode body s e = cc
-scalar-plain sexpCode body s e = cc
-scalar-plain structCode body s e = cc
-scalar-plain annotationCode body s e = cc
+scalar_plain : (c : TypeCode) (body : List ℕ) (s : Scalar) → scalar_of c body ≡ some s → plain_code c ≡ true
+unfolding scalar_of plain_code
+scalar_plain null_code body s e = cc
+scalar_plain bool_code body s e = cc
+scalar_plain positive_code body s e = refl
+scalar_plain negative_code body s e = refl
+scalar_plain float_code body s e = cc
+scalar_plain decimal_code body s e = refl
+scalar_plain timestamp_code body s e = refl
+scalar_plain symbol_code body s e = refl
+scalar_plain string_code body s e = refl
+scalar_plain clob_code body s e = refl
+scalar_plain blob_code body s e = refl
+scalar_plain list_code body s e = cc
+scalar_plain sexp_code body s e = cc
+scalar_plain struct_code body s e = cc
+scalar_plain annotation_code body s e = cc
 
-scalar-shape : (c : TypeCode) (body : List ℕ) (s : Scalar) → scalarOf c body ≡ some s → shapeOf c body ≡ some (scalarShape s)
-unfolding shapeOf
-scalar-shape nullCode body s e = let q : _≡_ {A = Option Scalar} none (some s) = unfold scalarOf in e in cc
-scalar-shape boolCode body s e = let q : _≡_ {A = Option Scalar} none (some s) = unfold scalarOf in e in cc
-scalar-shape positiveCode body s e = rw e
-scalar-shape negativeCode body s e = rw e
-scalar-shape floatCode body s e = let q : _≡_ {A = Option Scalar} none (some s) = unfold scalarOf in e in cc
-scalar-shape decimalCode body s e = rw e
-scalar-shape timestampCode body s e = rw e
-scalar-shape symbolCode body s e = rw e
-scalar-shape stringCode body s e = rw e
-scalar-shape clobCode body s e = rw e
-scalar-shape blobCode body s e = rw e
-scalar-shape listCode body s e = let q : _≡_ {A = Option Scalar} none (some s) = unfold scalarOf in e in cc
-scalar-shape sexpCode body s e = let q : _≡_ {A = Option Scalar} none (some s) = unfold scalarOf in e in cc
-scalar-shape structCode body s e = let q : _≡_ {A = Option Scalar} none (some s) = unfold scalarOf in e in cc
-scalar-shape annotationCode body s e = let q : _≡_ {A = Option Scalar} none (some s) = unfold scalarOf in e in cc
+scalar-shape : (c : TypeCode) (body : List ℕ) (s : Scalar) → scalar_of c body ≡ some s → shape_of c body ≡ some (scalar_shape s)
+unfolding shape_of
+scalar-shape null_code body s e = let q : ◌≡◌ {A = Option Scalar} none (some s) = unfold scalar_of in e in cc
+scalar-shape bool_code body s e = let q : ◌≡◌ {A = Option Scalar} none (some s) = unfold scalar_of in e in cc
+scalar-shape positive_code body s e = rw e
+scalar-shape negative_code body s e = rw e
+scalar-shape float_code body s e = let q : ◌≡◌ {A = Option Scalar} none (some s) = unfold scalar_of in e in cc
+scalar-shape decimal_code body s e = rw e
+scalar-shape timestamp_code body s e = rw e
+scalar-shape symbol_code body s e = rw e
+scalar-shape string_code body s e = rw e
+scalar-shape clob_code body s e = rw e
+scalar-shape blob_code body s e = rw e
+scalar-shape list_code body s e = let q : ◌≡◌ {A = Option Scalar} none (some s) = unfold scalar_of in e in cc
+scalar-shape sexp_code body s e = let q : ◌≡◌ {A = Option Scalar} none (some s) = unfold scalar_of in e in cc
+scalar-shape struct_code body s e = let q : ◌≡◌ {A = Option Scalar} none (some s) = unfold scalar_of in e in cc
+scalar-shape annotation_code body s e = let q : ◌≡◌ {A = Option Scalar} none (some s) = unfold scalar_of in e in cc
 
 -- an ordinary shape at the front, of the bytes b
 module _ (an b : List ℕ) (v : Value) (sh : Shape) (pos : 0 < length b) (at : (r : List ℕ) → shape (b ++ r) ≡ some (sh, r)) (ord : ordinary sh ≡ true) where
-  complete-bare : ((f : ℕ) → length b ≤ f → bareOf (λ c. readMembers f c) (λ c. readFields f c) an sh ≡ some v) → Result b (bare an v)
-  complete-bare g = (pos, λ f le. record { sh = sh; at = at; kind = ord; gives = g f le })
+  complete_bare : ((f : ℕ) → length b ≤ f → bare_of (λ c. read_members f c) (λ c. read_fields f c) an sh ≡ some v) → Result b (bare an v)
+  complete_bare g = (pos, λ f le. record { sh = sh; at = at; kind = ord; gives = g f le })
 
-framed-pos : {c : TypeCode} {n : ℕ} {h : List ℕ} (body : List ℕ) → Header c n h → 0 < length (h ++ body)
-framed-pos {h = h} body hd = simp length-append (omega (arith, header-pos hd))
+framed_pos : {c : TypeCode} {n : ℕ} {h : List ℕ} (body : List ℕ) → Header c n h → 0 < length (h ++ body)
+framed_pos {h = h} body hd = simp length-append (omega (arith, header_pos hd))
 
 -- a body is shorter than the bytes that frame it
-framed-lt : {c : TypeCode} {n : ℕ} {h : List ℕ} (body : List ℕ) (f : ℕ) → Header c n h → length (h ++ body) ≤ f → length body < f
-framed-lt {h = h} body f hd le = omega (arith, length-append h body, header-pos hd)
+framed_lt : {c : TypeCode} {n : ℕ} {h : List ℕ} (body : List ℕ) (f : ℕ) → Header c n h → length (h ++ body) ≤ f → length body < f
+framed_lt {h = h} body f hd le = omega (arith, length-append h body, header_pos hd)
 
-complete-scalar : (an h : List ℕ) (c : TypeCode) (s : Scalar) (body : List ℕ) → Header c (length body) h → scalarOf c body ≡ some s
+complete_scalar : (an h : List ℕ) (c : TypeCode) (s : Scalar) (body : List ℕ) → Header c (length body) h → scalar_of c body ≡ some s
     → Result (h ++ body) (bare an (scalar an s))
-unfolding bareOf ordinary
-complete-scalar an h c s body hd e =
-    complete-bare an (h ++ body) (scalar an s) (scalarShape s) (framed-pos body hd)
-    (λ r. shape-header c body r (scalarShape s) (scalar-plain c body s e) hd (scalar-shape c body s e)) refl
+unfolding bare_of ordinary
+complete_scalar an h c s body hd e =
+    complete_bare an (h ++ body) (scalar an s) (scalar_shape s) (framed_pos body hd)
+    (λ r. shape_header c body r (scalar_shape s) (scalar_plain c body s e) hd (scalar-shape c body s e)) refl
     (λ f le. refl)
 
-kind-plain : (k : SequenceType) → plainCode (sequenceCode k) ≡ true
-unfolding plainCode
-kind-plain list = refl
-kind-plain sexp = refl
+kind_plain : (k : SequenceType) → plain_code (sequence_code k) ≡ true
+unfolding plain_code
+kind_plain list = refl
+kind_plain sexp = refl
 
-kind-shape : (k : SequenceType) (body : List ℕ) → shapeOf (sequenceCode k) body ≡ some (sequenceShape k body)
-unfolding shapeOf
-kind-shape list body = refl
-kind-shape sexp body = refl
+kind_shape : (k : SequenceType) (body : List ℕ) → shape_of (sequence_code k) body ≡ some (sequence_shape k body)
+unfolding shape_of
+kind_shape list body = refl
+kind_shape sexp body = refl
 
-complete-sequence : (an h body : List ℕ) (k : SequenceType) (vs : Members Scalar) → Header (sequenceCode k) (length body) h
+complete_sequence : (an h body : List ℕ) (k : SequenceType) (vs : Members Scalar) → Header (sequence_code k) (length body) h
     → Result body (members vs) → Result (h ++ body) (bare an (sequence an k vs))
-unfolding bareOf ordinary
-complete-sequence an h body k vs hd ih =
-    complete-bare an (h ++ body) (sequence an k vs) (sequenceShape k body) (framed-pos body hd)
-    (λ r. shape-header (sequenceCode k) body r (sequenceShape k body) (kind-plain k) hd (kind-shape k body)) refl
-    (λ f le. rw (ih f (framed-lt body f hd le)))
+unfolding bare_of ordinary
+complete_sequence an h body k vs hd ih =
+    complete_bare an (h ++ body) (sequence an k vs) (sequence_shape k body) (framed_pos body hd)
+    (λ r. shape_header (sequence_code k) body r (sequence_shape k body) (kind_plain k) hd (kind_shape k body)) refl
+    (λ f le. rw (ih f (framed_lt body f hd le)))
 
 -- one byte is no field
-one-byte : (x : ℕ) (fs : Fields Scalar) → readFields 2 (x ∷ []) ≡ some fs → ⊥
-unfolding readFields varUInt groups shape
-one-byte x fs e =
-    by-cases (ltb x 0x80)
-    (λ p. absurd (Option·none-ne-some fs (rw (p, groups) at e)))
-    (λ p. by-cases (ltb (0 * 128 + x % 128) (2 ^ 64))
-    (λ q. absurd (Option·none-ne-some fs (rw (p, groups, q) at e)))
-    (λ q. absurd (Option·none-ne-some fs (rw (p, groups, q) at e))))
+one_byte : (x : ℕ) (fs : Fields Scalar) → read_fields 2 (x ∷ []) ≡ some fs → ⊥
+unfolding read_fields var_uint groups shape
+one_byte x fs e =
+    by_cases (ltb x 0x80)
+    (λ p. absurd (none-ne-some fs (rw (p, groups) at e)))
+    (λ p. by_cases (ltb (0 * 128 + x % 128) (2 ^ 64))
+    (λ q. absurd (none-ne-some fs (rw (p, groups, q) at e)))
+    (λ q. absurd (none-ne-some fs (rw (p, groups, q) at e))))
 
 fields-length : (body : List ℕ) (fs : Fields Scalar) → Result body (fields fs) → length body ≢ 1
 fields-length [] fs ih e = omega arith
-fields-length (x ∷ []) fs ih e = one-byte x fs (ih 2 (omega arith))
+fields-length (x ∷ []) fs ih e = one_byte x fs (ih 2 (omega arith))
 fields-length (x ∷ y ∷ r) fs ih e = omega arith
 
-struct-low : {h : List ℕ} (body : List ℕ) (hd : Header structCode (length body) h) → length body ≢ 1 → (opened body hd) .low ≢ 1
+struct_low : (body : List ℕ) {h : List ℕ} (hd : Header struct_code (length body) h) → length body ≢ 1 → (opened body hd).low ≢ 1
 unfolding opened
-struct-low body (short lt) ne q = ne q
-struct-low body (long e) ne q = omega arith
+struct_low body (short lt) ne q = ne q
+struct_low body (long e) ne q = omega arith
 
-shape-struct : {h : List ℕ} (body r : List ℕ) → Header structCode (length body) h → length body ≢ 1
-    → shape ((h ++ body) ++ r) ≡ some (structShape false body, r)
-unfolding plain bodyAt shapeOf
-shape-struct {h} body r hd ne =
+shape_struct : {h : List ℕ} (body r : List ℕ) → Header struct_code (length body) h → length body ≢ 1
+    → shape ((h ++ body) ++ r) ≡ some (struct_shape false body, r)
+unfolding plain body_at shape_of
+shape_struct {h} body r hd ne =
     let o = opened body hd in
-    let small : o .low < 16 = omega arith in
+    let small : o.low < 16 = omega arith in
     rw (
-      append-assoc,
-      o .is,
-      shape-td structCode (o .low) (o .tail ++ (body ++ r)) small,
-      shapeAt-body structCode (o .low) _ (o .small),
-      ne-eqb (o .low) 1 (struct-low body hd ne),
-      bodyAt,
+      append_assoc,
+      o.is,
+      shape_td struct_code o.low (o.tail ++ (body ++ r)) small,
+      shape_at-body struct_code o.low _ o.small,
+      ne_eqb o.low 1 (struct_low body hd ne),
+      body_at,
       plain,
-      o .frames,
+      o.frames,
     )
 
-complete-struct : (an h body : List ℕ) (fs : Fields Scalar) → Header structCode (length body) h → Result body (fields fs)
+complete_struct : (an h body : List ℕ) (fs : Fields Scalar) → Header struct_code (length body) h → Result body (fields fs)
     → Result (h ++ body) (bare an (struct an fs))
-unfolding bareOf ordinary
-complete-struct an h body fs hd ih =
-    complete-bare an (h ++ body) (struct an fs) (structShape false body) (framed-pos body hd) (λ r. shape-struct body r hd (fields-length body fs ih)) refl
-    (λ f le. rw (ih f (framed-lt body f hd le)))
+unfolding bare_of ordinary
+complete_struct an h body fs hd ih =
+    complete_bare an (h ++ body) (struct an fs) (struct_shape false body) (framed_pos body hd) (λ r. shape_struct body r hd (fields-length body fs ih)) refl
+    (λ f le. rw (ih f (framed_lt body f hd le)))
 
-shape-sorted : (l body r : List ℕ) → VarUInt l (length body) → 0 < length body → shape (0xD1 ∷ ((l ++ body) ++ r)) ≡ some (structShape true body, r)
-unfolding bodyAt sortedAt
+shape-sorted : (l body r : List ℕ) → VarUInt l (length body) → 0 < length body → shape (0xD1 ∷ ((l ++ body) ++ r)) ≡ some (struct_shape true body, r)
+unfolding body_at sorted_at
 shape-sorted l body r e pos =
     rw (
-      append-assoc l body r,
-      shape-td structCode 1 (l ++ (body ++ r)) (omega arith),
-      shapeAt-body structCode 1 _ (omega arith),
-      varUInt-append l (length body) [] (body ++ r) e,
-      sortedAt,
+      append_assoc l body r,
+      shape_td struct_code 1 (l ++ (body ++ r)) (omega arith),
+      shape_at-body struct_code 1 _ (omega arith),
+      var_uint_append l (length body) [] (body ++ r) e,
+      sorted_at,
       lt-ltb _ _ pos,
-      cut-seam,
+      cut_seam,
     )
 
-complete-sorted : (an l body : List ℕ) (fs : Fields Scalar) → VarUInt l (length body) → 0 < length body → sorted 0 fs ≡ true
+complete_sorted : (an l body : List ℕ) (fs : Fields Scalar) → VarUInt l (length body) → 0 < length body → sorted 0 fs ≡ true
     → Result body (fields fs) → Result (0xD1 ∷ (l ++ body)) (bare an (struct an fs))
-unfolding bareOf ordinary
-complete-sorted an l body fs e pos up ih =
-    complete-bare an (0xD1 ∷ (l ++ body)) (struct an fs) (structShape true body) (omega arith) (λ r. shape-sorted l body r e pos) refl
-    (λ f le. rw (ih f (omega (arith, length-append l body, varUInt-pos l e)), up))
+unfolding bare_of ordinary
+complete_sorted an l body fs e pos up ih =
+    complete_bare an (0xD1 ∷ (l ++ body)) (struct an fs) (struct_shape true body) (omega arith) (λ r. shape-sorted l body r e pos) refl
+    (λ f le. rw (ih f (omega (arith, length-append l body, var_uint_pos l e)), up))
 
-complete-null : (an : List ℕ) (t : IonType) (c : TypeCode) → nullType c ≡ some t → Result ((highBits c * 16 + 15) ∷ []) (bare an (scalar an (null t)))
-unfolding bareOf ordinary shapeAt
-complete-null an t c e =
-    complete-bare an ((highBits c * 16 + 15) ∷ []) (scalar an (null t)) (scalarShape (null t)) (omega arith)
-    (λ r. rw (shape-td c 15 r (omega arith), shapeAt, e)) refl (λ f le. refl)
+complete_null : (an : List ℕ) (t : IonType) (c : TypeCode) → null_type c ≡ some t → Result ((high_bits c * 16 + 15) ∷ []) (bare an (scalar an (null t)))
+unfolding bare_of ordinary shape_at
+complete_null an t c e =
+    complete_bare an ((high_bits c * 16 + 15) ∷ []) (scalar an (null t)) (scalar_shape (null t)) (omega arith)
+    (λ r. rw (shape_td c 15 r (omega arith), shape_at, e)) refl (λ f le. refl)
 
-complete-float : (an b : List ℕ) (l : ℕ) (x : FloatValue) → l < 15 → ((r : List ℕ) → floatAt l (b ++ r) ≡ some (scalarShape (float x), r))
-    → Result ((highBits floatCode * 16 + l) ∷ b) (bare an (scalar an (float x)))
-unfolding bareOf ordinary bodyAt
-complete-float an b l x lt e =
-    complete-bare an ((highBits floatCode * 16 + l) ∷ b) (scalar an (float x)) (scalarShape (float x)) (omega arith)
-    (λ r. rw (shape-td floatCode l (b ++ r) (omega arith), shapeAt-body floatCode l (b ++ r) lt, e r)) refl (λ f le. refl)
+complete_float : (an b : List ℕ) (l : ℕ) (x : FloatValue) → l < 15 → ((r : List ℕ) → float_at l (b ++ r) ≡ some (scalar_shape (float x), r))
+    → Result ((high_bits float_code * 16 + l) ∷ b) (bare an (scalar an (float x)))
+unfolding bare_of ordinary body_at
+complete_float an b l x lt e =
+    complete_bare an ((high_bits float_code * 16 + l) ∷ b) (scalar an (float x)) (scalar_shape (float x)) (omega arith)
+    (λ r. rw (shape_td float_code l (b ++ r) (omega arith), shape_at-body float_code l (b ++ r) lt, e r)) refl (λ f le. refl)
 
-bits-seam : (f : List ℕ → FloatValue) (n : ℕ) (b r : List ℕ) → length b ≡ n → bitsAt f n (b ++ r) ≡ some (scalarShape (float (f b)), r)
-unfolding bitsAt
-bits-seam f n b r e = rw (← e, cut-seam)
+bits_seam : (f : List ℕ → FloatValue) (n : ℕ) (b r : List ℕ) → length b ≡ n → bits_at f n (b ++ r) ≡ some (scalar_shape (float (f b)), r)
+unfolding bits_at
+bits_seam f n b r e = rw (← e, cut_seam)
 
-complete-zero : (an : List ℕ) → Result (0x40 ∷ []) (bare an (scalar an (float (finite false 0))))
-unfolding floatAt
-complete-zero an = complete-float an [] 0 (finite false 0) (omega arith) (λ r. refl)
+complete_zero : (an : List ℕ) → Result (0x40 ∷ []) (bare an (scalar an (float (finite false 0))))
+unfolding float_at
+complete_zero an = complete_float an [] 0 (finite false 0) (omega arith) (λ r. refl)
 
-complete-float32 : (an b : List ℕ) → length b ≡ 4 → Result (0x44 ∷ b) (bare an (scalar an (float (floatOf binary32 (uint b)))))
-unfolding floatAt
-complete-float32 an b e = complete-float an b 4 (floatOf binary32 (uint b)) (omega arith) (λ r. bits-seam (λ c. floatOf binary32 (uint c)) 4 b r e)
+complete_float32 : (an b : List ℕ) → length b ≡ 4 → Result (0x44 ∷ b) (bare an (scalar an (float (float_of binary32 (uint b)))))
+unfolding float_at
+complete_float32 an b e = complete_float an b 4 (float_of binary32 (uint b)) (omega arith) (λ r. bits_seam (λ c. float_of binary32 (uint c)) 4 b r e)
 
-complete-float64 : (an b : List ℕ) → length b ≡ 8 → Result (0x48 ∷ b) (bare an (scalar an (float (floatOf binary64 (uint b)))))
-unfolding floatAt
-complete-float64 an b e = complete-float an b 8 (floatOf binary64 (uint b)) (omega arith) (λ r. bits-seam (λ c. floatOf binary64 (uint c)) 8 b r e)
+complete_float64 : (an b : List ℕ) → length b ≡ 8 → Result (0x48 ∷ b) (bare an (scalar an (float (float_of binary64 (uint b)))))
+unfolding float_at
+complete_float64 an b e = complete_float an b 8 (float_of binary64 (uint b)) (omega arith) (λ r. bits_seam (λ c. float_of binary64 (uint c)) 8 b r e)
 
-complete-bool : (an : List ℕ) (l : ℕ) (x : Bool) → l < 15 → ((r : List ℕ) → boolAt l r ≡ some (scalarShape (bool x), r))
-    → Result ((highBits boolCode * 16 + l) ∷ []) (bare an (scalar an (bool x)))
-unfolding bareOf ordinary bodyAt
-complete-bool an l x lt e =
-    complete-bare an ((highBits boolCode * 16 + l) ∷ []) (scalar an (bool x)) (scalarShape (bool x)) (omega arith)
-    (λ r. rw (shape-td boolCode l r (omega arith), shapeAt-body boolCode l r lt, e)) refl (λ f le. refl)
+complete_bool : (an : List ℕ) (l : ℕ) (x : Bool) → l < 15 → ((r : List ℕ) → bool_at l r ≡ some (scalar_shape (bool x), r))
+    → Result ((high_bits bool_code * 16 + l) ∷ []) (bare an (scalar an (bool x)))
+unfolding bare_of ordinary body_at
+complete_bool an l x lt e =
+    complete_bare an ((high_bits bool_code * 16 + l) ∷ []) (scalar an (bool x)) (scalar_shape (bool x)) (omega arith)
+    (λ r. rw (shape_td bool_code l r (omega arith), shape_at-body bool_code l r lt, e)) refl (λ f le. refl)
 
-value-bare : (f : ℕ) (sh : Shape) → ordinary sh ≡ true
-    → valueOf (λ c. readMembers f c) (λ c. readFields f c) sh ≡ bareOf (λ c. readMembers f c) (λ c. readFields f c) [] sh
-unfolding valueOf ordinary
-value-bare f padShape e = cc
-value-bare f (scalarShape s) e = refl
-value-bare f (sequenceShape k body) e = refl
-value-bare f (structShape t body) e = refl
-value-bare f (wrapperShape body) e = cc
+value_bare : (f : ℕ) (sh : Shape) → ordinary sh ≡ true
+    → value_of (λ c. read_members f c) (λ c. read_fields f c) sh ≡ bare_of (λ c. read_members f c) (λ c. read_fields f c) [] sh
+unfolding value_of ordinary
+value_bare f pad_shape e = cc
+value_bare f (scalar_shape s) e = refl
+value_bare f (sequence_shape k body) e = refl
+value_bare f (struct_shape t body) e = refl
+value_bare f (wrapper_shape body) e = cc
 
-not-pad : (sh : Shape) → ordinary sh ≡ true → isPad sh ≡ false
-unfolding isPad ordinary
-not-pad padShape e = cc
-not-pad (scalarShape s) e = refl
-not-pad (sequenceShape k body) e = refl
-not-pad (structShape t body) e = refl
-not-pad (wrapperShape body) e = refl
+not_pad : (sh : Shape) → ordinary sh ≡ true → is_pad sh ≡ false
+unfolding is_pad ordinary
+not_pad pad_shape e = cc
+not_pad (scalar_shape s) e = refl
+not_pad (sequence_shape k body) e = refl
+not_pad (struct_shape t body) e = refl
+not_pad (wrapper_shape body) e = refl
 
-complete-one : (b : List ℕ) (v : Value) → Result b (bare [] v) → Result b (one v)
-complete-one b v ih = (
-  ih .0,
+complete_one : (b : List ℕ) (v : Value) → Result b (bare [] v) → Result b (one v)
+complete_one b v ih = (
+  ih.0,
   λ f le.
-      let r = ih .1 f le in
-      record { sh = r .sh; at = r .at; kind = not-pad (r .sh) (r .kind); gives = rw (value-bare f (r .sh) (r .kind)) (r .gives) },
+      let r = ih.1 f le in
+      record { sh = r.sh; at = r.at; kind = not_pad r.sh r.kind; gives = rw (value_bare f r.sh r.kind) r.gives },
 )
 
-wrapped-gives : (f : ℕ) (l s b an : List ℕ) (a : ℕ) (v : Value) → VarUInt l (length s) → Result s (sids (a ∷ an)) → BareRead f (a ∷ an) b v
-    → wrapperOf (λ c. readMembers f c) (λ c. readFields f c) (l ++ (s ++ b)) ≡ some v
-unfolding wrapperOf innerOf
-wrapped-gives f l s b an a v e hs r =
-    rw (varUInt-append l (length s) [] (s ++ b) e, cut-seam s b, hs (suc (length s)) (omega arith), rw append-nil at (r .at []), r .gives)
+wrapped_gives : (f : ℕ) (l s b an : List ℕ) (a : ℕ) (v : Value) → VarUInt l (length s) → Result s (sids (a ∷ an)) → BareRead f (a ∷ an) b v
+    → wrapper_of (λ c. read_members f c) (λ c. read_fields f c) (l ++ (s ++ b)) ≡ some v
+unfolding wrapper_of inner_of
+wrapped_gives f l s b an a v e hs r =
+    rw (var_uint_append l (length s) [] (s ++ b) e, cut_seam s b, hs (suc (length s)) (omega arith), rw append-nil at (r.at []), r.gives)
 
-complete-wrapped : (h l s b an : List ℕ) (a : ℕ) (v : Value) → Header annotationCode (length (l ++ (s ++ b))) h → VarUInt l (length s)
+complete_wrapped : (h l s b an : List ℕ) (a : ℕ) (v : Value) → Header annotation_code (length (l ++ (s ++ b))) h → VarUInt l (length s)
     → Result s (sids (a ∷ an)) → Result b (bare (a ∷ an) v)
     → Result (h ++ (l ++ (s ++ b))) (one v)
-unfolding valueOf isPad shapeOf plainCode
-complete-wrapped h l s b an a v hd e hs ih = (
-  framed-pos (l ++ (s ++ b)) hd,
+unfolding value_of is_pad shape_of plain_code
+complete_wrapped h l s b an a v hd e hs ih = (
+  framed_pos (l ++ (s ++ b)) hd,
   λ f le. record {
-    sh = wrapperShape (l ++ (s ++ b));
-    at = λ r. shape-header annotationCode (l ++ (s ++ b)) r (wrapperShape (l ++ (s ++ b))) refl hd refl;
+    sh = wrapper_shape (l ++ (s ++ b));
+    at = λ r. shape_header annotation_code (l ++ (s ++ b)) r (wrapper_shape (l ++ (s ++ b))) refl hd refl;
     kind = refl;
-    gives = wrapped-gives f l s b an a v e hs (ih .1 f (omega (arith, framed-lt (l ++ (s ++ b)) f hd le, length-append l (s ++ b), length-append s b)));
+    gives = wrapped_gives f l s b an a v e hs (ih.1 f (omega (arith, framed_lt (l ++ (s ++ b)) f hd le, length-append l (s ++ b), length-append s b)));
   },
 )
 
-complete-members-pad : (p b : List ℕ) (vs : Members Scalar) → Result p padding → Result b (members vs) → Result (p ++ b) (members vs)
-complete-members-pad p b vs pd ih zero lt = absurd (omega arith)
-complete-members-pad p b vs pd ih (suc f) lt = step-members-pad f (p ++ b) b vs (pd .1 b) (ih f (omega (arith, length-append p b, pd .0)))
+complete_members_pad : (p b : List ℕ) (vs : Members Scalar) → Result p padding → Result b (members vs) → Result (p ++ b) (members vs)
+complete_members_pad p b vs pd ih zero lt = absurd (omega arith)
+complete_members_pad p b vs pd ih (suc f) lt = step_members_pad f (p ++ b) b vs (pd.1 b) (ih f (omega (arith, length-append p b, pd.0)))
 
-complete-members-next : (p b : List ℕ) (v : Value) (vs : Members Scalar) → Result p (one v) → Result b (members vs) → Result (p ++ b) (members (member v vs))
-complete-members-next p b v vs x ih zero lt = absurd (omega arith)
-complete-members-next p b v vs x ih (suc f) lt =
-    let r = x .1 f (omega (arith, length-append p b)) in
-    step-members f (p ++ b) b (r .sh) v vs (r .at b) (r .kind) (r .gives) (ih f (omega (arith, length-append p b, x .0)))
+complete_members-next : (p b : List ℕ) (v : Value) (vs : Members Scalar) → Result p (one v) → Result b (members vs) → Result (p ++ b) (members (member v vs))
+complete_members-next p b v vs x ih zero lt = absurd (omega arith)
+complete_members-next p b v vs x ih (suc f) lt =
+    let r = x.1 f (omega (arith, length-append p b)) in
+    step_members f (p ++ b) b r.sh v vs (r.at b) r.kind r.gives (ih f (omega (arith, length-append p b, x.0)))
 
-complete-fields-pad : (l p b : List ℕ) (k : ℕ) (fs : Fields Scalar) → VarUInt l k → Result p padding → Result b (fields fs) → Result (l ++ (p ++ b)) (fields fs)
-complete-fields-pad l p b k fs e pd ih zero lt = absurd (omega arith)
-complete-fields-pad l p b k fs e pd ih (suc f) lt =
-    step-fields-pad f (l ++ (p ++ b)) (p ++ b) b k fs (varUInt-append l k [] (p ++ b) e) (pd .1 b)
-    (ih f (omega (arith, length-append l (p ++ b), length-append p b, pd .0)))
+complete_fields_pad : (l p b : List ℕ) (k : ℕ) (fs : Fields Scalar) → VarUInt l k → Result p padding → Result b (fields fs) → Result (l ++ (p ++ b)) (fields fs)
+complete_fields_pad l p b k fs e pd ih zero lt = absurd (omega arith)
+complete_fields_pad l p b k fs e pd ih (suc f) lt =
+    step_fields_pad f (l ++ (p ++ b)) (p ++ b) b k fs (var_uint_append l k [] (p ++ b) e) (pd.1 b)
+    (ih f (omega (arith, length-append l (p ++ b), length-append p b, pd.0)))
 
-complete-fields-next : (l p b : List ℕ) (k : ℕ) (v : Value) (fs : Fields Scalar) → VarUInt l k → Result p (one v) → Result b (fields fs)
+complete_fields-next : (l p b : List ℕ) (k : ℕ) (v : Value) (fs : Fields Scalar) → VarUInt l k → Result p (one v) → Result b (fields fs)
     → Result (l ++ (p ++ b)) (fields (field k v fs))
-complete-fields-next l p b k v fs e x ih zero lt = absurd (omega arith)
-complete-fields-next l p b k v fs e x ih (suc f) lt =
-    let r = x .1 f (omega (arith, length-append l (p ++ b), length-append p b)) in
-    step-fields f (l ++ (p ++ b)) (p ++ b) b k (r .sh) v fs (varUInt-append l k [] (p ++ b) e) (r .at b) (r .kind) (r .gives)
-    (ih f (omega (arith, length-append l (p ++ b), length-append p b, x .0)))
+complete_fields-next l p b k v fs e x ih zero lt = absurd (omega arith)
+complete_fields-next l p b k v fs e x ih (suc f) lt =
+    let r = x.1 f (omega (arith, length-append l (p ++ b), length-append p b)) in
+    step_fields f (l ++ (p ++ b)) (p ++ b) b k r.sh v fs (var_uint_append l k [] (p ++ b) e) (r.at b) r.kind r.gives
+    (ih f (omega (arith, length-append l (p ++ b), length-append p b, x.0)))
 
-step-stream : (f : ℕ) (b r : List ℕ) (sh : Shape) (v : Value) (is : List (Item Scalar)) → shape b ≡ some (sh, r) → isPad sh ≡ false
-    → valueOf (λ c. readMembers (suc f) c) (λ c. readFields (suc f) c) sh ≡ some v → readStream f r ≡ some is → readStream (suc f) b ≡ some (value v ∷ is)
-unfolding readStream shape nextItem orElse
-step-stream f [] r sh v is p q x y = cc
-step-stream f (b ∷ bs) r sh v is p q x y = rw (p, readStream, q, x, y)
+step_stream : (f : ℕ) (b r : List ℕ) (sh : Shape) (v : Value) (is : List (Item Scalar)) → shape b ≡ some (sh, r) → is_pad sh ≡ false
+    → value_of (λ c. read_members (suc f) c) (λ c. read_fields (suc f) c) sh ≡ some v → read_stream f r ≡ some is → read_stream (suc f) b ≡ some (value v ∷ is)
+unfolding read_stream shape next_item or_else
+step_stream f [] r sh v is p q x y = cc
+step_stream f (b ∷ bs) r sh v is p q x y = rw (p, read_stream, q, x, y)
 
-step-stream-pad : (f : ℕ) (b r : List ℕ) (is : List (Item Scalar)) → shape b ≡ some (padShape, r) → readStream f r ≡ some is → readStream (suc f) b ≡ some is
-unfolding readStream shape nextItem orElse isPad
-step-stream-pad f [] r is p y = cc
-step-stream-pad f (b ∷ bs) r is p y = rw (p, readStream, y)
+step_stream_pad : (f : ℕ) (b r : List ℕ) (is : List (Item Scalar)) → shape b ≡ some (pad_shape, r) → read_stream f r ≡ some is → read_stream (suc f) b ≡ some is
+unfolding read_stream shape next_item or_else is_pad
+step_stream_pad f [] r is p y = cc
+step_stream_pad f (b ∷ bs) r is p y = rw (p, read_stream, y)
 
-marker-shape : (r : List ℕ) → shape (0xE0 ∷ r) ≡ some (wrapperShape [], r)
-unfolding shapeOf plainCode
-marker-shape r = shape-header annotationCode [] r (wrapperShape []) refl (short (omega arith)) refl
+marker-shape : (r : List ℕ) → shape (0xE0 ∷ r) ≡ some (wrapper_shape [], r)
+unfolding shape_of plain_code
+marker-shape r = shape_header annotation_code [] r (wrapper_shape []) refl (short (omega arith)) refl
 
-complete-marker : (b : List ℕ) (is : List (Item Scalar)) → Result b (stream is) → Result (0xE0 ∷ 0x01 ∷ 0x00 ∷ 0xEA ∷ b) (stream (marker ∷ is))
-unfolding readStream nextItem orElse afterMarker valueOf wrapperOf varUInt groups isPad
-complete-marker b is ih zero lt = absurd (omega arith)
-complete-marker b is ih (suc f) lt = rw (marker-shape (0x01 ∷ 0x00 ∷ 0xEA ∷ b), ih f (omega arith))
+complete_marker : (b : List ℕ) (is : List (Item Scalar)) → Result b (stream is) → Result (0xE0 ∷ 0x01 ∷ 0x00 ∷ 0xEA ∷ b) (stream (marker ∷ is))
+unfolding read_stream next_item or_else after_marker value_of wrapper_of var_uint groups is_pad
+complete_marker b is ih zero lt = absurd (omega arith)
+complete_marker b is ih (suc f) lt = rw (marker-shape (0x01 ∷ 0x00 ∷ 0xEA ∷ b), ih f (omega arith))
 
-complete-stream-pad : (p b : List ℕ) (is : List (Item Scalar)) → Result p padding → Result b (stream is) → Result (p ++ b) (stream is)
-complete-stream-pad p b is pd ih zero lt = absurd (omega arith)
-complete-stream-pad p b is pd ih (suc f) lt = step-stream-pad f (p ++ b) b is (pd .1 b) (ih f (omega (arith, length-append p b, pd .0)))
+complete_stream_pad : (p b : List ℕ) (is : List (Item Scalar)) → Result p padding → Result b (stream is) → Result (p ++ b) (stream is)
+complete_stream_pad p b is pd ih zero lt = absurd (omega arith)
+complete_stream_pad p b is pd ih (suc f) lt = step_stream_pad f (p ++ b) b is (pd.1 b) (ih f (omega (arith, length-append p b, pd.0)))
 
-complete-stream-next : (p b : List ℕ) (v : Value) (is : List (Item Scalar)) → Result p (one v) → Result b (stream is) → Result (p ++ b) (stream (value v ∷ is))
-complete-stream-next p b v is x ih zero lt = absurd (omega arith)
-complete-stream-next p b v is x ih (suc f) lt =
-    let r = x .1 (suc f) (omega (arith, length-append p b)) in
-    step-stream f (p ++ b) b (r .sh) v is (r .at b) (r .kind) (r .gives) (ih f (omega (arith, length-append p b, x .0)))
+complete_stream_next : (p b : List ℕ) (v : Value) (is : List (Item Scalar)) → Result p (one v) → Result b (stream is) → Result (p ++ b) (stream (value v ∷ is))
+complete_stream_next p b v is x ih zero lt = absurd (omega arith)
+complete_stream_next p b v is x ih (suc f) lt =
+    let r = x.1 (suc f) (omega (arith, length-append p b)) in
+    step_stream f (p ++ b) b r.sh v is (r.at b) r.kind r.gives (ih f (omega (arith, length-append p b, x.0)))
 
-complete-sids-end : Result [] (sids [])
-unfolding sidsOf
-complete-sids-end zero lt = absurd (omega arith)
-complete-sids-end (suc f) lt = refl
+complete_sids_end : Result [] (sids [])
+unfolding sids_of
+complete_sids_end zero lt = absurd (omega arith)
+complete_sids_end (suc f) lt = refl
 
-complete-members-end : Result [] (members noMembers)
-unfolding readMembers
-complete-members-end zero lt = absurd (omega arith)
-complete-members-end (suc f) lt = refl
+complete_members_end : Result [] (members no_members)
+unfolding read_members
+complete_members_end zero lt = absurd (omega arith)
+complete_members_end (suc f) lt = refl
 
-complete-fields-end : Result [] (fields noFields)
-unfolding readFields
-complete-fields-end zero lt = absurd (omega arith)
-complete-fields-end (suc f) lt = refl
+complete_fields_end : Result [] (fields no_fields)
+unfolding read_fields
+complete_fields_end zero lt = absurd (omega arith)
+complete_fields_end (suc f) lt = refl
 
-complete-stream-end : Result [] (stream [])
-unfolding readStream
-complete-stream-end zero lt = absurd (omega arith)
-complete-stream-end (suc f) lt = refl
+complete_stream_end : Result [] (stream [])
+unfolding read_stream
+complete_stream_end zero lt = absurd (omega arith)
+complete_stream_end (suc f) lt = refl
 
-complete-false : (an : List ℕ) → Result (0x10 ∷ []) (bare an (scalar an (bool false)))
-unfolding boolAt
-complete-false an = complete-bool an 0 false (omega arith) (λ r. refl)
+complete_false : (an : List ℕ) → Result (0x10 ∷ []) (bare an (scalar an (bool false)))
+unfolding bool_at
+complete_false an = complete_bool an 0 false (omega arith) (λ r. refl)
 
-complete-true : (an : List ℕ) → Result (0x11 ∷ []) (bare an (scalar an (bool true)))
-unfolding boolAt
-complete-true an = complete-bool an 1 true (omega arith) (λ r. refl)
+complete_true : (an : List ℕ) → Result (0x11 ∷ []) (bare an (scalar an (bool true)))
+unfolding bool_at
+complete_true an = complete_bool an 1 true (omega arith) (λ r. refl)
 
 pub complete : {b : List ℕ} {t : Phrase} → b ⟶ t → Result b t
-complete (pad body hd) = complete-pad body hd
-complete sids-end = complete-sids-end
-complete (sids-next l {b} {an} {a} e r) = complete-sids l b an a e (complete r)
-complete (is-null {an} {t} c e) = complete-null an t c e
-complete (is-false {an}) = complete-false an
-complete (is-true {an}) = complete-true an
-complete (is-zero {an}) = complete-zero an
-complete (is-float32 {an} b e) = complete-float32 an b e
-complete (is-float64 {an} b e) = complete-float64 an b e
-complete (is-scalar {an} c {h} {s} body hd e) = complete-scalar an h c s body hd e
-complete (is-sequence {an} k {h} {body} {vs} hd bs) = complete-sequence an h body k vs hd (complete bs)
-complete (is-struct {an} {h} {body} {fs} hd bs) = complete-struct an h body fs hd (complete bs)
-complete (is-sorted {an} {body} {fs} l e pos bs up) = complete-sorted an l body fs e pos up (complete bs)
-complete (is-bare {b} {v} r) = complete-one b v (complete r)
-complete (is-annotated {h} {s} {b} {an} {a} {v} l hd e ss r) = complete-wrapped h l s b an a v hd e (complete ss) (complete r)
-complete members-end = complete-members-end
-complete (members-pad {p} {b} {vs} pd r) = complete-members-pad p b vs (complete pd) (complete r)
-complete (members-next {p} {b} {v} {vs} x r) = complete-members-next p b v vs (complete x) (complete r)
-complete fields-end = complete-fields-end
-complete (fields-pad {p} {b} {k} {fs} l e pd r) = complete-fields-pad l p b k fs e (complete pd) (complete r)
-complete (fields-next {p} {b} {k} {v} {fs} l e x r) = complete-fields-next l p b k v fs e (complete x) (complete r)
-complete stream-end = complete-stream-end
-complete (stream-pad {p} {b} {is} pd r) = complete-stream-pad p b is (complete pd) (complete r)
-complete (stream-marker {b} {is} r) = complete-marker b is (complete r)
-complete (stream-next {p} {b} {v} {is} x r) = complete-stream-next p b v is (complete x) (complete r)
+complete (pad body hd) = complete_pad body hd
+complete sids_end = complete_sids_end
+complete (sids_next l {b} {an} {a} e r) = complete_sids l b an a e (complete r)
+complete (is-null {an} {t} c e) = complete_null an t c e
+complete (is_false {an}) = complete_false an
+complete (is_true {an}) = complete_true an
+complete (is_zero {an}) = complete_zero an
+complete (is_float32 {an} b e) = complete_float32 an b e
+complete (is_float64 {an} b e) = complete_float64 an b e
+complete (is_scalar {an} c {h} {s} body hd e) = complete_scalar an h c s body hd e
+complete (is-sequence {an} k {h} {body} {vs} hd bs) = complete_sequence an h body k vs hd (complete bs)
+complete (is_struct {an} {h} {body} {fs} hd bs) = complete_struct an h body fs hd (complete bs)
+complete (is_sorted {an} {body} {fs} l e pos bs up) = complete_sorted an l body fs e pos up (complete bs)
+complete (is_bare {b} {v} r) = complete_one b v (complete r)
+complete (is_annotated {h} {s} {b} {an} {a} {v} l hd e ss r) = complete_wrapped h l s b an a v hd e (complete ss) (complete r)
+complete members_end = complete_members_end
+complete (members_pad {p} {b} {vs} pd r) = complete_members_pad p b vs (complete pd) (complete r)
+complete (members-next {p} {b} {v} {vs} x r) = complete_members-next p b v vs (complete x) (complete r)
+complete fields_end = complete_fields_end
+complete (fields_pad {p} {b} {k} {fs} l e pd r) = complete_fields_pad l p b k fs e (complete pd) (complete r)
+complete (fields-next {p} {b} {k} {v} {fs} l e x r) = complete_fields-next l p b k v fs e (complete x) (complete r)
+complete stream_end = complete_stream_end
+complete (stream_pad {p} {b} {is} pd r) = complete_stream_pad p b is (complete pd) (complete r)
+complete (stream_marker {b} {is} r) = complete_marker b is (complete r)
+complete (stream_next {p} {b} {v} {is} x r) = complete_stream_next p b v is (complete x) (complete r)
 
 -- ---- two readings of the same bytes are equal
 
-pub reads-unique : (b : List ℕ) (x y : List (Item Scalar)) → Reads b x → Reads b y → x ≡ y
-reads-unique b x y p q = Option·some-injective x y (sym (complete p (suc (length b)) (omega arith)) ∙ complete q (suc (length b)) (omega arith))
+pub reads_unique : (b : List ℕ) (x y : List (Item Scalar)) → Reads b x → Reads b y → x ≡ y
+reads_unique b x y p q = some-injective x y (sym (complete p (suc (length b)) (omega arith)) ∙ complete q (suc (length b)) (omega arith))

@@ -1,47 +1,42 @@
 -- The Gregorian calendar, and the days and minutes counted through it.
 -- Assumes nothing.
-use Prim.Native.Nat.{ℕ, zero, suc, _+_, _*_, _%_}
-use mathlib.Core.Bool.{Bool, cond, _&&_, _||_, not}
-use mathlib.Core.List.{List, [], _∷_}
-use lib.Dec.{leb, eqb}
-use lib.ListN.{getD}
-use lib.IntN.{ℤ, pos}
+use Rattle.std.specs.Prelude.{ℕ, zero, suc, ◌+◌, ◌*◌, ◌%◌, Bool, cond, ◌&&◌, ◌||◌, not, List, [], ◌∷◌, leb, eqb, get_or, ℤ, pos}
 
-abbrev pub isLeapYear : ℕ → Bool
-isLeapYear y = eqb (y % 4) 0 && (not (eqb (y % 100) 0) || eqb (y % 400) 0)
+abbrev pub is_leap_year : ℕ → Bool
+is_leap_year y = eqb (y % 4) 0 && (not (eqb (y % 100) 0) || eqb (y % 400) 0)
 
 -- none for a month that is not
-abbrev pub daysInMonth : ℕ → ℕ → ℕ
-daysInMonth y m = getD (0 ∷ 31 ∷ cond (isLeapYear y) 29 28 ∷ 31 ∷ 30 ∷ 31 ∷ 30 ∷ 31 ∷ 31 ∷ 30 ∷ 31 ∷ 30 ∷ 31 ∷ []) m 0
+abbrev pub days_in_month : ℕ → ℕ → ℕ
+days_in_month y m = get_or (0 ∷ 31 ∷ cond (is_leap_year y) 29 28 ∷ 31 ∷ 30 ∷ 31 ∷ 30 ∷ 31 ∷ 31 ∷ 30 ∷ 31 ∷ 30 ∷ 31 ∷ []) m 0
 
-abbrev pub isMonth : ℕ → Bool
-isMonth m = leb 1 m && leb m 12
+abbrev pub is_month : ℕ → Bool
+is_month m = leb 1 m && leb m 12
 
-abbrev pub isDay : ℕ → ℕ → ℕ → Bool
-isDay y m d = isMonth m && (leb 1 d && leb d (daysInMonth y m))
+abbrev pub is_day : ℕ → ℕ → ℕ → Bool
+is_day y m d = is_month m && (leb 1 d && leb d (days_in_month y m))
 
 -- The years that a timestamp in Ion text can have, and all that the writer takes.
-abbrev pub isCalendarYear : ℕ → Bool
-isCalendarYear y = leb 1 y && leb y 9999
+abbrev pub is_calendar_year : ℕ → Bool
+is_calendar_year y = leb 1 y && leb y 9999
 
 -- ---- the days before a date, counted from the first of January of the year 0
 
-unfoldable pub daysBeforeMonth : ℕ → ℕ → ℕ
-daysBeforeMonth y zero = 0
-daysBeforeMonth y (suc m) = daysBeforeMonth y m + daysInMonth y m
+unfoldable pub days_before_month : ℕ → ℕ → ℕ
+days_before_month y zero = 0
+days_before_month y (suc m) = days_before_month y m + days_in_month y m
 
-unfoldable pub daysBeforeYear : ℕ → ℕ
-daysBeforeYear zero = 0
-daysBeforeYear (suc y) = daysBeforeYear y + daysBeforeMonth y 13
+unfoldable pub days_before_year : ℕ → ℕ
+days_before_year zero = 0
+days_before_year (suc y) = days_before_year y + days_before_month y 13
 
 -- the day's number, one for the first of January of the year 0
-unfoldable pub dayNumber : ℕ → ℕ → ℕ → ℕ
-dayNumber y m d = daysBeforeYear y + daysBeforeMonth y m + d
+unfoldable pub day_number : ℕ → ℕ → ℕ → ℕ
+day_number y m d = days_before_year y + days_before_month y m + d
 
 -- the number of the minute i of the hour h of a day
-unfoldable pub minuteNumber : ℕ → ℕ → ℕ → ℕ → ℕ → ℕ
-minuteNumber y m d h i = dayNumber y m d * 1440 + (h * 60 + i)
+unfoldable pub minute_number : ℕ → ℕ → ℕ → ℕ → ℕ → ℕ
+minute_number y m d h i = day_number y m d * 1440 + (h * 60 + i)
 
 -- the minute of fields that have one, from the year down
-abbrev pub minuteOf : List ℕ → ℤ
-minuteOf fs = pos (minuteNumber (getD fs 0 0) (getD fs 1 0) (getD fs 2 0) (getD fs 3 0) (getD fs 4 0))
+abbrev pub minute_of : List ℕ → ℤ
+minute_of fs = pos (minute_number (get_or fs 0 0) (get_or fs 1 0) (get_or fs 2 0) (get_or fs 3 0) (get_or fs 4 0))

@@ -1,10 +1,10 @@
 -- Partial answers, one after the other, with tests between them.
 -- Assumes nothing.
-use mathlib.Core.Bool.{Bool, true, false}
-use mathlib.Core.Option.{Option, none, some}
+use Rattle.std.specs.Prelude.{Bool, true, false}
+use Rattle.std.proofs.Math.Option.{Option, none, some}
 
-infixl 20 _>>=_
-abbrev pub _>>=_ : {A B : Type 0} → Option A → (A → Option B) → Option B
+infixl 20 ◌>>=◌
+abbrev pub ◌>>=◌ : {A B : Type 0} → Option A → (A → Option B) → Option B
 none >>= f = none
 some a >>= f = f a
 

@@ -1,14 +1,11 @@
 -- UTF-8 by RFC 3629, section 4.
 -- Assumes nothing.
-use Prim.Native.Nat.{ℕ}
-use mathlib.Core.Bool.{Bool, true, false, _&&_}
-use mathlib.Core.List.{List, [], _∷_}
-use mathlib.Core.Option.{Option, none, some}
-use lib.Dec.{leb}
+use Rattle.std.specs.Prelude.{ℕ, Bool, true, false, ◌&&◌, List, [], ◌∷◌, leb}
+use Rattle.std.proofs.Math.Option.{Option, none, some}
 
 -- the byte b lies in the range, both ends counted
-abbrev pub inRange : ℕ × ℕ → ℕ → Bool
-inRange r b = leb (r .0) b && leb b (r .1)
+abbrev pub in_range : ℕ × ℕ → ℕ → Bool
+in_range r b = leb r.0 b && leb b r.1
 
 -- UTF8-tail
 abbrev pub tail : ℕ × ℕ
@@ -32,15 +29,15 @@ characters =
 unfoldable pub begun : List (List (ℕ × ℕ)) → ℕ → Option (List (ℕ × ℕ))
 begun [] b = none
 begun ([] ∷ cs) b = begun cs b
-begun ((r ∷ rs) ∷ cs) b = elim (inRange r b) [ true ↦ some rs | false ↦ begun cs b ]
+begun ((r ∷ rs) ∷ cs) b = elim (in_range r b) [ true ↦ some rs | false ↦ begun cs b ]
 
 -- The bytes end the character that still asks for `due`, and are whole characters from there on.
-unfoldable pub utf8From : List (ℕ × ℕ) → List ℕ → Bool
-utf8From [] [] = true
-utf8From (r ∷ due) [] = false
-utf8From [] (b ∷ bs) = elim (begun characters b) [ none ↦ false | some due ↦ utf8From due bs ]
-utf8From (r ∷ due) (b ∷ bs) = inRange r b && utf8From due bs
+unfoldable pub utf8_from : List (ℕ × ℕ) → List ℕ → Bool
+utf8_from [] [] = true
+utf8_from (r ∷ due) [] = false
+utf8_from [] (b ∷ bs) = elim (begun characters b) [ none ↦ false | some due ↦ utf8_from due bs ]
+utf8_from (r ∷ due) (b ∷ bs) = in_range r b && utf8_from due bs
 
 -- UTF8-octets: any number of characters.
 unfoldable pub utf8 : List ℕ → Bool
-utf8 b = utf8From [] b
+utf8 b = utf8_from [] b

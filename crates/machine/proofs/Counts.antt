@@ -1,193 +1,193 @@
 -- The numbers that closings answer are how many members the containers have in what is read: each open container's count is how many members the model's
 -- has, by the invariant. By induction over the list of calls, refused ones included.
 -- Assumes nothing.
-use Prim.Native.Nat.{ℕ, suc, _+_}
+use Prim.Native.Nat.{ℕ, suc, ◌+◌}
 use native.Mathlib.Omega.{arith}
 use native.Mathlib.Nat.{add-zero, zero-add}
-use mathlib.Core.Path.{_≡_, refl, sym, _∙_, ap}
+use mathlib.Core.Path.{◌≡◌, refl, sym, ◌∙◌, ap}
 use mathlib.Core.Bool.{true≢false, false≢true}
-use mathlib.Core.List.{List, [], _∷_, _++_, append-assoc, append-nil}
+use mathlib.Core.List.{List, [], ◌∷◌, ◌++◌, append_assoc, append-nil}
 use mathlib.Core.Option.{Option, none, some}
 use lib.ListN.{length, length-append}
-use Rattle·ion.specs.Value.{Tree, scalar, sequence, struct, Members, noMembers, member, Fields, noFields, field, Item, marker, value}
-use Rattle·ion.proofs.Maps.{mapTree, mapMembers, mapFields, mapItems}
-use Rattle·encoding.specs.Argument.{Argument, argumentBytes, argumentChecks, meaning}
-use Rattle·encoding.proofs.Writable.{NoneHolds}
-use Rattle·machine·specs.specs.declared.Container.{Container}
-use Rattle·machine·specs.specs.Call.{ContainerType, sequenceType, structType, Call, write, name, opening, closing, abandonment, versionMarker, taking, emptying}
-use Rattle·machine·specs.specs.Machine.{Config, openContainers, isOpen, outer, live, lacksName, innermostMembers, ruleOf, checks, effect, Verdict}
-use Rattle·machine·specs.specs.Machine.{accepted, refused, verdict, isAccepted, figuresIf, after, run, started}
-use Rattle·machine·specs.specs.Model.{Open, openSequence, openStruct, Model, opened, setAside, closed, addMember, addField, add, close, abandon}
-use Rattle·machine·specs.specs.Model.{spell, modelStep, startedModel}
-use Rattle·machine·specs.specs.Demands.{flushed, joined, modelAfter, spelled, written}
-use Rattle·machine·specs.specs.Counts.{howMany, howManyPairs, Counted, treeCounts, membersCounts, fieldsCounts, countsFrom, counts, Answers}
-use Rattle·machine·specs.specs.Counts.{nextPlace, answersWith, answersClosed, answersAbandoned, answersAccepted, answersStep, answersAfter}
-use Rattle·machine·specs.specs.Counts.{MembersAnswered}
-use Rattle·machine·proofs.proofs.Invariant.{isSome, insideStruct, NamesAside, membersOf, containersOf, outside}
-use Rattle·machine·proofs.proofs.Steps.{none-failing, Passed, passed, Invariant, can}
-use Rattle·machine·proofs.proofs.Meaning.{spelled-is}
-use Rattle·machine·proofs.proofs.Demands.{stepArguments, call-keeps, start-keeps, demand3}
+use Rattle.ion.specs.Value.{Tree, scalar, sequence, struct, Members, no_members, member, Fields, no_fields, field, Item, marker, value}
+use Rattle.ion.proofs.Maps.{map_tree, map_members, map_fields, map_items}
+use Rattle.encoding.specs.Argument.{Argument, argument_bytes, argument_checks, meaning}
+use Rattle.encoding.proofs.Writable.{NoneHolds}
+use Rattle.machine.specs.declared.Container.{Container}
+use Rattle.machine.specs.Call.{ContainerType, sequence_type, struct_type, Call, write, name, opening, closing, abandonment, version_marker, taking, emptying}
+use Rattle.machine.specs.Machine.{Config, open_containers, is_open, outer, live, lacks_name, innermost_members, rule_of, checks, effect, Verdict}
+use Rattle.machine.specs.Machine.{accepted, refused, verdict, is_accepted, figures_if, after, run, started}
+use Rattle.machine.specs.Model.{Open, open_sequence, open_struct, Model, opened, set_aside, closed, add_member, add_field, add, close, abandon}
+use Rattle.machine.specs.Model.{spell, model_step, started_model}
+use Rattle.machine.specs.Demands.{flushed, joined, model_after, spelled, written}
+use Rattle.machine.specs.Counts.{how_many, how_many_pairs, Counted, tree_counts, members_counts, fields_counts, counts_from, counts, Answers}
+use Rattle.machine.specs.Counts.{next_place, answers_with, answers_closed, answers_abandoned, answers_accepted, answers_step, answers_after}
+use Rattle.machine.specs.Counts.{MembersAnswered}
+use Rattle.machine.proofs.Invariant.{is_some, inside_struct, NamesAside, members_of, containers_of, outside}
+use Rattle.machine.proofs.Steps.{none_failing, Passed, passed, Invariant, can}
+use Rattle.machine.proofs.Meaning.{spelled_is}
+use Rattle.machine.proofs.Demands.{step_arguments, call_keeps, start_keeps, demand3}
 
-one-on : (i n : ℕ) → i + 1 + n ≡ i + suc n
-one-on i n = omega arith
+one_on : (i n : ℕ) → i + 1 + n ≡ i + suc n
+one_on i n = omega arith
 
 -- ---- the counts do not depend on the leaves
 
 module _ {S T : Type 0} (f : S → T) where
-  howMany-map : (vs : Members S) → howMany (mapMembers f vs) ≡ howMany vs
-  unfolding mapTree
-  howMany-map noMembers = refl
-  howMany-map (member v vs) = rw (howMany-map vs)
+  how_many_map : (vs : Members S) → how_many (map_members f vs) ≡ how_many vs
+  unfolding map_tree
+  how_many_map no_members = refl
+  how_many_map (member v vs) = rw (how_many_map vs)
 
-  howManyPairs-map : (fs : Fields S) → howManyPairs (mapFields f fs) ≡ howManyPairs fs
-  unfolding mapTree
-  howManyPairs-map noFields = refl
-  howManyPairs-map (field n v fs) = rw (howManyPairs-map fs)
+  how_many_pairs_map : (fs : Fields S) → how_many_pairs (map_fields f fs) ≡ how_many_pairs fs
+  unfolding map_tree
+  how_many_pairs_map no_fields = refl
+  how_many_pairs_map (field n v fs) = rw (how_many_pairs_map fs)
 
   mutual
-    unfolding mapTree treeCounts
+    unfolding map_tree tree_counts
 
-    treeCounts-map : (p : List ℕ) (t : Tree S) → treeCounts p (mapTree f t) ≡ treeCounts p t
-    treeCounts-map p (scalar an s) = refl
-    treeCounts-map p (sequence an k vs) = rw (membersCounts-map p 0 vs, howMany-map vs)
-    treeCounts-map p (struct an fs) = rw (fieldsCounts-map p 0 fs, howManyPairs-map fs)
+    tree_counts_map : (p : List ℕ) (t : Tree S) → tree_counts p (map_tree f t) ≡ tree_counts p t
+    tree_counts_map p (scalar an s) = refl
+    tree_counts_map p (sequence an k vs) = rw (members_counts_map p 0 vs, how_many_map vs)
+    tree_counts_map p (struct an fs) = rw (fields_counts_map p 0 fs, how_many_pairs_map fs)
 
-    membersCounts-map : (p : List ℕ) (i : ℕ) (vs : Members S) → membersCounts p i (mapMembers f vs) ≡ membersCounts p i vs
-    membersCounts-map p i noMembers = refl
-    membersCounts-map p i (member v vs) = rw (treeCounts-map (p ++ (i ∷ [])) v, membersCounts-map p (i + 1) vs)
+    members_counts_map : (p : List ℕ) (i : ℕ) (vs : Members S) → members_counts p i (map_members f vs) ≡ members_counts p i vs
+    members_counts_map p i no_members = refl
+    members_counts_map p i (member v vs) = rw (tree_counts_map (p ++ (i ∷ [])) v, members_counts_map p (i + 1) vs)
 
-    fieldsCounts-map : (p : List ℕ) (i : ℕ) (fs : Fields S) → fieldsCounts p i (mapFields f fs) ≡ fieldsCounts p i fs
-    fieldsCounts-map p i noFields = refl
-    fieldsCounts-map p i (field n v fs) = rw (treeCounts-map (p ++ (i ∷ [])) v, fieldsCounts-map p (i + 1) fs)
+    fields_counts_map : (p : List ℕ) (i : ℕ) (fs : Fields S) → fields_counts p i (map_fields f fs) ≡ fields_counts p i fs
+    fields_counts_map p i no_fields = refl
+    fields_counts_map p i (field n v fs) = rw (tree_counts_map (p ++ (i ∷ [])) v, fields_counts_map p (i + 1) fs)
 
-  counts-map : (i : ℕ) (is : List (Item S)) → countsFrom i (mapItems f is) ≡ countsFrom i is
-  unfolding mapItems countsFrom
-  counts-map i [] = refl
-  counts-map i (marker ∷ is) = counts-map (i + 1) is
-  counts-map i (value t ∷ is) = rw (treeCounts-map (i ∷ []) t, counts-map (i + 1) is)
+  counts_map : (i : ℕ) (is : List (Item S)) → counts_from i (map_items f is) ≡ counts_from i is
+  unfolding map_items counts_from
+  counts_map i [] = refl
+  counts_map i (marker ∷ is) = counts_map (i + 1) is
+  counts_map i (value t ∷ is) = rw (tree_counts_map (i ∷ []) t, counts_map (i + 1) is)
 
 -- ---- with one value more
 
 module _ {S : Type 0} (p : List ℕ) where
-  counts-addMember : (i : ℕ) (vs : Members S) (t : Tree S)
-      → membersCounts p i (addMember vs t) ≡ membersCounts p i vs ++ treeCounts (p ++ ((i + howMany vs) ∷ [])) t
-  unfolding treeCounts
-  counts-addMember i noMembers t = rw (add-zero i, append-nil)
-  counts-addMember i (member x xs) t = rw (counts-addMember (i + 1) xs t, one-on i (howMany xs), append-assoc)
+  counts-add_member : (i : ℕ) (vs : Members S) (t : Tree S)
+      → members_counts p i (add_member vs t) ≡ members_counts p i vs ++ tree_counts (p ++ ((i + how_many vs) ∷ [])) t
+  unfolding tree_counts
+  counts-add_member i no_members t = rw (add-zero i, append-nil)
+  counts-add_member i (member x xs) t = rw (counts-add_member (i + 1) xs t, one_on i (how_many xs), append_assoc)
 
-  counts-addField : (i : ℕ) (fs : Fields S) (n : ℕ) (t : Tree S)
-      → fieldsCounts p i (addField fs n t) ≡ fieldsCounts p i fs ++ treeCounts (p ++ ((i + howManyPairs fs) ∷ [])) t
-  unfolding treeCounts
-  counts-addField i noFields n t = rw (add-zero i, append-nil)
-  counts-addField i (field j x xs) n t = rw (counts-addField (i + 1) xs n t, one-on i (howManyPairs xs), append-assoc)
+  counts-add_field : (i : ℕ) (fs : Fields S) (n : ℕ) (t : Tree S)
+      → fields_counts p i (add_field fs n t) ≡ fields_counts p i fs ++ tree_counts (p ++ ((i + how_many_pairs fs) ∷ [])) t
+  unfolding tree_counts
+  counts-add_field i no_fields n t = rw (add-zero i, append-nil)
+  counts-add_field i (field j x xs) n t = rw (counts-add_field (i + 1) xs n t, one_on i (how_many_pairs xs), append_assoc)
 
-counts-append : {S : Type 0} (i : ℕ) (is js : List (Item S)) → countsFrom i (is ++ js) ≡ countsFrom i is ++ countsFrom (i + length is) js
-unfolding countsFrom
-counts-append i [] js = rw (add-zero i)
-counts-append i (marker ∷ is) js = rw (counts-append (i + 1) is js, one-on i (length is))
-counts-append i (value t ∷ is) js = rw (counts-append (i + 1) is js, one-on i (length is), append-assoc)
+counts_append : {S : Type 0} (i : ℕ) (is js : List (Item S)) → counts_from i (is ++ js) ≡ counts_from i is ++ counts_from (i + length is) js
+unfolding counts_from
+counts_append i [] js = rw (add-zero i)
+counts_append i (marker ∷ is) js = rw (counts_append (i + 1) is js, one_on i (length is))
+counts_append i (value t ∷ is) js = rw (counts_append (i + 1) is js, one_on i (length is), append_assoc)
 
 -- ---- the answers that the model tells
 
 -- the place of a value that comes next, i items behind the stream's begin
-abbrev placeIn : ℕ → List (Open Argument) → List ℕ
-placeIn i [] = i ∷ []
-placeIn i (o ∷ st) = placeIn i st ++ (membersOf o ∷ [])
+abbrev place_in : ℕ → List (Open Argument) → List ℕ
+place_in i [] = i ∷ []
+place_in i (o ∷ st) = place_in i st ++ (members_of o ∷ [])
 
 -- p is the place of the open container
-abbrev heldCounts : List ℕ → Open Argument → List Counted
-heldCounts p (openSequence an aside k vs) = membersCounts p 0 vs
-heldCounts p (openStruct an aside fs) = fieldsCounts p 0 fs
+abbrev held_counts : List ℕ → Open Argument → List Counted
+held_counts p (open_sequence an aside k vs) = members_counts p 0 vs
+held_counts p (open_struct an aside fs) = fields_counts p 0 fs
 
-abbrev stackCounts : ℕ → List (Open Argument) → List (List Counted)
-stackCounts i [] = []
-stackCounts i (o ∷ st) = heldCounts (placeIn i st) o ∷ stackCounts i st
+abbrev stack_counts : ℕ → List (Open Argument) → List (List Counted)
+stack_counts i [] = []
+stack_counts i (o ∷ st) = held_counts (place_in i st) o ∷ stack_counts i st
 
-abbrev answersIn : List (Item Argument) → List (Open Argument) → Answers
-answersIn is st = record { items = length is; outside = counts is; inside = stackCounts (length is) st }
+abbrev answers_in : List (Item Argument) → List (Open Argument) → Answers
+answers_in is st = record { items = length is; outside = counts is; inside = stack_counts (length is) st }
 
-abbrev answersOf : Model Argument → Answers
-answersOf x = answersIn (x .items) (x .stack)
+abbrev answers_of : Model Argument → Answers
+answers_of x = answers_in x.items x.stack
 
-add-answers : (is : List (Item Argument)) (st : List (Open Argument)) (nm : Option ℕ) (t : Tree Argument) → isSome nm ≡ insideStruct st
-    → answersWith (length is) (counts is) (stackCounts (length is) st) (treeCounts (placeIn (length is) st) t) ≡ answersOf (add is st nm t)
-unfolding countsFrom
-add-answers is [] nm t e = rw (counts-append 0 is (value t ∷ []), zero-add (length is), length-append is (value t ∷ []), append-nil)
-add-answers is (openSequence an aside k vs ∷ st) nm t e = rw (counts-addMember (placeIn (length is) st) 0 vs t, zero-add (howMany vs))
-add-answers is (openStruct an aside fs ∷ st) (some n) t e = rw (counts-addField (placeIn (length is) st) 0 fs n t, zero-add (howManyPairs fs))
-add-answers is (openStruct an aside fs ∷ st) none t e = absurd (false≢true e)
+add_answers : (is : List (Item Argument)) (st : List (Open Argument)) (nm : Option ℕ) (t : Tree Argument) → is_some nm ≡ inside_struct st
+    → answers_with (length is) (counts is) (stack_counts (length is) st) (tree_counts (place_in (length is) st) t) ≡ answers_of (add is st nm t)
+unfolding counts_from
+add_answers is [] nm t e = rw (counts_append 0 is (value t ∷ []), zero-add (length is), length-append is (value t ∷ []), append-nil)
+add_answers is (open_sequence an aside k vs ∷ st) nm t e = rw (counts-add_member (place_in (length is) st) 0 vs t, zero-add (how_many vs))
+add_answers is (open_struct an aside fs ∷ st) (some n) t e = rw (counts-add_field (place_in (length is) st) 0 fs n t, zero-add (how_many_pairs fs))
+add_answers is (open_struct an aside fs ∷ st) none t e = absurd (false≢true e)
 
-closed-counts : (p : List ℕ) (o : Open Argument) → treeCounts p (closed o) ≡ heldCounts p o ++ ((p, membersOf o) ∷ [])
-unfolding treeCounts
-closed-counts p (openSequence an aside k vs) = refl
-closed-counts p (openStruct an aside fs) = refl
+closed-counts : (p : List ℕ) (o : Open Argument) → tree_counts p (closed o) ≡ held_counts p o ++ ((p, members_of o) ∷ [])
+unfolding tree_counts
+closed-counts p (open_sequence an aside k vs) = refl
+closed-counts p (open_struct an aside fs) = refl
 
 -- the records' counts are the model's
-next-place : (base : List ℕ) (i : ℕ) (st : List (Open Argument)) → nextPlace i (containersOf base st) ≡ placeIn i st
-next-place base i [] = refl
-next-place base i (o ∷ st) = rw (next-place base i st)
+next_place-containers_of : (base : List ℕ) (i : ℕ) (st : List (Open Argument)) → next_place i (containers_of base st) ≡ place_in i st
+next_place-containers_of base i [] = refl
+next_place-containers_of base i (o ∷ st) = rw (next_place-containers_of base i st)
 
-close-answers : (base : List ℕ) (is : List (Item Argument)) (st : List (Open Argument)) (nm : Option ℕ) → NamesAside st
-    → answersClosed (length is) (counts is) (stackCounts (length is) st)
-    (nextPlace (length is) (outer (containersOf base st)), innermostMembers (containersOf base st))
-    ≡ answersOf (close is st nm)
-close-answers base is [] nm h = refl
-close-answers base is (o ∷ st) nm h =
-    rw (next-place base (length is) st, ← (closed-counts (placeIn (length is) st) o)) (add-answers is st (setAside o) (closed o) (h .0))
+close_answers : (base : List ℕ) (is : List (Item Argument)) (st : List (Open Argument)) (nm : Option ℕ) → NamesAside st
+    → answers_closed (length is) (counts is) (stack_counts (length is) st)
+    (next_place (length is) (outer (containers_of base st)), innermost_members (containers_of base st))
+    ≡ answers_of (close is st nm)
+close_answers base is [] nm h = refl
+close_answers base is (o ∷ st) nm h =
+    rw (next_place-containers_of base (length is) st, ← (closed-counts (place_in (length is) st) o)) (add_answers is st (set_aside o) (closed o) h.0)
 
-abandon-answers : (is : List (Item Argument)) (st : List (Open Argument)) (nm : Option ℕ)
-    → answersAbandoned (length is) (counts is) (stackCounts (length is) st) ≡ answersOf (abandon is st nm)
-abandon-answers is [] nm = refl
-abandon-answers is (o ∷ st) nm = refl
+abandon_answers : (is : List (Item Argument)) (st : List (Open Argument)) (nm : Option ℕ)
+    → answers_abandoned (length is) (counts is) (stack_counts (length is) st) ≡ answers_of (abandon is st nm)
+abandon_answers is [] nm = refl
+abandon_answers is (o ∷ st) nm = refl
 
-opened-answers : (is : List (Item Argument)) (st : List (Open Argument)) (an : List ℕ) (nm : Option ℕ) (k : ContainerType)
-    → record { items = length is; outside = counts is; inside = [] ∷ stackCounts (length is) st } ≡ answersIn is (opened an nm k ∷ st)
-unfolding treeCounts
-opened-answers is st an nm (sequenceType k) = refl
-opened-answers is st an nm structType = refl
+opened_answers : (is : List (Item Argument)) (st : List (Open Argument)) (an : List ℕ) (nm : Option ℕ) (k : ContainerType)
+    → record { items = length is; outside = counts is; inside = [] ∷ stack_counts (length is) st } ≡ answers_in is (opened an nm k ∷ st)
+unfolding tree_counts
+opened_answers is st an nm (sequence_type k) = refl
+opened_answers is st an nm struct_type = refl
 
 -- ---- one call, accepted or refused
 
 module _ (done : List ℕ) (w : Config) (x : Model Argument) (inv : Invariant done w x) where
-  accepted-answers : (c : Call) → NoneHolds (checks c w)
-      → answersAccepted c (w .state) (ruleOf c w .figures .members) (answersOf x) ≡ answersOf (spell (λ a. a) c x)
-  unfolding treeCounts
-  accepted-answers (write an a) h =
-      let k = passed w (lacksName (w .state)) (argumentChecks a) (effect (write an a) w .state .used) h in
-      add-answers (x .items) (x .stack) (x .waiting) (scalar an a) (can done w x inv (k .place))
-  accepted-answers (name n) h = refl
-  accepted-answers (opening an k) h = opened-answers (x .items) (x .stack) an (x .waiting) k
-  accepted-answers closing h =
-      rw (inv .layout .placed) (close-answers (inv .layout .base) (x .items) (x .stack) (x .waiting) (inv .layout .aside))
-  accepted-answers abandonment h = abandon-answers (x .items) (x .stack) (x .waiting)
-  accepted-answers versionMarker h =
-      let k = passed w (isOpen (openContainers (w .state))) [] (effect versionMarker w .state .used) h in
-      let none = outside done (live w) (openContainers (w .state)) (x .items) (x .stack) (x .waiting) (inv .layout) (k .place) .1 in
-      rw (none, length-append (x .items) (marker ∷ []), counts-append 0 (x .items) (marker ∷ [])) (unfold countsFrom in rw append-nil)
-  accepted-answers taking h = refl
-  accepted-answers emptying h = refl
+  accepted_answers : (c : Call) → NoneHolds (checks c w)
+      → answers_accepted c w.state (rule_of c w).figures.members (answers_of x) ≡ answers_of (spell (λ a. a) c x)
+  unfolding tree_counts
+  accepted_answers (write an a) h =
+      let k = passed w (lacks_name w.state) (argument_checks a) (effect (write an a) w).state.used h in
+      add_answers x.items x.stack x.waiting (scalar an a) (can done w x inv k.place)
+  accepted_answers (name n) h = refl
+  accepted_answers (opening an k) h = opened_answers x.items x.stack an x.waiting k
+  accepted_answers closing h =
+      rw inv.layout.placed (close_answers inv.layout.base x.items x.stack x.waiting inv.layout.aside)
+  accepted_answers abandonment h = abandon_answers x.items x.stack x.waiting
+  accepted_answers version_marker h =
+      let k = passed w (is_open (open_containers w.state)) [] (effect version_marker w).state.used h in
+      let none = (outside done (live w) (open_containers w.state) x.items x.stack x.waiting inv.layout k.place).1 in
+      rw (none, length-append x.items (marker ∷ []), counts_append 0 x.items (marker ∷ [])) (unfold counts_from in rw append-nil)
+  accepted_answers taking h = refl
+  accepted_answers emptying h = refl
 
-  call-answers : (c : Call) → answersStep c (isAccepted (verdict c w)) (w .state) (run c w .figures .members) (answersOf x) ≡ answersOf (stepArguments c w x)
+  call_answers : (c : Call) → answers_step c (is_accepted (verdict c w)) w.state (run c w).figures.members (answers_of x) ≡ answers_of (step_arguments c w x)
   unfolding run
-  call-answers c = by-verdict (verdict c w) refl
+  call_answers c = by_verdict (verdict c w) refl
     where
-      by-verdict : (v : Verdict) → verdict c w ≡ v
-          → answersStep c (isAccepted v) (w .state) (figuresIf v (ruleOf c w .figures) .members) (answersOf x)
-          ≡ answersOf (modelStep (λ a. a) c (isAccepted v) x)
-      by-verdict accepted e = accepted-answers c (none-failing (checks c w) (unfold verdict in e))
-      by-verdict (refused n) e = refl
+      by_verdict : (v : Verdict) → verdict c w ≡ v
+          → answers_step c (is_accepted v) w.state (figures_if v (rule_of c w).figures).members (answers_of x)
+          ≡ answers_of (model_step (λ a. a) c (is_accepted v) x)
+      by_verdict accepted e = accepted_answers c (none_failing (checks c w) (unfold verdict in e))
+      by_verdict (refused n) e = refl
 
 -- ---- a list of calls
 
-list-answers : (cs : List Call) (done : List ℕ) (w : Config) (x : Model Argument) → Invariant done w x
-    → answersAfter cs w (answersOf x) ≡ answersOf (modelAfter (λ a. a) cs w x)
-unfolding answersAfter modelAfter
-list-answers [] done w x inv = refl
-list-answers (c ∷ cs) done w x inv =
-    rw (call-answers done w x inv c) (list-answers cs (done ++ flushed c w) (after c w) (stepArguments c w x) (call-keeps done w x c inv))
+list_answers : (cs : List Call) (done : List ℕ) (w : Config) (x : Model Argument) → Invariant done w x
+    → answers_after cs w (answers_of x) ≡ answers_of (model_after (λ a. a) cs w x)
+unfolding answers_after model_after
+list_answers [] done w x inv = refl
+list_answers (c ∷ cs) done w x inv =
+    rw (call_answers done w x inv c) (list_answers cs (done ++ flushed c w) (after c w) (step_arguments c w x) (call_keeps done w x c inv))
 
 pub members-answered : MembersAnswered
-unfolding countsFrom
+unfolding counts_from
 members-answered cs b r t x reading =
-    ap (λ (a : Answers). a .outside) (list-answers cs [] (started b) startedModel (start-keeps b (r .starts)))
-    ∙ (sym (counts-map meaning 0 (written cs b)) ∙ (ap counts (sym (spelled-is cs b)) ∙ ap counts (sym (demand3 cs b r t .only x reading))))
+    ap (λ (a : Answers). a.outside) (list_answers cs [] (started b) started_model (start_keeps b r.starts))
+    ∙ (sym (counts_map meaning 0 (written cs b)) ∙ (ap counts (sym (spelled_is cs b)) ∙ ap counts (sym ((demand3 cs b r t).only x reading))))

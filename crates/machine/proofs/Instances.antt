@@ -2,65 +2,65 @@
 -- The bytes are those of the original Rust for the values that are left. Assumes nothing.
 use Prim.Native.Nat.{ℕ}
 use native.Mathlib.Omega.{arith}
-use mathlib.Core.Path.{_≡_, refl, sym, _∙_, subst₂}
+use mathlib.Core.Path.{◌≡◌, refl, sym, ◌∙◌, subst₂}
 use mathlib.Core.Bool.{true, false}
-use mathlib.Core.List.{List, [], _∷_, _++_}
+use mathlib.Core.List.{List, [], ◌∷◌, ◌++◌}
 use mathlib.Core.Option.{none, some}
 use lib.ListN.{replicate}
 use lib.IntN.{pos, negsuc}
-use Rattle·ion.specs.Value.{ionList, notANumber, infinite, signed, noFraction, fraction, Scalar, null, bool, int, float, decimal, timestamp, symbol}
-use Rattle·ion.specs.Value.{string, clob, blob}
-use Rattle·ion.specs.Value.{list, sexp, scalar, sequence, struct, noMembers, member, noFields, field, Item, marker, value}
-use Rattle·encoding.specs.Argument.{writeNull, writeBool, writeI64, writeInt, writeF32, writeF64, writeDecimal, writeTimestamp, writeSymbol}
-use Rattle·encoding.specs.Argument.{writeString, writeClob, writeBlob}
-use Rattle·encoding.specs.Stream.{streamBytes}
-use Rattle·machine·specs.specs.Call.{sequenceType, structType, Call, write, name, opening, closing, abandonment, versionMarker, taking, emptying, AllTyped}
-use Rattle·machine·specs.specs.Machine.{accepted, refused}
-use Rattle·machine·specs.specs.Machine.{started}
-use Rattle·machine·specs.specs.Demands.{joined, spelled, written, Run, ReadsOnlyAs}
-use Rattle·machine·specs.specs.Counts.{Counted, treeCounts, countsFrom, counts, noAnswers, answersAfter}
-use Rattle·machine·proofs.proofs.Whole.{machineWhole}
-use Rattle·machine·proofs.proofs.Demands.{demand2, demand3}
-use Rattle·machine·proofs.proofs.Counts.{members-answered}
-use Rattle·machine·proofs.proofs.Examples.{verdicts}
+use Rattle.ion.specs.Value.{ion_list, not_anumber, infinite, signed, no_fraction, fraction, Scalar, null, bool, int, float, decimal, timestamp, symbol}
+use Rattle.ion.specs.Value.{string, clob, blob}
+use Rattle.ion.specs.Value.{list, sexp, scalar, sequence, struct, no_members, member, no_fields, field, Item, marker, value}
+use Rattle.encoding.specs.Argument.{write_null, write_bool, write_i64, write_int, write_f32, write_f64, write_decimal, write_timestamp, write_symbol}
+use Rattle.encoding.specs.Argument.{write_string, write_clob, write_blob}
+use Rattle.encoding.specs.Stream.{stream_bytes}
+use Rattle.machine.specs.Call.{sequence_type, struct_type, Call, write, name, opening, closing, abandonment, version_marker, taking, emptying, AllTyped}
+use Rattle.machine.specs.Machine.{accepted, refused}
+use Rattle.machine.specs.Machine.{started}
+use Rattle.machine.specs.Demands.{joined, spelled, written, Run, ReadsOnlyAs}
+use Rattle.machine.specs.Counts.{Counted, tree_counts, counts_from, counts, no_answers, answers_after}
+use Rattle.machine.proofs.Whole.{machine_whole}
+use Rattle.machine.proofs.Demands.{demand2, demand3}
+use Rattle.machine.proofs.Counts.{members-answered}
+use Rattle.machine.proofs.Examples.{verdicts}
 
 -- the greatest sid
 abbrev pub most : ℕ
 most = 0xFFFFFFFFFFFFFFFF
 
 -- a value, and a struct with names and values at the limits; what stands between is refused or abandoned
-abbrev pub structBegun : List Call
-structBegun =
-    write [] (writeNull ionList)
-    ∷ opening (most ∷ []) structType
-    ∷ write [] (writeBool true)
+abbrev pub struct_begun : List Call
+struct_begun =
+    write [] (write_null ion_list)
+    ∷ opening (most ∷ []) struct_type
+    ∷ write [] (write_bool true)
     ∷ name most
     ∷ name 4
-    ∷ write (10 ∷ []) (writeI64 (negsuc 0x7FFFFFFFFFFFFFFF))
+    ∷ write (10 ∷ []) (write_i64 (negsuc 0x7FFFFFFFFFFFFFFF))
     ∷ name 5
-    ∷ opening [] (sequenceType list)
-    ∷ write [] (writeInt true (0 ∷ 0xFF ∷ []))
-    ∷ write [] (writeInt true [])
-    ∷ write [] (writeF32 0xFFFFFFFF)
-    ∷ write [] (writeF64 0x7FF0000000000000)
-    ∷ write [] (writeF64 0xFFFFFFFFFFFFFFFF)
-    ∷ write [] (writeDecimal true (0x80 ∷ []) (negsuc 0x7FFFFFFFFFFFFFFF))
-    ∷ write [] (writeDecimal false (replicate 33 1) (pos 0))
-    ∷ versionMarker
+    ∷ opening [] (sequence_type list)
+    ∷ write [] (write_int true (0 ∷ 0xFF ∷ []))
+    ∷ write [] (write_int true [])
+    ∷ write [] (write_f32 0xFFFFFFFF)
+    ∷ write [] (write_f64 0x7FF0000000000000)
+    ∷ write [] (write_f64 0xFFFFFFFFFFFFFFFF)
+    ∷ write [] (write_decimal true (0x80 ∷ []) (negsuc 0x7FFFFFFFFFFFFFFF))
+    ∷ write [] (write_decimal false (replicate 33 1) (pos 0))
+    ∷ version_marker
     ∷ closing
     ∷ []
 
-abbrev pub structEnded : List Call
-structEnded =
+abbrev pub struct_ended : List Call
+struct_ended =
     name 6
-    ∷ opening (12 ∷ []) (sequenceType sexp)
-    ∷ write [] (writeBool false)
+    ∷ opening (12 ∷ []) (sequence_type sexp)
+    ∷ write [] (write_bool false)
     ∷ abandonment
-    ∷ write [] (writeTimestamp (some (pos 1439)) (1 ∷ 1 ∷ 2 ∷ 0 ∷ 0 ∷ 0 ∷ []) (fraction 18 999999999999999999))
+    ∷ write [] (write_timestamp (some (pos 1439)) (1 ∷ 1 ∷ 2 ∷ 0 ∷ 0 ∷ 0 ∷ []) (fraction 18 999999999999999999))
     ∷ name 7
     ∷ closing
-    ∷ write [] (writeTimestamp none (2001 ∷ 2 ∷ 29 ∷ []) noFraction)
-    ∷ write [] (writeSymbol most)
+    ∷ write [] (write_timestamp none (2001 ∷ 2 ∷ 29 ∷ []) no_fraction)
+    ∷ write [] (write_symbol most)
     ∷ closing
     ∷ []
 
@@ -69,20 +69,20 @@ abbrev pub behind : List Call
 behind =
     taking
     ∷ emptying
-    ∷ versionMarker
-    ∷ write [] (writeString (0xC3 ∷ 0xA9 ∷ []))
-    ∷ write [] (writeString (0xFF ∷ []))
-    ∷ write [] (writeClob (0xFF ∷ []))
-    ∷ write [] (writeBlob (0 ∷ []))
-    ∷ opening [] (sequenceType sexp)
-    ∷ write [] (writeBool true)
+    ∷ version_marker
+    ∷ write [] (write_string (0xC3 ∷ 0xA9 ∷ []))
+    ∷ write [] (write_string (0xFF ∷ []))
+    ∷ write [] (write_clob (0xFF ∷ []))
+    ∷ write [] (write_blob (0 ∷ []))
+    ∷ opening [] (sequence_type sexp)
+    ∷ write [] (write_bool true)
     ∷ closing
-    ∷ write [] (writeBlob (replicate 200 0))
+    ∷ write [] (write_blob (replicate 200 0))
     ∷ abandonment
     ∷ []
 
 abbrev pub limits : List Call
-limits = structBegun ++ (structEnded ++ behind)
+limits = struct_begun ++ (struct_ended ++ behind)
 
 abbrev pub nines : List ℕ
 nines = replicate 140 9
@@ -91,7 +91,7 @@ answers : verdicts limits (started nines)
     ≡ accepted ∷ accepted ∷ refused 3 ∷ accepted ∷ refused 3 ∷ accepted ∷ accepted ∷ accepted ∷ accepted ∷ refused 5 ∷ accepted ∷ accepted ∷ accepted
     ∷ accepted ∷ refused 8 ∷ refused 3 ∷ accepted ∷ accepted ∷ accepted ∷ accepted ∷ accepted ∷ accepted ∷ accepted ∷ refused 3 ∷ refused 7 ∷ accepted
     ∷ accepted ∷ accepted ∷ accepted ∷ accepted ∷ accepted ∷ refused 6 ∷ accepted ∷ accepted ∷ accepted ∷ accepted ∷ accepted ∷ refused 10 ∷ refused 3 ∷ []
-unfolding verdicts machineWhole
+unfolding verdicts machine_whole
 answers = refl
 
 abbrev pub bytes : List ℕ
@@ -108,62 +108,62 @@ bytes =
 abbrev pub items : List (Item Scalar)
 items =
     marker
-    ∷ value (scalar [] (null ionList))
+    ∷ value (scalar [] (null ion_list))
     ∷ value (struct (most ∷ [])
     (field most (scalar (10 ∷ []) (int (negsuc 0x7FFFFFFFFFFFFFFF)))
     (field 5 (sequence [] list
     (member (scalar [] (int (negsuc 254)))
-    (member (scalar [] (float notANumber))
+    (member (scalar [] (float not_anumber))
     (member (scalar [] (float (infinite false)))
-    (member (scalar [] (float notANumber))
+    (member (scalar [] (float not_anumber))
     (member (scalar [] (decimal (signed true 0x80) (negsuc 0x7FFFFFFFFFFFFFFF)))
-    noMembers))))))
+    no_members))))))
     (field 6 (scalar [] (timestamp (some (pos 1439)) (1 ∷ 1 ∷ 1 ∷ 0 ∷ 1 ∷ 0 ∷ []) (fraction 18 999999999999999999)))
     (field 7 (scalar [] (symbol most))
-    noFields)))))
+    no_fields)))))
     ∷ marker
     ∷ value (scalar [] (string (0xC3 ∷ 0xA9 ∷ [])))
     ∷ value (scalar [] (clob (0xFF ∷ [])))
     ∷ value (scalar [] (blob (0 ∷ [])))
-    ∷ value (sequence [] sexp (member (scalar [] (bool true)) noMembers))
+    ∷ value (sequence [] sexp (member (scalar [] (bool true)) no_members))
     ∷ []
 
 -- ---- what the demands say of them
 
 pub run : Run limits nines
-unfolding verdicts machineWhole
+unfolding verdicts machine_whole
 run = record { starts = refl; ends = refl }
 
-typed-both : (l r : List Call) → AllTyped l → AllTyped r → AllTyped (l ++ r)
-typed-both [] r h k = k
-typed-both (c ∷ l) r h k = (h .0, typed-both l r (h .1) k)
+typed_both : (l r : List Call) → AllTyped l → AllTyped r → AllTyped (l ++ r)
+typed_both [] r h k = k
+typed_both (c ∷ l) r h k = (h.0, typed_both l r h.1 k)
 
 pub typed : AllTyped limits
-typed = typed-both structBegun (structEnded ++ behind) (omega arith) (typed-both structEnded behind (omega arith) (omega arith))
+typed = typed_both struct_begun (struct_ended ++ behind) (omega arith) (typed_both struct_ended behind (omega arith) (omega arith))
 
-pub joined-bytes : joined limits (started nines) ≡ bytes
-unfolding verdicts machineWhole
-joined-bytes = refl
+pub joined_bytes : joined limits (started nines) ≡ bytes
+unfolding verdicts machine_whole
+joined_bytes = refl
 
 pub spelled-items : spelled limits nines ≡ items
-unfolding verdicts machineWhole
+unfolding verdicts machine_whole
 spelled-items = refl
 
 -- the encoding of what was written is these bytes
-pub instance2 : streamBytes (written limits nines) ≡ bytes
-instance2 = sym (demand2 limits nines run) ∙ joined-bytes
+pub instance2 : stream_bytes (written limits nines) ≡ bytes
+instance2 = sym (demand2 limits nines run) ∙ joined_bytes
 
 -- these bytes read as these items, and as nothing else
 pub instance3 : ReadsOnlyAs bytes items
-instance3 = subst₂ ReadsOnlyAs joined-bytes spelled-items (demand3 limits nines run typed)
+instance3 = subst₂ ReadsOnlyAs joined_bytes spelled-items (demand3 limits nines run typed)
 
 -- what its closings answer of members is what these items have: the list in the struct five, the struct four pairs, the s-expression one
 abbrev pub counted : List Counted
 counted = (2 ∷ 1 ∷ [], 5) ∷ (2 ∷ [], 4) ∷ (7 ∷ [], 1) ∷ []
 
-pub instance-counts : counts items ≡ counted
-unfolding countsFrom treeCounts
-instance-counts = refl
+pub instance_counts : counts items ≡ counted
+unfolding counts_from tree_counts
+instance_counts = refl
 
-pub instance-answers : answersAfter limits (started nines) noAnswers .outside ≡ counted
-instance-answers = members-answered limits nines run typed items (rw joined-bytes (instance3 .reading)) ∙ instance-counts
+pub instance_answers : (answers_after limits (started nines) no_answers).outside ≡ counted
+instance_answers = members-answered limits nines run typed items (rw joined_bytes instance3.reading) ∙ instance_counts

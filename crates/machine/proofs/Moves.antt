@@ -1,42 +1,42 @@
 -- What the closings of a list of calls move. A byte lies in at most 32 containers, and the closing of each moves it at most once: so of the bytes in the
 -- innermost of k open containers, closings have moved at most 32 - k times as many. Each call keeps that, and with none open it is the claim.
 -- By induction over the list of calls, refused ones included. Assumes nothing.
-use Prim.Native.Nat.{ℕ, zero, suc, _+_, _-_, _*_, _≤_}
+use Prim.Native.Nat.{ℕ, zero, suc, ◌+◌, ◌-◌, ◌*◌, ◌≤◌}
 use native.Mathlib.Omega.{arith}
-use native.Mathlib.Nat.{suc-mul, mul-add, mul-le-mul-left}
-use mathlib.Core.Path.{_≡_, refl, sym, _∙_, ap, ap₂}
-use mathlib.Core.Bool.{Bool, true, false, true≢false, false≢true, not, _&&_, _||_, and-true}
-use mathlib.Core.List.{List, [], _∷_, _++_}
+use native.Mathlib.Nat.{suc-mul, mul-add, mul-le-mul_left}
+use mathlib.Core.Path.{◌≡◌, refl, sym, ◌∙◌, ap, ap₂}
+use mathlib.Core.Bool.{Bool, true, false, true≢false, false≢true, not, ◌&&◌, ◌||◌, and-true}
+use mathlib.Core.List.{List, [], ◌∷◌, ◌++◌}
 use lib.Dec.{leb, eqb}
 use lib.ListN.{length, take, drop, length-append, length-drop, length-take}
 use lib.Seq.{slice}
-use borrow.Author.Tests.{leb-false, eqb-true, eqb-false, eq-eqb, ne-eqb, not-true}
-use Rattle·ion.specs.Value.{annotationCode}
-use Rattle·ion.proofs.Tests.{by-cases, both}
-use Rattle·encoding.specs.Headers.{typeByte, headerBytes, framedBytes}
-use Rattle·encoding.specs.Argument.{Argument, argumentChecks}
-use Rattle·encoding.proofs.Writable.{NoneHolds}
-use Rattle·encoding.proofs.Headers.{framed-longer}
-use Rattle·machine·specs.specs.declared.Container.{Container}
-use Rattle·machine·specs.specs.Call.{Call, write, name, opening, closing, abandonment, versionMarker, taking, emptying}
-use Rattle·machine·specs.specs.Machine.{Config, mostOpen, innermostFirst, openContainers, isOpen, outer, closedBytes, closedInnermost, lengthIfMoved}
-use Rattle·machine·specs.specs.Machine.{movedBytes, innermostMoved, innermostStart, live, effect, containerFits, containersFit, lacksName, ruleOf}
-use Rattle·machine·specs.specs.Machine.{checks, Verdict, accepted, refused, verdict, isAccepted, ifAccepted, figuresIf, after, run, started}
-use Rattle·machine·specs.specs.Model.{Model, modelStep, startedModel}
-use Rattle·machine·specs.specs.Demands.{partOf, flushed, joined, modelAfter}
-use Rattle·machine·specs.specs.Moves.{movedSum, isAbandonment, nothingAbandoned, MovedAtMost}
-use Rattle·machine·proofs.proofs.Invariant.{or-false, containerAt}
-use Rattle·machine·proofs.proofs.Splice.{countedFirst, opened-containers, counted-containers, closed-containers}
-use Rattle·machine·proofs.proofs.Steps.{none-failing, Passed, passed, Invariant, length-live, taken-live}
-use Rattle·machine·proofs.proofs.Meaning.{stack-is}
-use Rattle·machine·proofs.proofs.Demands.{stepArguments, call-keeps, none-left, start-keeps}
-use Rattle·machine·proofs.proofs.Fit.{Fit, fit}
-use Rattle·machine·proofs.proofs.Fitting.{invariant-chain}
+use borrow.Author.Tests.{leb-false, eqb-true, eqb-false, eq-eqb, ne_eqb, not-true}
+use Rattle.ion.specs.Value.{annotation_code}
+use Rattle.ion.proofs.Tests.{by_cases, both}
+use Rattle.encoding.specs.Headers.{type_byte, header_bytes, framed_bytes}
+use Rattle.encoding.specs.Argument.{Argument, argument_checks}
+use Rattle.encoding.proofs.Writable.{NoneHolds}
+use Rattle.encoding.proofs.Headers.{framed_longer}
+use Rattle.machine.specs.declared.Container.{Container}
+use Rattle.machine.specs.Call.{Call, write, name, opening, closing, abandonment, version_marker, taking, emptying}
+use Rattle.machine.specs.Machine.{Config, most_open, innermost_first, open_containers, is_open, outer, closed_bytes, closed_innermost, length_if_moved}
+use Rattle.machine.specs.Machine.{moved_bytes, innermost_moved, innermost_start, live, effect, container_fits, containers_fit, lacks_name, rule_of}
+use Rattle.machine.specs.Machine.{checks, Verdict, accepted, refused, verdict, is_accepted, if_accepted, figures_if, after, run, started}
+use Rattle.machine.specs.Model.{Model, model_step, started_model}
+use Rattle.machine.specs.Demands.{part_of, flushed, joined, model_after}
+use Rattle.machine.specs.Moves.{moved_sum, is_abandonment, nothing_abandoned, MovedAtMost}
+use Rattle.machine.proofs.Invariant.{or_false, container_at}
+use Rattle.machine.proofs.Splice.{counted_first, opened_containers, counted_containers, closed_containers}
+use Rattle.machine.proofs.Steps.{none_failing, Passed, passed, Invariant, length-live, taken_live}
+use Rattle.machine.proofs.Meaning.{stack_is}
+use Rattle.machine.proofs.Demands.{step_arguments, call_keeps, none_left, start_keeps}
+use Rattle.machine.proofs.Fit.{Fit, fit}
+use Rattle.machine.proofs.Fitting.{invariant_chain}
 
 -- ---- one closing
 
-pub if-moved : (from to n : ℕ) → lengthIfMoved from to n ≤ n
-if-moved from to n = by-cases (eqb from to) (λ p. rw (p, lengthIfMoved) (omega arith)) (λ p. rw (p, lengthIfMoved) (omega arith))
+pub if_moved : (from to n : ℕ) → length_if_moved from to n ≤ n
+if_moved from to n = by_cases (eqb from to) (λ p. rw (p, length_if_moved) (omega arith)) (λ p. rw (p, length_if_moved) (omega arith))
 
 -- it moves no more bytes than the container then has, and these are no fewer than the body's
 module _ (start header code : ℕ) (bs : List ℕ) where
@@ -47,54 +47,54 @@ module _ (start header code : ℕ) (bs : List ℕ) where
   noted = slice (start + 2) header bs
 
   abbrev inner : List ℕ
-  inner = headerBytes code (length body)
+  inner = header_bytes code (length body)
 
   abbrev wrapper : List ℕ
-  wrapper = headerBytes (typeByte annotationCode) (length (noted ++ (inner ++ body)))
+  wrapper = header_bytes (type_byte annotation_code) (length (noted ++ (inner ++ body)))
 
   abbrev size : ℕ
-  size = length (closedBytes start header code bs)
+  size = length (closed_bytes start header code bs)
 
   parts : eqb header start ≡ false → length noted + length body ≤ size
-  unfolding closedBytes
+  unfolding closed_bytes
   parts p =
-      rw (p, closedBytes) (omega (
+      rw (p, closed_bytes) (omega (
         arith,
-        framed-longer (typeByte annotationCode) (noted ++ framedBytes code body),
-        length-append noted (framedBytes code body),
-        framed-longer code body,
+        framed_longer (type_byte annotation_code) (noted ++ framed_bytes code body),
+        length-append noted (framed_bytes code body),
+        framed_longer code body,
       ))
 
-  body-within : length bs - (header + 2) ≤ size
-  unfolding closedBytes
-  body-within =
-      by-cases (eqb header start)
-      (λ p. rw (p, closedBytes) (omega (arith, framed-longer code body, length-drop (header + 2) bs)))
+  body_within : length bs - (header + 2) ≤ size
+  unfolding closed_bytes
+  body_within =
+      by_cases (eqb header start)
+      (λ p. rw (p, closed_bytes) (omega (arith, framed_longer code body, length-drop (header + 2) bs)))
       (λ p. omega (arith, parts p, length-drop (header + 2) bs))
 
-  moved-within : movedBytes start header code bs ≤ size
-  unfolding movedBytes
-  moved-within =
-      by-cases (eqb header start)
-      (λ p. rw (p, movedBytes) (omega (arith, body-within, length-drop (header + 2) bs, if-moved (header + 2) (start + length inner) (length body))))
-      (λ p. rw (p, movedBytes) (omega (
+  moved_within : moved_bytes start header code bs ≤ size
+  unfolding moved_bytes
+  moved_within =
+      by_cases (eqb header start)
+      (λ p. rw (p, moved_bytes) (omega (arith, body_within, length-drop (header + 2) bs, if_moved (header + 2) (start + length inner) (length body))))
+      (λ p. rw (p, moved_bytes) (omega (
         arith,
         parts p,
-        if-moved (start + 2) (start + length wrapper) (length noted),
-        if-moved (header + 2) (start + length (wrapper ++ (noted ++ inner))) (length body),
+        if_moved (start + 2) (start + length wrapper) (length noted),
+        if_moved (header + 2) (start + length (wrapper ++ (noted ++ inner))) (length body),
       )))
 
 -- ---- what moves, told by the used length: the body exactly if the used length alters, the annotation part exactly if the wrapper's header has not two bytes
 
 -- by as much at both ends
-shifted : (from to n k x y : ℕ) → x ≡ from + k → y ≡ to + k → lengthIfMoved from to n ≡ lengthIfMoved x y n
+shifted : (from to n k x y : ℕ) → x ≡ from + k → y ≡ to + k → length_if_moved from to n ≡ length_if_moved x y n
 shifted from to n k x y e q =
-    by-cases (eqb from to)
-    (λ p. rw (p, lengthIfMoved, eq-eqb x y (omega (arith, eqb-true from to p))))
-    (λ p. rw (p, lengthIfMoved, ne-eqb x y (λ r. eqb-false from to p (omega arith))))
+    by_cases (eqb from to)
+    (λ p. rw (p, length_if_moved, eq-eqb x y (omega (arith, eqb-true from to p))))
+    (λ p. rw (p, length_if_moved, ne_eqb x y (λ r. eqb-false from to p (omega arith))))
 
-none-moved : (from to : ℕ) → lengthIfMoved from to 0 ≡ 0
-none-moved from to = by-cases (eqb from to) (λ p. rw (p, lengthIfMoved)) (λ p. rw (p, lengthIfMoved))
+none-moved : (from to : ℕ) → length_if_moved from to 0 ≡ 0
+none-moved from to = by_cases (eqb from to) (λ p. rw (p, length_if_moved)) (λ p. rw (p, length_if_moved))
 
 module _ (start header code : ℕ) (bs : List ℕ) (h : header + 2 ≤ length bs) where
   abbrev B : List ℕ
@@ -109,20 +109,20 @@ module _ (start header code : ℕ) (bs : List ℕ) (h : header + 2 ≤ length bs
   abbrev W : List ℕ
   W = wrapper start header code bs
 
-  pub moved-is : movedBytes start header code bs
-      ≡ lengthIfMoved (length bs) (start + size start header code bs) (length B) + lengthIfMoved 2 (length W) (length A)
-  unfolding movedBytes closedBytes framedBytes
-  moved-is =
+  pub moved_is : moved_bytes start header code bs
+      ≡ length_if_moved (length bs) (start + size start header code bs) (length B) + length_if_moved 2 (length W) (length A)
+  unfolding moved_bytes closed_bytes framed_bytes
+  moved_is =
       let b = length-drop (header + 2) bs in
-      by-cases (eqb header start)
+      by_cases (eqb header start)
       (λ p.
       let n : length A ≡ 0 = length-drop (start + 2) (take header bs) ∙ omega (arith, length-take header bs, eqb-true header start p) in
-      rw (p, movedBytes, closedBytes, n, none-moved 2 (length W))
+      rw (p, moved_bytes, closed_bytes, n, none-moved 2 (length W))
       (shifted (header + 2) (start + length H) (length B) (length B) (length bs) (start + length (H ++ B)) (omega arith) (omega (arith, length-append H B))
       ∙ omega arith))
       (λ p.
-      rw (p, movedBytes, closedBytes)
-      (ap₂ _+_
+      rw (p, moved_bytes, closed_bytes)
+      (ap₂ ◌+◌
       (shifted (header + 2) (start + length (W ++ (A ++ H))) (length B) (length B) (length bs) (start + length (W ++ (A ++ (H ++ B)))) (omega arith)
       (omega (arith, length-append W (A ++ H), length-append A H, length-append W (A ++ (H ++ B)), length-append A (H ++ B), length-append H B)))
       (sym (shifted 2 (length W) (length A) start (start + 2) (start + length W) (omega arith) (omega arith)))))
@@ -130,132 +130,132 @@ module _ (start header code : ℕ) (bs : List ℕ) (h : header + 2 ≤ length bs
 -- ---- how much can have been moved
 
 -- of the bytes up to `limit`, cs being the open containers, innermost first: those in no container 32 times, those in the body of the k-th 32 - k times
-abbrev mostMoved : List Container → ℕ → ℕ
-mostMoved [] limit = 32 * limit
-mostMoved (c ∷ cs) limit = (31 - length cs) * (limit - (c .header + 2)) + mostMoved cs (c .start)
+abbrev most_moved : List Container → ℕ → ℕ
+most_moved [] limit = 32 * limit
+most_moved (c ∷ cs) limit = (31 - length cs) * (limit - (c.header + 2)) + most_moved cs c.start
 
-most-grows : (cs : List Container) (limit n : ℕ) → limit ≤ n → mostMoved cs limit ≤ mostMoved cs n
-most-grows [] limit n h = omega arith
-most-grows (c ∷ cs) limit n h =
-    let e : limit - (c .header + 2) ≤ n - (c .header + 2) = omega arith in
-    omega (arith, mul-le-mul-left (31 - length cs) e)
+most_grows : (cs : List Container) (limit n : ℕ) → limit ≤ n → most_moved cs limit ≤ most_moved cs n
+most_grows [] limit n h = omega arith
+most_grows (c ∷ cs) limit n h =
+    let e : limit - (c.header + 2) ≤ n - (c.header + 2) = omega arith in
+    omega (arith, mul-le-mul_left (31 - length cs) e)
 
-most-counted : (cs : List Container) (limit : ℕ) → mostMoved (countedFirst cs) limit ≡ mostMoved cs limit
+most-counted : (cs : List Container) (limit : ℕ) → most_moved (counted_first cs) limit ≡ most_moved cs limit
 most-counted [] limit = refl
 most-counted (c ∷ cs) limit = refl
 
 -- n bytes more in the innermost, or outside of all
-most-more : (cs : List Container) (limit n : ℕ) → containersFit limit cs ≡ true → mostMoved cs limit + (32 - length cs) * n ≤ mostMoved cs (limit + n)
-unfolding containersFit
-most-more [] limit n e = omega arith
-most-more (c ∷ cs) limit n e =
-    let h = fit c limit (both e .0) .within in
-    let q : limit + n - (c .header + 2) ≡ limit - (c .header + 2) + n = omega arith in
+most_more : (cs : List Container) (limit n : ℕ) → containers_fit limit cs ≡ true → most_moved cs limit + (32 - length cs) * n ≤ most_moved cs (limit + n)
+unfolding containers_fit
+most_more [] limit n e = omega arith
+most_more (c ∷ cs) limit n e =
+    let h = (fit c limit (both e).0).within in
+    let q : limit + n - (c.header + 2) ≡ limit - (c.header + 2) + n = omega arith in
     let k : 32 - suc (length cs) ≡ 31 - length cs = omega arith in
-    rw (k, q, mul-add (31 - length cs) (limit - (c .header + 2)) n) (omega arith)
+    rw (k, q, mul-add (31 - length cs) (limit - (c.header + 2)) n) (omega arith)
 
 -- a closing: what lay in the body, and what it moves itself
-most-closed : (cs : List Container) (used : ℕ) (bs : List ℕ) → length bs ≡ used → containersFit used cs ≡ true → length cs ≤ 32 → isOpen cs ≡ true →
-    mostMoved cs used + innermostMoved cs bs ≤ mostMoved (outer cs) (innermostStart cs used + length (closedInnermost cs bs))
-unfolding containersFit
+most-closed : (cs : List Container) (used : ℕ) (bs : List ℕ) → length bs ≡ used → containers_fit used cs ≡ true → length cs ≤ 32 → is_open cs ≡ true →
+    most_moved cs used + innermost_moved cs bs ≤ most_moved (outer cs) (innermost_start cs used + length (closed_innermost cs bs))
+unfolding containers_fit
 most-closed [] used bs l e d o = absurd (false≢true o)
 most-closed (c ∷ cs) used bs l e d o =
-    let n = length (closedBytes (c .start) (c .header) (c .code) bs) in
+    let n = length (closed_bytes c.start c.header c.code bs) in
     let k : 32 - length cs ≡ suc (31 - length cs) = omega arith in
-    let b : used - (c .header + 2) ≤ n = omega (arith, body-within (c .start) (c .header) (c .code) bs) in
-    let m = rw (k, suc-mul (31 - length cs) n) at (most-more cs (c .start) n (both {a = containerFits used c} e .1)) in
-    omega (arith, m, mul-le-mul-left (31 - length cs) b, moved-within (c .start) (c .header) (c .code) bs)
+    let b : used - (c.header + 2) ≤ n = omega (arith, body_within c.start c.header c.code bs) in
+    let m = rw (k, suc-mul (31 - length cs) n) at (most_more cs c.start n (both {a = container_fits used c} e).1) in
+    omega (arith, m, mul-le-mul_left (31 - length cs) b, moved_within c.start c.header c.code bs)
 
 -- it moves no more bytes than the buffer has
-innermost-within : (cs : List Container) (bs : List ℕ) → innermostMoved cs bs ≤ length (closedInnermost cs bs)
-innermost-within [] bs = omega arith
-innermost-within (c ∷ cs) bs = moved-within (c .start) (c .header) (c .code) bs
+innermost_within : (cs : List Container) (bs : List ℕ) → innermost_moved cs bs ≤ length (closed_innermost cs bs)
+innermost_within [] bs = omega arith
+innermost_within (c ∷ cs) bs = moved_within c.start c.header c.code bs
 
-pub moved-room : (w : Config) → NoneHolds (checks closing w) → ruleOf closing w .figures .moved ≤ length (w .buffer)
-moved-room w h =
-    let os = openContainers (w .state) in
-    omega (arith, innermost-within os (live w), passed w (not (isOpen os) || w .state .waiting) [] (effect closing w .state .used) h .room)
+pub moved_room : (w : Config) → NoneHolds (checks closing w) → (rule_of closing w).figures.moved ≤ length w.buffer
+moved_room w h =
+    let os = open_containers w.state in
+    omega (arith, innermost_within os (live w), (passed w (not (is_open os) || w.state.waiting) [] (effect closing w).state.used h).room)
 
 -- ---- one call, accepted or refused
 
-abbrev mostOf : Config → ℕ
-mostOf w = mostMoved (openContainers (w .state)) (w .state .used)
+abbrev most_of : Config → ℕ
+most_of w = most_moved (open_containers w.state) w.state.used
 
-length-first : (l : List Container) (n : ℕ) → length (innermostFirst l n) ≡ n
+length-first : (l : List Container) (n : ℕ) → length (innermost_first l n) ≡ n
 length-first l zero = refl
 length-first l (suc n) = ap suc (length-first l n)
 
-none-of : (cs : List Container) (limit : ℕ) → isOpen cs ≡ false → mostMoved cs limit ≡ 32 * limit
-none-of [] limit e = refl
-none-of (c ∷ cs) limit e = absurd (true≢false e)
+none_of : (cs : List Container) (limit : ℕ) → is_open cs ≡ false → most_moved cs limit ≡ 32 * limit
+none_of [] limit e = refl
+none_of (c ∷ cs) limit e = absurd (true≢false e)
 
 module _ (done : List ℕ) (w : Config) (x : Model Argument) (inv : Invariant done w x) where
   abbrev os : List Container
-  os = openContainers (w .state)
+  os = open_containers w.state
 
-  accepted-moves : (c : Call) → NoneHolds (checks c w) → isAbandonment c ≡ false
-      → mostOf w + ruleOf c w .figures .moved ≤ mostOf (effect c w) + 32 * length (ruleOf c w .flushes)
-  accepted-moves (write an a) h n =
+  accepted_moves : (c : Call) → NoneHolds (checks c w) → is_abandonment c ≡ false
+      → most_of w + (rule_of c w).figures.moved ≤ most_of (effect c w) + 32 * length (rule_of c w).flushes
+  accepted_moves (write an a) h n =
       rw (
-        counted-containers (w .state .containers) (w .state .depth) (omega (arith, inv .depth, inv .records)),
-        most-counted os (effect (write an a) w .state .used),
+        counted_containers w.state.containers w.state.depth (omega (arith, inv.depth, inv.records)),
+        most-counted os (effect (write an a) w).state.used,
       )
-      (omega (arith, most-grows os (w .state .used) (effect (write an a) w .state .used) (omega arith)))
-  accepted-moves (name k) h n = omega (arith, most-grows os (w .state .used) (effect (name k) w .state .used) (omega arith))
-  accepted-moves (opening an k) h n =
-      let p = passed w (lacksName (w .state)) ((leb mostOpen (w .state .depth), 4) ∷ []) (effect (opening an k) w .state .used) h in
-      rw (opened-containers (w .state .containers) (w .state .depth) (containerAt (w .state .used) an k 0)
-      (omega (arith, leb-false mostOpen (w .state .depth) (p .own .0), inv .records)))
+      (omega (arith, most_grows os w.state.used (effect (write an a) w).state.used (omega arith)))
+  accepted_moves (name k) h n = omega (arith, most_grows os w.state.used (effect (name k) w).state.used (omega arith))
+  accepted_moves (opening an k) h n =
+      let p = passed w (lacks_name w.state) ((leb most_open w.state.depth, 4) ∷ []) (effect (opening an k) w).state.used h in
+      rw (opened_containers w.state.containers w.state.depth (container_at w.state.used an k 0)
+      (omega (arith, leb-false most_open w.state.depth p.own.0, inv.records)))
       (omega arith)
-  accepted-moves closing h n =
-      let p = passed w (not (isOpen os) || w .state .waiting) [] (effect closing w .state .used) h in
-      let o = or-false (isOpen os) (w .state .waiting) (p .place) .0 in
+  accepted_moves closing h n =
+      let p = passed w (not (is_open os) || w.state.waiting) [] (effect closing w).state.used h in
+      let o = (or_false (is_open os) w.state.waiting p.place).0 in
       rw (
-        counted-containers (w .state .containers) (w .state .depth - 1) (omega (arith, inv .depth, inv .records)),
-        closed-containers (w .state .containers) (w .state .depth),
-        most-counted (outer os) (effect closing w .state .used),
+        counted_containers w.state.containers (w.state.depth - 1) (omega (arith, inv.depth, inv.records)),
+        closed_containers w.state.containers w.state.depth,
+        most-counted (outer os) (effect closing w).state.used,
       )
       (omega (
         arith,
-        most-closed os (w .state .used) (live w) (length-live done w x inv) (invariant-chain done w x inv)
-            (omega (arith, length-first (w .state .containers) (w .state .depth), inv .depth)) o,
+        most-closed os w.state.used (live w) (length-live done w x inv) (invariant_chain done w x inv)
+            (omega (arith, length-first w.state.containers w.state.depth, inv.depth)) o,
       ))
-  accepted-moves abandonment h n = absurd (true≢false n)
-  accepted-moves versionMarker h n = omega (arith, most-grows os (w .state .used) (effect versionMarker w .state .used) (omega arith))
-  accepted-moves taking h n = omega arith
-  accepted-moves emptying h n =
-      let p = passed w (isOpen os) [] (effect emptying w .state .used) h in
-      rw (taken-live done w x inv (p .place)) (omega (arith, none-of os (w .state .used) (p .place), length-live done w x inv))
+  accepted_moves abandonment h n = absurd (true≢false n)
+  accepted_moves version_marker h n = omega (arith, most_grows os w.state.used (effect version_marker w).state.used (omega arith))
+  accepted_moves taking h n = omega arith
+  accepted_moves emptying h n =
+      let p = passed w (is_open os) [] (effect emptying w).state.used h in
+      rw (taken_live done w x inv p.place) (omega (arith, none_of os w.state.used p.place, length-live done w x inv))
 
-  call-moves : (c : Call) → (isAbandonment c && isAccepted (verdict c w)) ≡ false
-      → mostOf w + run c w .figures .moved ≤ mostOf (after c w) + 32 * length (flushed c w)
+  call_moves : (c : Call) → (is_abandonment c && is_accepted (verdict c w)) ≡ false
+      → most_of w + (run c w).figures.moved ≤ most_of (after c w) + 32 * length (flushed c w)
   unfolding run
-  call-moves c n = by-verdict (verdict c w) refl
+  call_moves c n = by_verdict (verdict c w) refl
     where
-      by-verdict : (v : Verdict) → verdict c w ≡ v
-          → mostOf w + figuresIf v (ruleOf c w .figures) .moved
-          ≤ mostOf (ifAccepted v (effect c w) w) + 32 * length (partOf (isAccepted v) (ruleOf c w .flushes))
-      by-verdict accepted e = accepted-moves c (none-failing (checks c w) (unfold verdict in e)) (sym (and-true (isAbandonment c)) ∙ rw e at n)
-      by-verdict (refused k) e = omega arith
+      by_verdict : (v : Verdict) → verdict c w ≡ v
+          → most_of w + (figures_if v (rule_of c w).figures).moved
+          ≤ most_of (if_accepted v (effect c w) w) + 32 * length (part_of (is_accepted v) (rule_of c w).flushes)
+      by_verdict accepted e = accepted_moves c (none_failing (checks c w) (unfold verdict in e)) (sym (and-true (is_abandonment c)) ∙ rw e at n)
+      by_verdict (refused k) e = omega arith
 
 -- ---- a list of calls
 
-list-moves : (cs : List Call) (done : List ℕ) (w : Config) (x : Model Argument) → Invariant done w x
-    → modelAfter (λ a. a) cs w x .stack ≡ [] → nothingAbandoned cs w ≡ true
-    → mostOf w + movedSum cs w ≤ 32 * length (joined cs w)
-unfolding joined modelAfter movedSum nothingAbandoned
-list-moves [] done w x inv e n =
-    let o = none-left done w x inv e in
-    rw (taken-live done w x inv o) (omega (arith, none-of (openContainers (w .state)) (w .state .used) o, length-live done w x inv))
-list-moves (c ∷ cs) done w x inv e n =
-    let k = both {a = not (isAbandonment c && isAccepted (verdict c w))} n in
+list_moves : (cs : List Call) (done : List ℕ) (w : Config) (x : Model Argument) → Invariant done w x
+    → (model_after (λ a. a) cs w x).stack ≡ [] → nothing_abandoned cs w ≡ true
+    → most_of w + moved_sum cs w ≤ 32 * length (joined cs w)
+unfolding joined model_after moved_sum nothing_abandoned
+list_moves [] done w x inv e n =
+    let o = none_left done w x inv e in
+    rw (taken_live done w x inv o) (omega (arith, none_of (open_containers w.state) w.state.used o, length-live done w x inv))
+list_moves (c ∷ cs) done w x inv e n =
+    let k = both {a = not (is_abandonment c && is_accepted (verdict c w))} n in
     omega (
       arith,
-      call-moves done w x inv c (not-true _ (k .0)),
-      list-moves cs (done ++ flushed c w) (after c w) (stepArguments c w x) (call-keeps done w x c inv) e (k .1),
+      call_moves done w x inv c (not-true _ k.0),
+      list_moves cs (done ++ flushed c w) (after c w) (step_arguments c w x) (call_keeps done w x c inv) e k.1,
       length-append (flushed c w) (joined cs (after c w)),
     )
 
-pub moved-at-most : MovedAtMost
-moved-at-most cs b r n =
-    omega (arith, list-moves cs [] (started b) startedModel (start-keeps b (r .starts)) (stack-is cs b (r .ends)) n)
+pub moved_at_most : MovedAtMost
+moved_at_most cs b r n =
+    omega (arith, list_moves cs [] (started b) started_model (start_keeps b r.starts) (stack_is cs b r.ends) n)

@@ -1,18 +1,15 @@
 -- The answers of the code, as document 01's table "Checks by place" numbers them.
 -- Assumes nothing.
-use Prim.Native.Nat.{ℕ}
-use mathlib.Core.Path.{_≡_}
-use mathlib.Core.Bool.{Bool}
-use mathlib.Core.List.{List, [], _∷_}
-use Rattle·machine·specs.specs.declared.Refusal.{Refusal}
-use Rattle·machine·specs.specs.declared.Refusal.the-variants.{BufferTooLong, StateUnfit, Misplaced, TooDeep, NegativeZero}
-use Rattle·machine·specs.specs.declared.Refusal.the-variants.{NotUtf8, BadTimestamp, DecimalTooLong, NoRoom}
-use Rattle·machine·specs.specs.declared.Answer.{Answer}
-use Rattle·machine·specs.specs.declared.Answer.the-variants.{Accepted, Refused}
-use Rattle·machine·specs.specs.declared.Written.{Written}
-use Rattle·machine·specs.specs.declared.Closed.{Closed}
-use Rattle·machine·specs.specs.Call.{Call}
-use Rattle·machine·specs.specs.Machine.{checks, Verdict, accepted, refused, verdict, startLines, Outcome, Config, config, noFigures}
+use Rattle.std.specs.Prelude.{ℕ, ◌≡◌, Bool, List, [], ◌∷◌}
+use Rattle.machine.specs.declared.Refusal.{Refusal}
+use Rattle.machine.specs.declared.Refusal.TheVariants.{BufferTooLong, StateUnfit, Misplaced, TooDeep, NegativeZero}
+use Rattle.machine.specs.declared.Refusal.TheVariants.{NotUtf8, BadTimestamp, DecimalTooLong, NoRoom}
+use Rattle.machine.specs.declared.Answer.{Answer}
+use Rattle.machine.specs.declared.Answer.TheVariants.{Accepted, Refused}
+use Rattle.machine.specs.declared.Written.{Written}
+use Rattle.machine.specs.declared.Closed.{Closed}
+use Rattle.machine.specs.Call.{Call}
+use Rattle.machine.specs.Machine.{checks, Verdict, accepted, refused, verdict, start_lines, Outcome, Config, config, no_figures}
 
 abbrev pub number : Refusal → ℕ
 number BufferTooLong = 1
@@ -25,20 +22,20 @@ number BadTimestamp = 7
 number DecimalTooLong = 8
 number NoRoom = 10
 
-abbrev pub verdictOf : Answer → Verdict
-verdictOf Accepted = accepted
-verdictOf (Refused r) = refused (number r)
+abbrev pub verdict_of : Answer → Verdict
+verdict_of Accepted = accepted
+verdict_of (Refused r) = refused (number r)
 
 -- What the code returns, with the buffer that it leaves, as the machine's outcome. Only a closing answers figures.
-abbrev pub outcomeOf : Written → List ℕ → Outcome
-outcomeOf r b = record { verdict = verdictOf (r .answer); config = config (r .state) b; figures = noFigures }
+abbrev pub outcome_of : Written → List ℕ → Outcome
+outcome_of r b = record { verdict = verdict_of r.answer; config = config r.state b; figures = no_figures }
 
-abbrev pub closedOutcome : Closed → List ℕ → Outcome
-closedOutcome r b =
+abbrev pub closed_outcome : Closed → List ℕ → Outcome
+closed_outcome r b =
     record {
-      verdict = verdictOf (r .answer);
-      config = config (r .state) b;
-      figures = record { size = r .size; members = r .members; moved = r .moved };
+      verdict = verdict_of r.answer;
+      config = config r.state b;
+      figures = record { size = r.size; members = r.members; moved = r.moved };
     }
 
 -- ---- the numbers of the table are those of the code's refusals: proofs/Table.antt
@@ -46,11 +43,11 @@ closedOutcome r b =
 -- each line has the number of a refusal
 abbrev pub AllNumbered : List (Bool × ℕ) → Type 0
 AllNumbered [] = Unit {0}
-AllNumbered (x ∷ xs) = ((why : Refusal) × (number why ≡ x .1)) × AllNumbered xs
+AllNumbered (x ∷ xs) = ((why : Refusal) × (number why ≡ x.1)) × AllNumbered xs
 
 -- Every line of every call, and of a start, has the number of a refusal, whether it can fail or not.
 abbrev pub EachNumbered : Type 0
-EachNumbered = ((c : Call) (w : Config) → AllNumbered (checks c w)) × ((b : List ℕ) → AllNumbered (startLines b))
+EachNumbered = ((c : Call) (w : Config) → AllNumbered (checks c w)) × ((b : List ℕ) → AllNumbered (start_lines b))
 
 -- Each refusal is met by a call (document 02, Item 9: none is on the card that nobody can meet).
 abbrev pub EachMet : Type 0

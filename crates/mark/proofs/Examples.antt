@@ -1,13 +1,13 @@
 -- The out-of-calendar mark of timestamps at the ends of the calendar: document 02, Item 2. Computation. Assumes nothing.
-use Prim.Native.Nat.{ℕ, _^_, _-_}
-use mathlib.Core.Path.{_≡_, refl}
+use Prim.Native.Nat.{ℕ, ◌^◌, ◌-◌}
+use mathlib.Core.Path.{◌≡◌, refl}
 use mathlib.Core.Bool.{Bool, true, false}
-use mathlib.Core.List.{List, [], _∷_, map}
+use mathlib.Core.List.{List, [], ◌∷◌, map}
 use mathlib.Core.Option.{Option, none, some}
 use lib.IntN.{ℤ, pos, negsuc}
-use Rattle·ion.specs.Value.{noFraction, timestamp}
-use Rattle·ion.specs.Calendar.{daysBeforeMonth, daysBeforeYear, dayNumber, minuteNumber}
-use Rattle·mark·specs.specs.OutOfCalendar.{isCalendarMinute, outOfCalendar, isMarked}
+use Rattle.ion.specs.Value.{no_fraction, timestamp}
+use Rattle.ion.specs.Calendar.{days_before_month, days_before_year, day_number, minute_number}
+use Rattle.mark.specs.OutOfCalendar.{is_calendar_minute, out_of_calendar, is_marked}
 
 -- offset, UTC fields, and whether they are marked
 abbrev marks : List (Option ℤ × List ℕ × Bool)
@@ -42,7 +42,7 @@ marks =
     ∷ (some (negsuc (2 ^ 63 - 1)), 2000 ∷ 1 ∷ 1 ∷ 0 ∷ 0 ∷ [], true)
     ∷ []
 
-pub marks-answered : map (λ (c : Option ℤ × List ℕ × Bool). isMarked (timestamp (c .0) (c .1) noFraction)) marks
-    ≡ map (λ (c : Option ℤ × List ℕ × Bool). c .2) marks
-unfolding outOfCalendar isCalendarMinute minuteNumber dayNumber daysBeforeYear daysBeforeMonth
+pub marks-answered : map (λ (c : Option ℤ × List ℕ × Bool). is_marked (timestamp c.0 c.1 no_fraction)) marks
+    ≡ map (λ (c : Option ℤ × List ℕ × Bool). c.2) marks
+unfolding out_of_calendar is_calendar_minute minute_number day_number days_before_year days_before_month
 marks-answered = refl

@@ -1,24 +1,15 @@
 // The checks 1 to 3 of the table "Checks by place", by the state and the length of the buffer that is lent with it.
 // They hold for any state that anyone can hand in.
-ghost use mathlib.Core.Path.{_≡_};
-ghost use mathlib.Core.Bool.{Bool, true, not, _||_};
-ghost use Prim.Native.Nat.{_≤_};
-ghost use Rattle·machine.specs.declared.State.{State};
-ghost use Rattle·machine.specs.Machine.{mostOpen, openContainers, isOpen, inStruct, containerFits, fits, lacksName, placeVerdict};
-ghost use Rattle·machine.specs.Numbers.{verdictOf};
-use machine::Answer;
-use machine::Container;
-use machine::LIST;
-use machine::LONGEST_BUFFER;
-use machine::MOST_OPEN;
-use machine::Refusal;
-use machine::SEXP;
-use machine::STRUCT;
-use machine::State;
+ghost use Rattle.std.specs.Prelude.{◌≡◌, Bool, true, not, ◌||◌, ◌≤◌};
+ghost use Rattle.machine.specs.declared.State.{State};
+ghost use Rattle.machine.specs.Machine.{most_open, open_containers, is_open, in_struct, container_fits, fits, lacks_name, place_verdict};
+ghost use Rattle.machine.specs.Numbers.{verdict_of};
+
+use machine::{Answer, Container, LIST, LONGEST_BUFFER, MOST_OPEN, Refusal, SEXP, STRUCT, State};
 
 // A container by itself, with what follows it starting at `limit`. Differences are tested, so that no sum wraps.
 pub fn container_fits(c: Container, limit: usize) -> bool
-    ensures { λ r. ⌜ r ≡ containerFits limit c ⌝ }
+    ensures { result ≡ container_fits limit c }
 {
     let code = c.code;
     let start = c.start;
@@ -41,7 +32,7 @@ pub fn container_fits(c: Container, limit: usize) -> bool
 
 // Whether the innermost container is a struct; of a state with too many containers it says nothing.
 fn in_struct(s: State) -> bool
-    ensures { λ r. ⌜ (s .depth ≤ mostOpen → r ≡ inStruct (openContainers s)) ⌝ }
+    ensures { s.depth ≤ most_open → result ≡ in_struct (open_containers s) }
 {
     let depth = s.depth;
     if depth == 0 {
@@ -56,7 +47,7 @@ fn in_struct(s: State) -> bool
 
 // From the innermost container outwards: each has to end before the next begins.
 pub fn state_fits(s: State, room: usize) -> bool
-    ensures { λ r. ⌜ r ≡ fits s room ⌝ }
+    ensures { result ≡ fits s room }
 {
     let used = s.used;
     let depth = s.depth;
@@ -84,7 +75,7 @@ pub fn state_fits(s: State, room: usize) -> bool
 
 // The first of the lines 1 to 3 that fails, of a state that `fit` speaks of; line 3 counts only where it fits.
 pub fn judged(room: usize, fit: bool, misplaced: bool) -> Answer
-    ensures { λ r. ⌜ ((s : State) (m : Bool) → fit ≡ fits s room → (fit ≡ true → misplaced ≡ m) → verdictOf r ≡ placeVerdict s room m) ⌝ }
+    ensures { (s : State) (m : Bool) → fit ≡ fits s room → (fit ≡ true → misplaced ≡ m) → verdict_of result ≡ place_verdict s room m }
 {
     if LONGEST_BUFFER < room {
         return Answer::Refused(Refusal::BufferTooLong);
@@ -100,7 +91,7 @@ pub fn judged(room: usize, fit: bool, misplaced: bool) -> Answer
 
 // Where a scalar or an opening may stand: in a struct only behind a name.
 pub fn value_place(s: State, room: usize) -> Answer
-    ensures { λ r. ⌜ verdictOf r ≡ placeVerdict s room (lacksName s) ⌝ }
+    ensures { verdict_of result ≡ place_verdict s room (lacks_name s) }
 {
     let misplaced = in_struct(s) & !s.waiting;
     judged(room, state_fits(s, room), misplaced)
@@ -108,7 +99,7 @@ pub fn value_place(s: State, room: usize) -> Answer
 
 // Where a field name may stand: in a struct, with none waiting.
 pub fn name_place(s: State, room: usize) -> Answer
-    ensures { λ r. ⌜ verdictOf r ≡ placeVerdict s room (not (inStruct (openContainers s)) || s .waiting) ⌝ }
+    ensures { verdict_of result ≡ place_verdict s room (not (in_struct (open_containers s)) || s.waiting) }
 {
     let misplaced = !in_struct(s) | s.waiting;
     judged(room, state_fits(s, room), misplaced)
@@ -116,7 +107,7 @@ pub fn name_place(s: State, room: usize) -> Answer
 
 // Where a closing may stand: in a container, with no name waiting.
 pub fn close_place(s: State, room: usize) -> Answer
-    ensures { λ r. ⌜ verdictOf r ≡ placeVerdict s room (not (isOpen (openContainers s)) || s .waiting) ⌝ }
+    ensures { verdict_of result ≡ place_verdict s room (not (is_open (open_containers s)) || s.waiting) }
 {
     let misplaced = (s.depth == 0) | s.waiting;
     judged(room, state_fits(s, room), misplaced)
@@ -124,7 +115,7 @@ pub fn close_place(s: State, room: usize) -> Answer
 
 // Where an abandonment may stand: in a container.
 pub fn abandon_place(s: State, room: usize) -> Answer
-    ensures { λ r. ⌜ verdictOf r ≡ placeVerdict s room (not (isOpen (openContainers s))) ⌝ }
+    ensures { verdict_of result ≡ place_verdict s room (not (is_open (open_containers s))) }
 {
     let misplaced = s.depth == 0;
     judged(room, state_fits(s, room), misplaced)
@@ -132,7 +123,7 @@ pub fn abandon_place(s: State, room: usize) -> Answer
 
 // Where a version marker or an emptying may stand: outside all containers.
 pub fn top_place(s: State, room: usize) -> Answer
-    ensures { λ r. ⌜ verdictOf r ≡ placeVerdict s room (isOpen (openContainers s)) ⌝ }
+    ensures { verdict_of result ≡ place_verdict s room (is_open (open_containers s)) }
 {
     let misplaced = s.depth != 0;
     judged(room, state_fits(s, room), misplaced)

@@ -1,25 +1,21 @@
 -- What a host is answered: 0 and numbers at the front of a lent slice, or the refusal's number, and the slice as it was.
 -- Assumes nothing.
-use Prim.Native.Nat.{ℕ, _+_}
-use mathlib.Core.Bool.{Bool, true, false, cond}
-use mathlib.Core.List.{List, [], _∷_}
-use lib.Dec.{ltb}
-use lib.ListN.{length, set}
-use Rattle·reading.specs.Refusals.{number}
-use Rattle·reading.specs.declared.Refusal.{Refusal}
-use Rattle·reading.specs.declared.Number.{Number}
-use Rattle·reading.specs.declared.Number.the-variants as N
-use Rattle·reading.specs.declared.Item.{Item}
-use Rattle·reading.specs.declared.Item.the-variants as I
-use Rattle·reading.specs.declared.Reading.{Reading}
-use Rattle·reading.specs.declared.Reading.the-variants as R
-use Rattle·reading.specs.declared.Decimal.{Decimal}
-use Rattle·reading.specs.declared.Decimal.the-variants as D
-use Rattle·reading.specs.declared.Timestamp.{Timestamp}
-use Rattle·reading.specs.declared.Timestamp.the-variants as T
-use Rattle·reading.specs.declared.Shown.{Shown}
-use Rattle·reading.specs.declared.Symbol.{Symbol}
-use Rattle·reading.specs.declared.Symbol.the-variants as S
+use Rattle.std.specs.Prelude.{ℕ, ◌+◌, Bool, true, false, cond, List, [], ◌∷◌, ltb, length, set}
+use Rattle.reading.specs.Refusals.{number}
+use Rattle.reading.specs.declared.Refusal.{Refusal}
+use Rattle.reading.specs.declared.Number.{Number}
+use Rattle.reading.specs.declared.Number.TheVariants as N
+use Rattle.reading.specs.declared.Item.{Item}
+use Rattle.reading.specs.declared.Item.TheVariants as I
+use Rattle.reading.specs.declared.Reading.{Reading}
+use Rattle.reading.specs.declared.Reading.TheVariants as R
+use Rattle.reading.specs.declared.Decimal.{Decimal}
+use Rattle.reading.specs.declared.Decimal.TheVariants as D
+use Rattle.reading.specs.declared.Timestamp.{Timestamp}
+use Rattle.reading.specs.declared.Timestamp.TheVariants as T
+use Rattle.reading.specs.declared.Shown.{Shown}
+use Rattle.reading.specs.declared.Symbol.{Symbol}
+use Rattle.reading.specs.declared.Symbol.TheVariants as S
 
 abbrev pub stored : ℕ → ℕ → List ℕ → List ℕ
 stored i n lent = cond (ltb i (length lent)) (set lent i n) lent
@@ -43,13 +39,13 @@ bit false = 0
 bit true = 1
 
 -- a type byte that begins nothing: there is no item more
-abbrev pub noMore : ℕ
-noMore = 0xFF
+abbrev pub no_more : ℕ
+no_more = 0xFF
 
 -- name, sids' start and stop, type byte, body's start and stop
 abbrev pub itemAnswer : ℕ → Item → List ℕ → Answered
 itemAnswer at (I.No r) lent = refuses r lent
-itemAnswer at I.End lent = accepts (0 ∷ at ∷ at ∷ noMore ∷ at ∷ at ∷ []) lent
+itemAnswer at I.End lent = accepts (0 ∷ at ∷ at ∷ no_more ∷ at ∷ at ∷ []) lent
 itemAnswer at (I.Is name from to b start stop) lent = accepts (name ∷ from ∷ to ∷ b ∷ start ∷ stop ∷ []) lent
 
 -- A refusal has its place here: where the item begins that does not read.
@@ -74,7 +70,7 @@ stampAnswer (T.Is known negative offset count year month day hour minute second 
 
 -- whether the offset is known, its sign and minutes; the count of fields, and six fields; the fraction's digits, and its coefficient's place; the mark
 abbrev pub timestampAnswer : Shown → List ℕ → Answered
-timestampAnswer x lent = stampAnswer (x .timestamp) (x .marked) lent
+timestampAnswer x lent = stampAnswer x.timestamp x.marked lent
 
 abbrev pub symbolAnswer : Symbol → List ℕ → Answered
 symbolAnswer (S.No r) lent = refuses r lent

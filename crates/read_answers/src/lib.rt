@@ -1,25 +1,17 @@
 // The reader's answers as numbers in a lent slice: 0 where it reads, and else the refusal's number.
-ghost use mathlib.Core.Path.{_≡_};
-ghost use mathlib.Core.List.{List, [], _∷_};
-ghost use Prim.Native.Nat.{ℕ};
-ghost use Rattle·reading.specs.Refusals.{number};
-ghost use Rattle·read_answers·specs.specs.Answers.{Answered, stored, laid, accepts, bit, itemAnswer, readingAnswer, numberAnswer, decimalAnswer};
-ghost use Rattle·read_answers·specs.specs.Answers.{timestampAnswer, symbolAnswer};
-use reading::Decimal;
-use reading::Item;
-use reading::Number;
-use reading::Reading;
-use reading::Refusal;
-use reading::Shown;
-use reading::Symbol;
-use reading::Timestamp;
+ghost use Rattle.std.specs.Prelude.{◌≡◌, List, [], ◌∷◌, ℕ};
+ghost use Rattle.reading.specs.Refusals.{number};
+ghost use Rattle.read_answers.specs.Answers.{Answered, stored, laid, accepts, bit, itemAnswer, readingAnswer, numberAnswer, decimalAnswer};
+ghost use Rattle.read_answers.specs.Answers.{timestampAnswer, symbolAnswer};
+
+use reading::{Decimal, Item, Number, Reading, Refusal, Shown, Symbol, Timestamp};
 
 // A type byte that begins nothing: there is no item more.
 const NO_MORE: u64 = 0xFF;
 
 // Document 02, Item 1.
 fn number_of(refusal: Refusal) -> u8
-    ensures { λ r. ⌜ r ≡ number refusal ⌝ }
+    ensures { result ≡ number refusal }
 {
     match refusal {
         Refusal::PastTheEnd => 2,
@@ -30,7 +22,7 @@ fn number_of(refusal: Refusal) -> u8
 }
 
 fn bit_of(b: bool) -> u64
-    ensures { λ r. ⌜ r ≡ bit b ⌝ }
+    ensures { result ≡ bit b }
 {
     if b {
         return 1;
@@ -39,7 +31,7 @@ fn bit_of(b: bool) -> u64
 }
 
 fn store(lent: &mut [u64], i: usize, n: u64)
-    ensures { λ _. ⌜ now (lent .exit) ≡ stored i n (now (lent .entry)) ⌝ }
+    ensures { lent.new ≡ stored i n lent.old }
 {
     if i < lent.len() {
         lent[i] = n;
@@ -47,14 +39,14 @@ fn store(lent: &mut [u64], i: usize, n: u64)
 }
 
 fn accept_one(lent: &mut [u64], a: u64) -> u8
-    ensures { λ r. ⌜ _≡_ {A = Answered} (r, now (lent .exit)) (accepts (a ∷ []) (now (lent .entry))) ⌝ }
+    ensures { ◌≡◌ {A = Answered} (result, lent.new) (accepts (a ∷ []) lent.old) }
 {
     store(lent, 0, a);
     0
 }
 
 fn accept_two(lent: &mut [u64], a: u64, b: u64) -> u8
-    ensures { λ r. ⌜ _≡_ {A = Answered} (r, now (lent .exit)) (accepts (a ∷ b ∷ []) (now (lent .entry))) ⌝ }
+    ensures { ◌≡◌ {A = Answered} (result, lent.new) (accepts (a ∷ b ∷ []) lent.old) }
 {
     store(lent, 0, a);
     store(lent, 1, b);
@@ -62,7 +54,7 @@ fn accept_two(lent: &mut [u64], a: u64, b: u64) -> u8
 }
 
 fn accept_three(lent: &mut [u64], a: u64, b: u64, c: u64) -> u8
-    ensures { λ r. ⌜ _≡_ {A = Answered} (r, now (lent .exit)) (accepts (a ∷ b ∷ c ∷ []) (now (lent .entry))) ⌝ }
+    ensures { ◌≡◌ {A = Answered} (result, lent.new) (accepts (a ∷ b ∷ c ∷ []) lent.old) }
 {
     store(lent, 0, a);
     store(lent, 1, b);
@@ -71,7 +63,7 @@ fn accept_three(lent: &mut [u64], a: u64, b: u64, c: u64) -> u8
 }
 
 fn store_six(lent: &mut [u64], a: u64, b: u64, c: u64, d: u64, e: u64, f: u64)
-    ensures { λ _. ⌜ now (lent .exit) ≡ laid 0 (a ∷ b ∷ c ∷ d ∷ e ∷ f ∷ []) (now (lent .entry)) ⌝ }
+    ensures { lent.new ≡ laid 0 (a ∷ b ∷ c ∷ d ∷ e ∷ f ∷ []) lent.old }
 {
     store(lent, 0, a);
     store(lent, 1, b);
@@ -82,7 +74,7 @@ fn store_six(lent: &mut [u64], a: u64, b: u64, c: u64, d: u64, e: u64, f: u64)
 }
 
 fn store_next_six(lent: &mut [u64], a: u64, b: u64, c: u64, d: u64, e: u64, f: u64)
-    ensures { λ _. ⌜ now (lent .exit) ≡ laid 6 (a ∷ b ∷ c ∷ d ∷ e ∷ f ∷ []) (now (lent .entry)) ⌝ }
+    ensures { lent.new ≡ laid 6 (a ∷ b ∷ c ∷ d ∷ e ∷ f ∷ []) lent.old }
 {
     store(lent, 6, a);
     store(lent, 7, b);
@@ -93,7 +85,7 @@ fn store_next_six(lent: &mut [u64], a: u64, b: u64, c: u64, d: u64, e: u64, f: u
 }
 
 fn accept_six(lent: &mut [u64], a: u64, b: u64, c: u64, d: u64, e: u64, f: u64) -> u8
-    ensures { λ r. ⌜ _≡_ {A = Answered} (r, now (lent .exit)) (accepts (a ∷ b ∷ c ∷ d ∷ e ∷ f ∷ []) (now (lent .entry))) ⌝ }
+    ensures { ◌≡◌ {A = Answered} (result, lent.new) (accepts (a ∷ b ∷ c ∷ d ∷ e ∷ f ∷ []) lent.old) }
 {
     store_six(lent, a, b, c, d, e, f);
     0
@@ -115,7 +107,7 @@ fn accept_thirteen(
     l: u64,
     m: u64,
 ) -> u8
-    ensures { λ r. ⌜ _≡_ {A = Answered} (r, now (lent .exit)) (accepts (a ∷ b ∷ c ∷ d ∷ e ∷ f ∷ g ∷ h ∷ i ∷ j ∷ k ∷ l ∷ m ∷ []) (now (lent .entry))) ⌝ }
+    ensures { ◌≡◌ {A = Answered} (result, lent.new) (accepts (a ∷ b ∷ c ∷ d ∷ e ∷ f ∷ g ∷ h ∷ i ∷ j ∷ k ∷ l ∷ m ∷ []) lent.old) }
 {
     store_six(lent, a, b, c, d, e, f);
     store_next_six(lent, g, h, i, j, k, l);
@@ -124,14 +116,14 @@ fn accept_thirteen(
 }
 
 fn refuse_at(lent: &mut [u64], refusal: Refusal, place: usize) -> u8
-    ensures { λ r. ⌜ _≡_ {A = Answered} (r, now (lent .exit)) (number refusal, laid 0 (place ∷ []) (now (lent .entry))) ⌝ }
+    ensures { ◌≡◌ {A = Answered} (result, lent.new) (number refusal, laid 0 (place ∷ []) lent.old) }
 {
     store(lent, 0, place as u64);
     number_of(refusal)
 }
 
 pub fn answer_item(item: Item, at: usize, lent: &mut [u64]) -> u8
-    ensures { λ r. ⌜ _≡_ {A = Answered} (r, now (lent .exit)) (itemAnswer at item (now (lent .entry))) ⌝ }
+    ensures { ◌≡◌ {A = Answered} (result, lent.new) (itemAnswer at item lent.old) }
 {
     match item {
         Item::No(refusal) => number_of(refusal),
@@ -158,7 +150,7 @@ pub fn answer_item(item: Item, at: usize, lent: &mut [u64]) -> u8
 }
 
 pub fn answer_reading(reading: Reading, lent: &mut [u64]) -> u8
-    ensures { λ r. ⌜ _≡_ {A = Answered} (r, now (lent .exit)) (readingAnswer reading (now (lent .entry))) ⌝ }
+    ensures { ◌≡◌ {A = Answered} (result, lent.new) (readingAnswer reading lent.old) }
 {
     match reading {
         Reading::Whole => 0,
@@ -167,7 +159,7 @@ pub fn answer_reading(reading: Reading, lent: &mut [u64]) -> u8
 }
 
 pub fn answer_number(n: Number, lent: &mut [u64]) -> u8
-    ensures { λ r. ⌜ _≡_ {A = Answered} (r, now (lent .exit)) (numberAnswer n (now (lent .entry))) ⌝ }
+    ensures { ◌≡◌ {A = Answered} (result, lent.new) (numberAnswer n lent.old) }
 {
     match n {
         Number::No(refusal) => number_of(refusal),
@@ -176,7 +168,7 @@ pub fn answer_number(n: Number, lent: &mut [u64]) -> u8
 }
 
 pub fn answer_decimal(decimal: Decimal, lent: &mut [u64]) -> u8
-    ensures { λ r. ⌜ _≡_ {A = Answered} (r, now (lent .exit)) (decimalAnswer decimal (now (lent .entry))) ⌝ }
+    ensures { ◌≡◌ {A = Answered} (result, lent.new) (decimalAnswer decimal lent.old) }
 {
     match decimal {
         Decimal::No(refusal) => number_of(refusal),
@@ -189,7 +181,7 @@ pub fn answer_decimal(decimal: Decimal, lent: &mut [u64]) -> u8
 }
 
 pub fn answer_timestamp(shown: Shown, lent: &mut [u64]) -> u8
-    ensures { λ r. ⌜ _≡_ {A = Answered} (r, now (lent .exit)) (timestampAnswer shown (now (lent .entry))) ⌝ }
+    ensures { ◌≡◌ {A = Answered} (result, lent.new) (timestampAnswer shown lent.old) }
 {
     let timestamp = shown.timestamp;
     match timestamp {
@@ -227,7 +219,7 @@ pub fn answer_timestamp(shown: Shown, lent: &mut [u64]) -> u8
 }
 
 pub fn answer_symbol(symbol: Symbol, lent: &mut [u64]) -> u8
-    ensures { λ r. ⌜ _≡_ {A = Answered} (r, now (lent .exit)) (symbolAnswer symbol (now (lent .entry))) ⌝ }
+    ensures { ◌≡◌ {A = Answered} (result, lent.new) (symbolAnswer symbol lent.old) }
 {
     match symbol {
         Symbol::No(refusal) => number_of(refusal),

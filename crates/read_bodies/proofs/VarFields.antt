@@ -1,51 +1,51 @@
 -- The groups of a VarUInt or VarInt at a place of a body, one step at a time.
 -- Assumes nothing.
-use Prim.Native.Nat.{ℕ, suc, _+_, _-_, _*_, _%_, _^_, _≤_, _<_}
+use Prim.Native.Nat.{ℕ, suc, ◌+◌, ◌-◌, ◌*◌, ◌%◌, ◌^◌, ◌≤◌, ◌<◌}
 use native.Mathlib.Omega.{arith}
 use native.Mathlib.Numerals.{add-one}
-use mathlib.Core.Path.{_≡_, refl, sym, _∙_, ap, subst}
-use mathlib.Core.Bool.{Bool, true, false, cond, _&&_, not, false≢true}
-use mathlib.Core.List.{List, [], _∷_}
-use mathlib.Core.Option.{Option, none, some, Option·some-injective, Option·none-ne-some}
+use mathlib.Core.Path.{◌≡◌, refl, sym, ◌∙◌, ap, subst}
+use mathlib.Core.Bool.{Bool, true, false, cond, ◌&&◌, not, false≢true}
+use mathlib.Core.List.{List, [], ◌∷◌}
+use mathlib.Core.Option.{Option, none, some, some-injective, none-ne-some}
 use lib.Dec.{ltb, leb, eqb}
-use lib.ListN.{length, getD, drop, length-drop, drop-of-length-le}
+use lib.ListN.{length, get_or, drop, length-drop, drop_of_length-le}
 use lib.Seq.{drop-cons, drop-drop}
 use borrow.Author.Tests.{lt-ltb, le-ltb, le-leb, lt-leb, ltb-true, ltb-false, leb-true, leb-false, eqb-true, eqb-false}
-use Rattle·ion.specs.Value.{Signed, signed}
-use Rattle·ion.specs.Chain.{check}
-use Rattle·ion.specs.Fields.{groups, inU64, isI64, varUInt, giveSign, isNegative, varInt}
-use Rattle·ion.proofs.Tests.{by-cases, both}
-use Rattle·reading.specs.declared.Number.{Number}
-use Rattle·reading.specs.declared.Refusal.{Refusal}
-use Rattle·reading.specs.declared.Refusal.the-variants.{NotIon}
-use Rattle·reading.specs.declared.Number.the-variants as N
-use Rattle·reading.specs.Headers.{varUIntFrom}
-use Rattle·reading.specs.Bodies as B
-use Rattle·read_bodies·specs.specs.declared.VarInt.the-variants as I
-use Rattle·read_bodies·specs.specs.Places.{numberIn, groupsAt, varUIntAt, signedIn, varIntAt, withSign}
+use Rattle.ion.specs.Value.{Signed, signed}
+use Rattle.ion.specs.Chain.{check}
+use Rattle.ion.specs.Fields.{groups, in_u64, is_i64, var_uint, give_sign, is_negative, var_int}
+use Rattle.ion.proofs.Tests.{by_cases, both}
+use Rattle.reading.specs.declared.Number.{Number}
+use Rattle.reading.specs.declared.Refusal.{Refusal}
+use Rattle.reading.specs.declared.Refusal.TheVariants.{NotIon}
+use Rattle.reading.specs.declared.Number.TheVariants as N
+use Rattle.reading.specs.Headers.{var_uint_from}
+use Rattle.reading.specs.Bodies as B
+use Rattle.read_bodies.specs.declared.VarInt.TheVariants as I
+use Rattle.read_bodies.specs.Places.{number_in, groups_at, var_uint_at, signed_in, var_int_at, with_sign}
 
 -- ---- the number is at least what its groups so far make
 
-pub groups-least : (acc : ℕ) (l : List ℕ) (x : ℕ × List ℕ) → groups acc l ≡ some x → acc * 128 ≤ x .0
+pub groups_least : (acc : ℕ) (l : List ℕ) (x : ℕ × List ℕ) → groups acc l ≡ some x → acc * 128 ≤ x.0
 unfolding groups
-groups-least acc [] x e = absurd (Option·none-ne-some x e)
-groups-least acc (b ∷ bs) x e = go (ltb b 0x80) e (λ q. groups-least (acc * 128 + b) bs x q)
+groups_least acc [] x e = absurd (none-ne-some x e)
+groups_least acc (b ∷ bs) x e = go (ltb b 0x80) e (λ q. groups_least (acc * 128 + b) bs x q)
   where
     go : (t : Bool) → elim t [ true ↦ groups (acc * 128 + b) bs | false ↦ some (acc * 128 + b % 128, bs) ] ≡ some x →
-        (groups (acc * 128 + b) bs ≡ some x → (acc * 128 + b) * 128 ≤ x .0) → acc * 128 ≤ x .0
+        (groups (acc * 128 + b) bs ≡ some x → (acc * 128 + b) * 128 ≤ x.0) → acc * 128 ≤ x.0
     go true e k = omega (arith, k e)
-    go false e k = let q : acc * 128 + b % 128 ≡ x .0 = ap (λ (y : ℕ × List ℕ). y .0) (Option·some-injective (acc * 128 + b % 128, bs) x e) in omega arith
+    go false e k = let q : acc * 128 + b % 128 ≡ x.0 = ap (λ (y : ℕ × List ℕ). y.0) (some-injective (acc * 128 + b % 128, bs) x e) in omega arith
 
-pub groups-past : (acc : ℕ) (l : List ℕ) → 2 ^ 57 ≤ acc → inU64 (groups acc l) ≡ none
+pub groups-past : (acc : ℕ) (l : List ℕ) → 2 ^ 57 ≤ acc → in_u64 (groups acc l) ≡ none
 groups-past acc l h = go (groups acc l) refl
   where
-    go : (o : Option (ℕ × List ℕ)) → groups acc l ≡ o → inU64 o ≡ none
+    go : (o : Option (ℕ × List ℕ)) → groups acc l ≡ o → in_u64 o ≡ none
     go none e = refl
-    go (some x) e = rw (le-ltb (x .0) (2 ^ 64) (omega (arith, groups-least acc l x e))) refl
+    go (some x) e = rw (le-ltb x.0 (2 ^ 64) (omega (arith, groups_least acc l x e))) refl
 
 -- ---- one byte
 
-pub front : (s : List ℕ) (i b : ℕ) → i < length s → b ≡ getD s i 0 → drop i s ≡ b ∷ drop (i + 1) s
+pub front : (s : List ℕ) (i b : ℕ) → i < length s → b ≡ get_or s i 0 → drop i s ≡ b ∷ drop (i + 1) s
 front s i b inside is = rw (add-one, is) (drop-cons s i 0 inside)
 
 -- where the bytes behind a place begin
@@ -54,98 +54,98 @@ behind s i h = rw (length-drop i s) (omega arith)
 
 -- ---- the reader's VarUInt is the grammar's
 
-from-groups : (acc at : ℕ) (l : List ℕ) → varUIntFrom NotIon acc at l ≡ numberIn (at + length l) (inU64 (groups acc l))
-unfolding varUIntFrom groups
+from-groups : (acc at : ℕ) (l : List ℕ) → var_uint_from NotIon acc at l ≡ number_in (at + length l) (in_u64 (groups acc l))
+unfolding var_uint_from groups
 from-groups acc at [] = refl
 from-groups acc at (b ∷ bs) =
-    by-cases (ltb (acc * 128 + b % 128) (2 ^ 64))
-    (λ p. by-cases (ltb b 0x80)
+    by_cases (ltb (acc * 128 + b % 128) (2 ^ 64))
+    (λ p. by_cases (ltb b 0x80)
     (λ q.
     let m : b % 128 ≡ b = let h = ltb-true b 0x80 q in omega arith in
     let n : at + 1 + length bs ≡ at + suc (length bs) = omega arith in
-    rw (p, groups, q, m) (from-groups (acc * 128 + b) (at + 1) bs ∙ ap (λ (size : ℕ). numberIn size (inU64 (groups (acc * 128 + b) bs))) n))
+    rw (p, groups, q, m) (from-groups (acc * 128 + b) (at + 1) bs ∙ ap (λ (size : ℕ). number_in size (in_u64 (groups (acc * 128 + b) bs))) n))
     (λ q.
     let n : at + 1 ≡ at + suc (length bs) - length bs = omega arith in
     rw (p, groups, q, p) (ap (λ (next : ℕ). N.Is (acc * 128 + b % 128) next) n)))
-    (λ p. by-cases (ltb b 0x80)
+    (λ p. by_cases (ltb b 0x80)
     (λ q.
     let m : b % 128 ≡ b = let h = ltb-true b 0x80 q in omega arith in
     rw (p, groups, q, groups-past (acc * 128 + b) bs (omega (arith, ltb-false (acc * 128 + b % 128) (2 ^ 64) p))) refl)
     (λ q. rw (p, groups, q, p) refl))
 
-pub groups-at : (s : List ℕ) (at acc : ℕ) → varUIntFrom NotIon acc at (drop at s) ≡ groupsAt s at acc
-unfolding groupsAt
+pub groups-at : (s : List ℕ) (at acc : ℕ) → var_uint_from NotIon acc at (drop at s) ≡ groups_at s at acc
+unfolding groups_at
 groups-at s at acc =
-    by-cases (leb at (length s))
+    by_cases (leb at (length s))
     (λ p.
     let n : at + length (drop at s) ≡ length s = omega (arith, length-drop at s, leb-true at (length s) p) in
-    from-groups acc at (drop at s) ∙ ap (λ (size : ℕ). numberIn size (inU64 (groups acc (drop at s)))) n)
-    (λ p. rw (drop-of-length-le s {i = at} (omega (arith, leb-false at (length s) p))) (unfold varUIntFrom groups in refl))
+    from-groups acc at (drop at s) ∙ ap (λ (size : ℕ). number_in size (in_u64 (groups acc (drop at s)))) n)
+    (λ p. rw (drop_of_length-le s {i = at} (omega (arith, leb-false at (length s) p))) (unfold var_uint_from groups in refl))
 
 -- ---- the first byte of a VarInt
 
-not-i64 : (s : Bool) (n : ℕ) → 2 ^ 64 ≤ n → isI64 (signed s n) ≡ false
-not-i64 false n h = le-ltb n (2 ^ 63) (omega arith)
-not-i64 true n h = lt-leb n (2 ^ 63) (omega arith)
+not_i64 : (s : Bool) (n : ℕ) → 2 ^ 64 ≤ n → is_i64 (signed s n) ≡ false
+not_i64 false n h = le-ltb n (2 ^ 63) (omega arith)
+not_i64 true n h = lt-leb n (2 ^ 63) (omega arith)
 
-small-i64 : (s : Bool) (n : ℕ) → n < 2 ^ 63 → isI64 (signed s n) ≡ true
-small-i64 false n h = lt-ltb n (2 ^ 63) (omega arith)
-small-i64 true n h = le-leb n (2 ^ 63) (omega arith)
+small_i64 : (s : Bool) (n : ℕ) → n < 2 ^ 63 → is_i64 (signed s n) ≡ true
+small_i64 false n h = lt-ltb n (2 ^ 63) (omega arith)
+small_i64 true n h = le-leb n (2 ^ 63) (omega arith)
 
 -- signed 64 bits are within 64 bits
-pub signed-groups : (s : Bool) (size : ℕ) (o : Option (ℕ × List ℕ)) → withSign s (numberIn size (inU64 o)) ≡ signedIn size (giveSign s o)
+pub signed-groups : (s : Bool) (size : ℕ) (o : Option (ℕ × List ℕ)) → with_sign s (number_in size (in_u64 o)) ≡ signed_in size (give_sign s o)
 signed-groups s size none = refl
-signed-groups s size (some x) = go (ltb (x .0) (2 ^ 64)) refl
+signed-groups s size (some x) = go (ltb x.0 (2 ^ 64)) refl
   where
-    tested : (t : Bool) → cond t (I.Is s (x .0) (size - length (x .1))) I.No ≡ signedIn size (check t (some (signed s (x .0), x .1)))
+    tested : (t : Bool) → cond t (I.Is s x.0 (size - length x.1)) I.No ≡ signed_in size (check t (some (signed s x.0, x.1)))
     tested true = refl
     tested false = refl
 
-    go : (t : Bool) → ltb (x .0) (2 ^ 64) ≡ t → withSign s (numberIn size (inU64 (some x))) ≡ signedIn size (giveSign s (some x))
-    go true e = rw (e) (tested (isI64 (signed s (x .0))))
-    go false e = rw (e, not-i64 s (x .0) (ltb-false (x .0) (2 ^ 64) e)) refl
+    go : (t : Bool) → ltb x.0 (2 ^ 64) ≡ t → with_sign s (number_in size (in_u64 (some x))) ≡ signed_in size (give_sign s (some x))
+    go true e = rw (e) (tested (is_i64 (signed s x.0)))
+    go false e = rw (e, not_i64 s x.0 (ltb-false x.0 (2 ^ 64) e)) refl
 
 module _ (s : List ℕ) (at b : ℕ) where
-  pub var-int-out : length s ≤ at → varIntAt s at ≡ I.No
-  unfolding varIntAt varInt
-  var-int-out h = rw (drop-of-length-le s {i = at} h) refl
+  pub var_int_out : length s ≤ at → var_int_at s at ≡ I.No
+  unfolding var_int_at var_int
+  var_int_out h = rw (drop_of_length-le s {i = at} h) refl
 
-  module _ (inside : at < length s) (is : b ≡ getD s at 0) where
-    pub var-int-short : 0x7F < b → varIntAt s at ≡ I.Is (isNegative b) (b % 64) (at + 1)
-    unfolding varIntAt varInt
-    var-int-short h =
-        rw (front s at b inside is, varInt, le-ltb b 0x80 (omega arith), small-i64 (isNegative b) (b % 64) (omega arith), behind s (at + 1) (omega arith)) refl
+  module _ (inside : at < length s) (is : b ≡ get_or s at 0) where
+    pub var_int_short : 0x7F < b → var_int_at s at ≡ I.Is (is_negative b) (b % 64) (at + 1)
+    unfolding var_int_at var_int
+    var_int_short h =
+        rw (front s at b inside is, var_int, le-ltb b 0x80 (omega arith), small_i64 (is_negative b) (b % 64) (omega arith), behind s (at + 1) (omega arith)) refl
 
-    pub var-int-long : b ≤ 0x7F → varIntAt s at ≡ withSign (isNegative b) (groupsAt s (at + 1) (b % 64))
-    unfolding varIntAt varInt groupsAt
-    var-int-long h =
-        rw (front s at b inside is, varInt, lt-ltb b 0x80 (omega arith)) (sym (signed-groups (isNegative b) (length s) (groups (b % 64) (drop (at + 1) s))))
+    pub var_int_long : b ≤ 0x7F → var_int_at s at ≡ with_sign (is_negative b) (groups_at s (at + 1) (b % 64))
+    unfolding var_int_at var_int groups_at
+    var_int_long h =
+        rw (front s at b inside is, var_int, lt-ltb b 0x80 (omega arith)) (sym (signed-groups (is_negative b) (length s) (groups (b % 64) (drop (at + 1) s))))
 
 -- ---- the sign of a magnitude
 
 module _ (s : Bool) (v n : ℕ) (m : Number) (is : m ≡ N.Is v n) where
-  pub sign-past : 2 ^ 63 < v → I.No ≡ withSign s m
-  sign-past h = rw (is) (go s)
+  pub sign_past : 2 ^ 63 < v → I.No ≡ with_sign s m
+  sign_past h = rw (is) (go s)
     where
-      go : (t : Bool) → I.No ≡ withSign t (N.Is v n)
+      go : (t : Bool) → I.No ≡ with_sign t (N.Is v n)
       go false = rw (le-ltb v (2 ^ 63) (omega arith)) refl
       go true = rw (lt-leb v (2 ^ 63) (omega arith)) refl
 
-  pub sign-edge : (eqb v (2 ^ 63) && not s) ≡ true → I.No ≡ withSign s m
-  sign-edge h = rw (is) (go s (both {a = eqb v (2 ^ 63)} h))
+  pub sign_edge : (eqb v (2 ^ 63) && not s) ≡ true → I.No ≡ with_sign s m
+  sign_edge h = rw (is) (go s (both {a = eqb v (2 ^ 63)} h))
     where
-      go : (t : Bool) → (eqb v (2 ^ 63) ≡ true) × (not t ≡ true) → I.No ≡ withSign t (N.Is v n)
-      go false e = rw (le-ltb v (2 ^ 63) (omega (arith, eqb-true v (2 ^ 63) (e .0)))) refl
-      go true e = absurd (false≢true (e .1))
+      go : (t : Bool) → (eqb v (2 ^ 63) ≡ true) × (not t ≡ true) → I.No ≡ with_sign t (N.Is v n)
+      go false e = rw (le-ltb v (2 ^ 63) (omega (arith, eqb-true v (2 ^ 63) e.0))) refl
+      go true e = absurd (false≢true e.1)
 
-  pub sign-held : v ≤ 2 ^ 63 → (eqb v (2 ^ 63) && not s) ≡ false → I.Is s v n ≡ withSign s m
-  sign-held h e = rw (is) (go s e)
+  pub sign_held : v ≤ 2 ^ 63 → (eqb v (2 ^ 63) && not s) ≡ false → I.Is s v n ≡ with_sign s m
+  sign_held h e = rw (is) (go s e)
     where
-      go : (t : Bool) → (eqb v (2 ^ 63) && not t) ≡ false → I.Is t v n ≡ withSign t (N.Is v n)
+      go : (t : Bool) → (eqb v (2 ^ 63) && not t) ≡ false → I.Is t v n ≡ with_sign t (N.Is v n)
       go true e = rw (le-leb v (2 ^ 63) h) refl
       go false e = edge (eqb v (2 ^ 63)) refl e
         where
-          edge : (q : Bool) → eqb v (2 ^ 63) ≡ q → (q && true) ≡ false → I.Is false v n ≡ withSign false (N.Is v n)
+          edge : (q : Bool) → eqb v (2 ^ 63) ≡ q → (q && true) ≡ false → I.Is false v n ≡ with_sign false (N.Is v n)
           edge true k e = absurd (false≢true (sym e))
           edge false k e = rw (lt-ltb v (2 ^ 63) (below k)) refl
             where
@@ -161,30 +161,30 @@ record Behind (l rest : List ℕ) : Type 0 where
   most : count ≤ length l
   is : rest ≡ drop count l
 
-one-behind : (b : ℕ) (bs : List ℕ) → Behind (b ∷ bs) bs
-one-behind b bs = record { count = 1; more = omega arith; most = omega arith; is = refl }
+one_behind : (b : ℕ) (bs : List ℕ) → Behind (b ∷ bs) bs
+one_behind b bs = record { count = 1; more = omega arith; most = omega arith; is = refl }
 
 later : {b : ℕ} {l rest : List ℕ} → Behind l rest → Behind (b ∷ l) rest
-later r = record { count = suc (r .count); more = omega arith; most = omega (arith, r .most); is = r .is }
+later r = record { count = suc r.count; more = omega arith; most = omega (arith, r.most); is = r.is }
 
-groups-behind : (acc : ℕ) (l : List ℕ) (x : ℕ × List ℕ) → groups acc l ≡ some x → Behind l (x .1)
+groups-behind : (acc : ℕ) (l : List ℕ) (x : ℕ × List ℕ) → groups acc l ≡ some x → Behind l x.1
 unfolding groups
-groups-behind acc [] x e = absurd (Option·none-ne-some x e)
+groups-behind acc [] x e = absurd (none-ne-some x e)
 groups-behind acc (b ∷ bs) x e = go (ltb b 0x80) e (λ q. groups-behind (acc * 128 + b) bs x q)
   where
     go : (t : Bool) → elim t [ true ↦ groups (acc * 128 + b) bs | false ↦ some (acc * 128 + b % 128, bs) ] ≡ some x →
-        (groups (acc * 128 + b) bs ≡ some x → Behind bs (x .1)) → Behind (b ∷ bs) (x .1)
+        (groups (acc * 128 + b) bs ≡ some x → Behind bs x.1) → Behind (b ∷ bs) x.1
     go true e k = later (k e)
-    go false e k = subst (λ (y : ℕ × List ℕ). Behind (b ∷ bs) (y .1)) (Option·some-injective (acc * 128 + b % 128, bs) x e) (one-behind b bs)
+    go false e k = subst (λ (y : ℕ × List ℕ). Behind (b ∷ bs) y.1) (some-injective (acc * 128 + b % 128, bs) x e) (one_behind b bs)
 
 -- the bytes behind, by the place where they begin
 behind-place : (s : List ℕ) (at : ℕ) (rest : List ℕ) → Behind (drop at s) rest →
     (at < length s - length rest) × (length s - length rest ≤ length s) × (rest ≡ drop (length s - length rest) s)
 behind-place s at rest h =
-    let n = h .count in
-    let k : n ≤ length s - at = rw (← length-drop at s) (h .most) in
-    let f : 1 ≤ n = h .more in
-    let e : rest ≡ drop (at + n) s = h .is ∙ drop-drop n at s in
+    let n = h.count in
+    let k : n ≤ length s - at = rw (← length-drop at s) h.most in
+    let f : 1 ≤ n = h.more in
+    let e : rest ≡ drop (at + n) s = h.is ∙ drop-drop n at s in
     let p : length s - length rest ≡ at + n = ap (λ (l : List ℕ). length s - length l) e ∙ behind s (at + n) (omega arith) in
     (omega arith, omega arith, e ∙ ap (λ (i : ℕ). drop i s) (sym p))
 
@@ -194,86 +194,86 @@ pub record FieldAt {A : Type 0} (s : List ℕ) (at : ℕ) (field : Option (A × 
   pub within : next ≤ length s
   pub is : field ≡ some (value, drop next s)
 
-inU64-some : (o : Option (ℕ × List ℕ)) (x : ℕ × List ℕ) → inU64 o ≡ some x → o ≡ some x
-inU64-some none x e = absurd (Option·none-ne-some x e)
-inU64-some (some y) x e = go (ltb (y .0) (2 ^ 64)) e
+in_u64-some : (o : Option (ℕ × List ℕ)) (x : ℕ × List ℕ) → in_u64 o ≡ some x → o ≡ some x
+in_u64-some none x e = absurd (none-ne-some x e)
+in_u64-some (some y) x e = go (ltb y.0 (2 ^ 64)) e
   where
     go : (t : Bool) → check t (some y) ≡ some x → some y ≡ some x
     go true e = e
-    go false e = absurd (Option·none-ne-some x e)
+    go false e = absurd (none-ne-some x e)
 
-pub absurdly : {X : Type 0} → _≡_ {A = ℕ} 0 1 → X
+pub absurdly : {X : Type 0} → ◌≡◌ {A = ℕ} 0 1 → X
 absurdly z = absurd (omega arith)
 
-pair : {A : Type 0} {y v : A} {k l : List ℕ} → y ≡ v → k ≡ l → _≡_ {A = A × List ℕ} (y, k) (v, l)
+pair : {A : Type 0} {y v : A} {k l : List ℕ} → y ≡ v → k ≡ l → ◌≡◌ {A = A × List ℕ} (y, k) (v, l)
 pair f g = cc
 
-pub var-uint-is : (s : List ℕ) (at v next : ℕ) → varUIntAt s at ≡ N.Is v next → FieldAt s at (varUInt (drop at s)) v next
-unfolding varUIntAt varUInt
-var-uint-is s at v next e = go (inU64 (groups 0 (drop at s))) refl e
+pub var_uint_is : (s : List ℕ) (at v next : ℕ) → var_uint_at s at ≡ N.Is v next → FieldAt s at (var_uint (drop at s)) v next
+unfolding var_uint_at var_uint
+var_uint_is s at v next e = go (in_u64 (groups 0 (drop at s))) refl e
   where
-    go : (o : Option (ℕ × List ℕ)) → inU64 (groups 0 (drop at s)) ≡ o → numberIn (length s) o ≡ N.Is v next → FieldAt s at (inU64 (groups 0 (drop at s))) v next
+    go : (o : Option (ℕ × List ℕ)) → in_u64 (groups 0 (drop at s)) ≡ o → number_in (length s) o ≡ N.Is v next → FieldAt s at (in_u64 (groups 0 (drop at s))) v next
     go none q e = absurdly cc
     go (some x) q e =
-        let p = behind-place s at (x .1) (groups-behind 0 (drop at s) x (inU64-some (groups 0 (drop at s)) x q)) in
-        let n : length s - length (x .1) ≡ next = cc in
-        let m : x .0 ≡ v = cc in
-        record { after = omega (arith, p .0, n); within = omega (arith, p .1, n); is = q ∙ ap some (pair m (p .2 ∙ ap (λ (i : ℕ). drop i s) n)) }
+        let p = behind-place s at x.1 (groups-behind 0 (drop at s) x (in_u64-some (groups 0 (drop at s)) x q)) in
+        let n : length s - length x.1 ≡ next = cc in
+        let m : x.0 ≡ v = cc in
+        record { after = omega (arith, p.0, n); within = omega (arith, p.1, n); is = q ∙ ap some (pair m (p.2 ∙ ap (λ (i : ℕ). drop i s) n)) }
 
-pub var-uint-none : (s : List ℕ) (at : ℕ) (r : Refusal) → varUIntAt s at ≡ N.No r → varUInt (drop at s) ≡ none
-unfolding varUIntAt
-var-uint-none s at r e = go (varUInt (drop at s)) refl e
+pub var_uint-none : (s : List ℕ) (at : ℕ) (r : Refusal) → var_uint_at s at ≡ N.No r → var_uint (drop at s) ≡ none
+unfolding var_uint_at
+var_uint-none s at r e = go (var_uint (drop at s)) refl e
   where
-    go : (o : Option (ℕ × List ℕ)) → varUInt (drop at s) ≡ o → numberIn (length s) o ≡ N.No r → varUInt (drop at s) ≡ none
+    go : (o : Option (ℕ × List ℕ)) → var_uint (drop at s) ≡ o → number_in (length s) o ≡ N.No r → var_uint (drop at s) ≡ none
     go none q e = q
     go (some x) q e = absurdly cc
 
-sign-behind : (s : Bool) (l : List ℕ) (o : Option (ℕ × List ℕ)) (x : Signed × List ℕ) → ((y : ℕ × List ℕ) → o ≡ some y → Behind l (y .1))
-    → giveSign s o ≡ some x → Behind l (x .1)
-sign-behind s l none x h e = absurd (Option·none-ne-some x e)
-sign-behind s l (some y) x h e = go (isI64 (signed s (y .0))) e
+sign_behind : (s : Bool) (l : List ℕ) (o : Option (ℕ × List ℕ)) (x : Signed × List ℕ) → ((y : ℕ × List ℕ) → o ≡ some y → Behind l y.1)
+    → give_sign s o ≡ some x → Behind l x.1
+sign_behind s l none x h e = absurd (none-ne-some x e)
+sign_behind s l (some y) x h e = go (is_i64 (signed s y.0)) e
   where
-    go : (t : Bool) → check t (some (signed s (y .0), y .1)) ≡ some x → Behind l (x .1)
-    go true e = subst (λ (z : Signed × List ℕ). Behind l (z .1)) (Option·some-injective (signed s (y .0), y .1) x e) (h y refl)
-    go false e = absurd (Option·none-ne-some x e)
+    go : (t : Bool) → check t (some (signed s y.0, y.1)) ≡ some x → Behind l x.1
+    go true e = subst (λ (z : Signed × List ℕ). Behind l z.1) (some-injective (signed s y.0, y.1) x e) (h y refl)
+    go false e = absurd (none-ne-some x e)
 
-varInt-behind : (l : List ℕ) (x : Signed × List ℕ) → varInt l ≡ some x → Behind l (x .1)
-unfolding varInt
-varInt-behind [] x e = absurd (Option·none-ne-some x e)
-varInt-behind (b ∷ bs) x e = go (ltb b 0x80) e
+var_int-behind : (l : List ℕ) (x : Signed × List ℕ) → var_int l ≡ some x → Behind l x.1
+unfolding var_int
+var_int-behind [] x e = absurd (none-ne-some x e)
+var_int-behind (b ∷ bs) x e = go (ltb b 0x80) e
   where
     go : (t : Bool)
-        → elim t [ true ↦ giveSign (isNegative b) (groups (b % 64) bs) | false ↦ giveSign (isNegative b) (some (b % 64, bs)) ] ≡ some x
-        → Behind (b ∷ bs) (x .1)
-    go true e = sign-behind (isNegative b) (b ∷ bs) (groups (b % 64) bs) x (λ y q. later (groups-behind (b % 64) bs y q)) e
+        → elim t [ true ↦ give_sign (is_negative b) (groups (b % 64) bs) | false ↦ give_sign (is_negative b) (some (b % 64, bs)) ] ≡ some x
+        → Behind (b ∷ bs) x.1
+    go true e = sign_behind (is_negative b) (b ∷ bs) (groups (b % 64) bs) x (λ y q. later (groups-behind (b % 64) bs y q)) e
     go false e =
-        sign-behind (isNegative b) (b ∷ bs) (some (b % 64, bs)) x
-        (λ y q. subst (λ (z : ℕ × List ℕ). Behind (b ∷ bs) (z .1)) (Option·some-injective (b % 64, bs) y q) (one-behind b bs)) e
+        sign_behind (is_negative b) (b ∷ bs) (some (b % 64, bs)) x
+        (λ y q. subst (λ (z : ℕ × List ℕ). Behind (b ∷ bs) z.1) (some-injective (b % 64, bs) y q) (one_behind b bs)) e
 
-sign-and-size : (z : Signed) (s : Bool) (m : ℕ) → B.isNegative z ≡ s → B.magnitude z ≡ m → z ≡ signed s m
-sign-and-size (signed t n) s m e f = rw (e, f) refl
+sign_and_size : (z : Signed) (s : Bool) (m : ℕ) → B.is_negative z ≡ s → B.magnitude z ≡ m → z ≡ signed s m
+sign_and_size (signed t n) s m e f = rw (e, f) refl
 
-pub var-int-is : (s : List ℕ) (at : ℕ) (t : Bool) (m next : ℕ) → varIntAt s at ≡ I.Is t m next → FieldAt s at (varInt (drop at s)) (signed t m) next
-unfolding varIntAt
-var-int-is s at t m next e = go (varInt (drop at s)) refl e
+pub var_int_is : (s : List ℕ) (at : ℕ) (t : Bool) (m next : ℕ) → var_int_at s at ≡ I.Is t m next → FieldAt s at (var_int (drop at s)) (signed t m) next
+unfolding var_int_at
+var_int_is s at t m next e = go (var_int (drop at s)) refl e
   where
-    go : (o : Option (Signed × List ℕ)) → varInt (drop at s) ≡ o → signedIn (length s) o ≡ I.Is t m next → FieldAt s at (varInt (drop at s)) (signed t m) next
+    go : (o : Option (Signed × List ℕ)) → var_int (drop at s) ≡ o → signed_in (length s) o ≡ I.Is t m next → FieldAt s at (var_int (drop at s)) (signed t m) next
     go none q e = absurdly cc
     go (some x) q e =
-        let p = behind-place s at (x .1) (varInt-behind (drop at s) x q) in
-        let n : length s - length (x .1) ≡ next = cc in
-        let f : B.isNegative (x .0) ≡ t = cc in
-        let g : B.magnitude (x .0) ≡ m = cc in
+        let p = behind-place s at x.1 (var_int-behind (drop at s) x q) in
+        let n : length s - length x.1 ≡ next = cc in
+        let f : B.is_negative x.0 ≡ t = cc in
+        let g : B.magnitude x.0 ≡ m = cc in
         record {
-          after = omega (arith, p .0, n);
-          within = omega (arith, p .1, n);
-          is = q ∙ ap some (pair (sign-and-size (x .0) t m f g) (p .2 ∙ ap (λ (i : ℕ). drop i s) n));
+          after = omega (arith, p.0, n);
+          within = omega (arith, p.1, n);
+          is = q ∙ ap some (pair (sign_and_size x.0 t m f g) (p.2 ∙ ap (λ (i : ℕ). drop i s) n));
         }
 
-pub var-int-none : (s : List ℕ) (at : ℕ) → varIntAt s at ≡ I.No → varInt (drop at s) ≡ none
-unfolding varIntAt
-var-int-none s at e = go (varInt (drop at s)) refl e
+pub var_int_none : (s : List ℕ) (at : ℕ) → var_int_at s at ≡ I.No → var_int (drop at s) ≡ none
+unfolding var_int_at
+var_int_none s at e = go (var_int (drop at s)) refl e
   where
-    go : (o : Option (Signed × List ℕ)) → varInt (drop at s) ≡ o → signedIn (length s) o ≡ I.No → varInt (drop at s) ≡ none
+    go : (o : Option (Signed × List ℕ)) → var_int (drop at s) ≡ o → signed_in (length s) o ≡ I.No → var_int (drop at s) ≡ none
     go none q e = q
     go (some x) q e = absurdly cc

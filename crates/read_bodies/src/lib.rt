@@ -1,18 +1,13 @@
 // The numbers in a scalar's body, and the bodies that are one number or two: decimals, symbols and negative ints.
-use reading::Decimal;
-use reading::Number;
-use reading::Refusal;
-use reading::Symbol;
-ghost use mathlib.Core.Path.{_≡_};
-ghost use mathlib.Core.Bool.{Bool};
-ghost use Prim.Native.Nat.{ℕ, _+_, _*_, _/_, _%_, _<_, _≤_};
-ghost use lib.Dec.{eqb};
-ghost use lib.ListN.{length};
-ghost use Rattle·ion.specs.Fields.{uint};
-ghost use Rattle·reading.specs.Bodies.{decimalIn, symbolIn};
-ghost use Rattle·read_bodies·specs.specs.Places.{groupsAt, varUIntAt, varIntAt, smallFrom, withSign};
+ghost use Rattle.std.specs.Prelude.{◌≡◌, Bool, ℕ, ◌+◌, ◌*◌, ◌/◌, ◌%◌, ◌<◌, ◌≤◌, eqb, length};
+ghost use Rattle.ion.specs.Fields.{uint};
+ghost use Rattle.reading.specs.Bodies.{decimal_in, symbol_in};
+ghost use Rattle.read_bodies.specs.Places.{groups_at, var_uint_at, var_int_at, small_from, with_sign};
+
+use reading::{Decimal, Number, Refusal, Symbol};
 
 // A sign and a magnitude, and the place behind them.
+#[derive(Drop)]
 pub enum VarInt {
     Is {
         negative: bool,
@@ -23,13 +18,14 @@ pub enum VarInt {
 }
 
 // A number of 64 bits, or a larger one.
+#[derive(Drop)]
 pub enum Small {
     Is(u64),
     Not,
 }
 
 fn wide(b: u8) -> u64
-    ensures { λ r. ⌜ (r ≡ b) × (r < 256) ⌝ }
+    ensures { (result ≡ b) × (result < 256) }
 {
     b as u64
 }
@@ -38,21 +34,21 @@ fn wide(b: u8) -> u64
 
 // The VarUInt at a place.
 pub fn var_uint(b: &[u8], at: usize) -> Number
-    ensures { λ r. ⌜ r ≡ varUIntAt (now (b .entry)) at ⌝ }
+    ensures { result ≡ var_uint_at b.now at }
 {
     read_fields::var_uint(b, at, Refusal::NotIon)
 }
 
 // The VarUInt whose groups before `at` make `acc`.
 fn groups(b: &[u8], at: usize, acc: u64) -> Number
-    ensures { λ r. ⌜ r ≡ groupsAt (now (b .entry)) at acc ⌝ }
+    ensures { result ≡ groups_at b.now at acc }
 {
     read_fields::var_uint_from(b, at, acc, Refusal::NotIon)
 }
 
 // The magnitude that its groups make, with the sign, where signed 64 bits hold it.
 fn with_sign(negative: bool, number: Number) -> VarInt
-    ensures { λ r. ⌜ r ≡ withSign negative number ⌝ }
+    ensures { result ≡ with_sign negative number }
 {
     let Number::Is { value, next } = number else {
         return VarInt::No;
@@ -72,7 +68,7 @@ fn with_sign(negative: bool, number: Number) -> VarInt
 
 // The VarInt at a place.
 pub fn var_int(b: &[u8], at: usize) -> VarInt
-    ensures { λ r. ⌜ r ≡ varIntAt (now (b .entry)) at ⌝ }
+    ensures { result ≡ var_int_at b.now at }
 {
     if b.len() <= at {
         return VarInt::No;
@@ -93,7 +89,7 @@ pub fn var_int(b: &[u8], at: usize) -> VarInt
 
 // The big-endian number whose digits before `at` make `acc`.
 pub fn small_from(b: &[u8], at: usize, acc: u64) -> Small
-    ensures { λ r. ⌜ r ≡ smallFrom (now (b .entry)) at acc ⌝ }
+    ensures { result ≡ small_from b.now at acc }
 {
     let mut i = at;
     let mut value = acc;
@@ -111,7 +107,7 @@ pub fn small_from(b: &[u8], at: usize, acc: u64) -> Small
 
 // "3: int", whose magnitude may not be zero.
 pub fn is_zero(body: &[u8]) -> bool
-    ensures { λ r. ⌜ r ≡ eqb (uint (now (body .entry))) 0 ⌝ }
+    ensures { result ≡ eqb (uint body.now) 0 }
 {
     let mut i = 0;
     while i < body.len() {
@@ -125,7 +121,7 @@ pub fn is_zero(body: &[u8]) -> bool
 
 // "5: decimal".
 pub fn decimal(body: &[u8]) -> Decimal
-    ensures { λ r. ⌜ r ≡ decimalIn (now (body .entry)) ⌝ }
+    ensures { result ≡ decimal_in body.now }
 {
     if body.len() == 0 {
         return Decimal::Is {
@@ -152,7 +148,7 @@ pub fn decimal(body: &[u8]) -> Decimal
 
 // "7: symbol".
 pub fn symbol(body: &[u8]) -> Symbol
-    ensures { λ r. ⌜ r ≡ symbolIn (now (body .entry)) ⌝ }
+    ensures { result ≡ symbol_in body.now }
 {
     let sid = small_from(body, 0, 0);
     let Small::Is(value) = sid else {

@@ -1,10 +1,9 @@
 // A VarUInt at a place, taken apart: its number and the place behind it, or why it does not read.
-use reading::Number;
-use reading::Refusal;
-ghost use mathlib.Core.Path.{_≡_};
-ghost use lib.ListN.{drop};
-ghost use Rattle·reading.specs.Headers.{varUIntFrom, varUIntAt};
-ghost use Rattle·read_fields·specs.specs.Refused.{numberRefusal};
+ghost use Rattle.std.specs.Prelude.{◌≡◌, drop};
+ghost use Rattle.reading.specs.Headers.{var_uint_from, var_uint_at};
+ghost use Rattle.read_fields.specs.Refused.{number_refusal};
+
+use reading::{Number, Refusal};
 
 const END_FLAG: u8 = 0x80;
 
@@ -13,7 +12,7 @@ const MAX_BEFORE_GROUP: u64 = 0x1FF_FFFF_FFFF_FFFF;
 
 // The VarUInt whose groups before `at` make `acc`, group by group of seven bits. How many they are is not limited, since leading groups may be zero.
 pub fn var_uint_from(s: &[u8], at: usize, acc: u64, out: Refusal) -> Number
-    ensures { λ r. ⌜ r ≡ varUIntFrom out acc at (drop at (now (s .entry))) ⌝ }
+    ensures { result ≡ var_uint_from out acc at (drop at s.now) }
 {
     let mut i = at;
     let mut value = acc;
@@ -37,7 +36,7 @@ pub fn var_uint_from(s: &[u8], at: usize, acc: u64, out: Refusal) -> Number
 
 // The VarUInt at `at`; `out` where the bytes end before it does. Most take one byte, so that is asked first.
 pub fn var_uint(s: &[u8], at: usize, out: Refusal) -> Number
-    ensures { λ r. ⌜ r ≡ varUIntAt out (now (s .entry)) at ⌝ }
+    ensures { result ≡ var_uint_at out s.now at }
 {
     if s.len() <= at {
         return Number::No(out);
@@ -54,7 +53,7 @@ pub fn var_uint(s: &[u8], at: usize, out: Refusal) -> Number
 
 // Why a number does not read.
 pub fn number_refusal(n: Number) -> Refusal
-    ensures { λ r. ⌜ r ≡ numberRefusal n ⌝ }
+    ensures { result ≡ number_refusal n }
 {
     match n {
         Number::No(r) => r,

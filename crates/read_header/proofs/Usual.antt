@@ -1,18 +1,18 @@
 -- A usual type byte passes every table of the definition: its header is framed by the length in its low four bits.
 -- Assumes nothing.
-use Prim.Native.Nat.{ℕ, _+_, _/_, _%_, _≤_, _<_}
+use Prim.Native.Nat.{ℕ, ◌+◌, ◌/◌, ◌%◌, ◌≤◌, ◌<◌}
 use native.Mathlib.Omega.{arith}
-use mathlib.Core.Path.{_≡_, refl, sym, subst}
+use mathlib.Core.Path.{◌≡◌, refl, sym, subst}
 use mathlib.Core.Bool.{true, false, cond}
 use mathlib.Core.List.{List}
 use lib.Dec.{leb, eqb}
 use lib.ListN.{length}
-use borrow.Author.Tests.{ltb-true, leb-true, eqb-true, ne-eqb, le-ltb}
-use Rattle·ion.proofs.Tests.{by-cases, both}
-use Rattle·reading.specs.declared.Refusal.{Refusal}
-use Rattle·reading.specs.declared.Header.the-variants as H
-use Rattle·reading.specs.Headers.{impossible, alone, measured, never, headed}
-use Rattle·read_header·specs.specs.Usual.{leastLength, usual}
+use borrow.Author.Tests.{ltb-true, leb-true, eqb-true, ne_eqb, le-ltb}
+use Rattle.ion.proofs.Tests.{by_cases, both}
+use Rattle.reading.specs.declared.Refusal.{Refusal}
+use Rattle.reading.specs.declared.Header.TheVariants as H
+use Rattle.reading.specs.Headers.{impossible, alone, measured, never, headed}
+use Rattle.read_header.specs.Usual.{least_length, usual}
 
 record Plain (t l : ℕ) : Type 0 where
   possible : impossible t l ≡ false
@@ -24,56 +24,56 @@ record Plain (t l : ℕ) : Type 0 where
 abbrev Length : ℕ → Type 0
 Length l = (eqb l 15 ≡ false) × (eqb l 14 ≡ false)
 
-plain-negative : (l : ℕ) → Length l → 1 ≤ l → Plain 3 l
-plain-negative l h k = record { possible = refl; more = rw (h .0) refl; short = rw (h .1) refl; has = rw (ne-eqb l 0 (λ e. omega arith)) refl }
+plain_negative : (l : ℕ) → Length l → 1 ≤ l → Plain 3 l
+plain_negative l h k = record { possible = refl; more = rw h.0 refl; short = rw h.1 refl; has = rw (ne_eqb l 0 (λ e. omega arith)) refl }
 
-plain-timestamp : (l : ℕ) → Length l → 2 ≤ l → Plain 6 l
-plain-timestamp l h k = record { possible = refl; more = rw (h .0) refl; short = rw (h .1) refl; has = rw (le-ltb l 2 k) refl }
+plain_timestamp : (l : ℕ) → Length l → 2 ≤ l → Plain 6 l
+plain_timestamp l h k = record { possible = refl; more = rw h.0 refl; short = rw h.1 refl; has = rw (le-ltb l 2 k) refl }
 
-plain-struct : (l : ℕ) → Length l → 2 ≤ l → Plain 13 l
-plain-struct l h k =
+plain_struct : (l : ℕ) → Length l → 2 ≤ l → Plain 13 l
+plain_struct l h k =
     record {
       possible = refl;
-      more = rw (h .0) refl;
-      short = rw (h .1, ne-eqb l 1 (λ e. omega arith)) refl;
-      has = rw (ne-eqb l 1 (λ e. omega arith)) refl;
+      more = rw h.0 refl;
+      short = rw (h.1, ne_eqb l 1 (λ e. omega arith)) refl;
+      has = rw (ne_eqb l 1 (λ e. omega arith)) refl;
     }
 
 plain-wrapper : (l : ℕ) → Length l → 3 ≤ l → Plain 14 l
 plain-wrapper l h k =
     record {
-      possible = rw (h .0, ne-eqb l 0 (λ e. omega arith)) refl;
-      more = rw (h .0) refl;
-      short = rw (h .1) refl;
+      possible = rw (h.0, ne_eqb l 0 (λ e. omega arith)) refl;
+      more = rw h.0 refl;
+      short = rw h.1 refl;
       has = rw (le-ltb l 3 k) refl;
     }
 
-plain : (t l : ℕ) → leastLength t ≤ l → l < 14 → Plain t l
+plain : (t l : ℕ) → least_length t ≤ l → l < 14 → Plain t l
 plain t l h k =
-    by-cases (eqb t 1) (λ p. let n : 14 ≤ l = least 1 (eqb-true t 1 p) in absurd (omega arith))
-    (λ n1. by-cases (eqb t 3) (λ p. subst (λ (x : ℕ). Plain x l) (sym (eqb-true t 3 p)) (plain-negative l number (least 3 (eqb-true t 3 p))))
-    (λ n3. by-cases (eqb t 4) (λ p. let n : 14 ≤ l = least 4 (eqb-true t 4 p) in absurd (omega arith))
-    (λ n4. by-cases (eqb t 6) (λ p. subst (λ (x : ℕ). Plain x l) (sym (eqb-true t 6 p)) (plain-timestamp l number (least 6 (eqb-true t 6 p))))
-    (λ n6. by-cases (eqb t 13) (λ p. subst (λ (x : ℕ). Plain x l) (sym (eqb-true t 13 p)) (plain-struct l number (least 13 (eqb-true t 13 p))))
-    (λ n13. by-cases (eqb t 14) (λ p. subst (λ (x : ℕ). Plain x l) (sym (eqb-true t 14 p)) (plain-wrapper l number (least 14 (eqb-true t 14 p))))
-    (λ n14. by-cases (eqb t 15) (λ p. let n : 14 ≤ l = least 15 (eqb-true t 15 p) in absurd (omega arith))
+    by_cases (eqb t 1) (λ p. let n : 14 ≤ l = least 1 (eqb-true t 1 p) in absurd (omega arith))
+    (λ n1. by_cases (eqb t 3) (λ p. subst (λ (x : ℕ). Plain x l) (sym (eqb-true t 3 p)) (plain_negative l number (least 3 (eqb-true t 3 p))))
+    (λ n3. by_cases (eqb t 4) (λ p. let n : 14 ≤ l = least 4 (eqb-true t 4 p) in absurd (omega arith))
+    (λ n4. by_cases (eqb t 6) (λ p. subst (λ (x : ℕ). Plain x l) (sym (eqb-true t 6 p)) (plain_timestamp l number (least 6 (eqb-true t 6 p))))
+    (λ n6. by_cases (eqb t 13) (λ p. subst (λ (x : ℕ). Plain x l) (sym (eqb-true t 13 p)) (plain_struct l number (least 13 (eqb-true t 13 p))))
+    (λ n13. by_cases (eqb t 14) (λ p. subst (λ (x : ℕ). Plain x l) (sym (eqb-true t 14 p)) (plain-wrapper l number (least 14 (eqb-true t 14 p))))
+    (λ n14. by_cases (eqb t 15) (λ p. let n : 14 ≤ l = least 15 (eqb-true t 15 p) in absurd (omega arith))
     (λ n15. record {
       possible = rw (n15, n1, n4, n14) refl;
-      more = rw (number .0, n1) refl;
-      short = rw (number .1, n13) refl;
+      more = rw (number.0, n1) refl;
+      short = rw (number.1, n13) refl;
       has = rw (n3, n6, n14, n13) refl;
     })))))))
   where
     number : Length l
-    number = (ne-eqb l 15 (λ e. omega arith), ne-eqb l 14 (λ e. omega arith))
+    number = (ne_eqb l 15 (λ e. omega arith), ne_eqb l 14 (λ e. omega arith))
 
-    least : (x : ℕ) → t ≡ x → leastLength x ≤ l
-    least x e = subst (λ (y : ℕ). leastLength y ≤ l) e h
+    least : (x : ℕ) → t ≡ x → least_length x ≤ l
+    least x e = subst (λ (y : ℕ). least_length y ≤ l) e h
 
 -- The body of a usual header: as many bytes as its low four bits say.
 pub headed-usual : (out : Refusal) (s : List ℕ) (at b : ℕ) → usual b ≡ true
     → headed out s at b ≡ cond (leb (at + 1 + b % 16) (length s)) (H.Is b (at + 1) (at + 1 + b % 16)) (H.No out)
 headed-usual out s at b u =
     let e = both u in
-    let p = plain (b / 16) (b % 16) (leb-true (leastLength (b / 16)) (b % 16) (e .0)) (ltb-true (b % 16) 14 (e .1)) in
-    rw (p .possible, p .more, p .short, p .has) refl
+    let p = plain (b / 16) (b % 16) (leb-true (least_length (b / 16)) (b % 16) e.0) (ltb-true (b % 16) 14 e.1) in
+    rw (p.possible, p.more, p.short, p.has) refl

@@ -1,13 +1,10 @@
 // One header, taken apart: its type byte and where its body starts and stops, or why it does not read.
-use reading::Header;
-use reading::Number;
-use reading::Refusal;
-ghost use mathlib.Core.Path.{_≡_};
-ghost use Prim.Native.Nat.{_≤_};
-ghost use lib.ListN.{length};
-ghost use Rattle·reading.specs.Headers.{impossible, alone, measured, never, framed, headerAt, markerAt, topHeaderAt};
-ghost use Rattle·read_header·specs.specs.Refused.{headerRefusal};
-ghost use Rattle·read_header·specs.specs.Usual.{leastLength, usual};
+ghost use Rattle.std.specs.Prelude.{◌≡◌, ◌≤◌, length};
+ghost use Rattle.reading.specs.Headers.{impossible, alone, measured, never, framed, header_at, marker_at, top_header_at};
+ghost use Rattle.read_header.specs.Refused.{header_refusal};
+ghost use Rattle.read_header.specs.Usual.{least_length, usual};
+
+use reading::{Header, Number, Refusal};
 
 // Type codes.
 const BOOL: u8 = 1;
@@ -38,7 +35,7 @@ const MARKER: [u8; 4] = [MARKER_START, 0x01, 0x00, 0xEA];
 
 // No value, pad or wrapper has type code `t` and low bits `l`.
 fn is_impossible(t: u8, l: u8) -> bool
-    ensures { λ r. ⌜ r ≡ impossible t l ⌝ }
+    ensures { result ≡ impossible t l }
 {
     (t == RESERVED)
         | (((t == BOOL) & ((1 < l) & (l < NULL)))
@@ -48,21 +45,21 @@ fn is_impossible(t: u8, l: u8) -> bool
 
 // The type descriptor is the whole value.
 fn is_alone(t: u8, l: u8) -> bool
-    ensures { λ r. ⌜ r ≡ alone t l ⌝ }
+    ensures { result ≡ alone t l }
 {
     (l == NULL) | (t == BOOL)
 }
 
 // A length field follows.
 fn is_measured(t: u8, l: u8) -> bool
-    ensures { λ r. ⌜ r ≡ measured t l ⌝ }
+    ensures { result ≡ measured t l }
 {
     (l == LONG) | ((t == STRUCT) & (l == SORTED))
 }
 
 // The type never has a body of `n` bytes.
 fn is_never(t: u8, l: u8, n: u64) -> bool
-    ensures { λ r. ⌜ r ≡ never t l n ⌝ }
+    ensures { result ≡ never t l n }
 {
     ((t == NEGATIVE_INT) & (n == 0))
         | (((t == TIMESTAMP) & (n < 2))
@@ -72,8 +69,8 @@ fn is_never(t: u8, l: u8, n: u64) -> bool
 
 // The body of `n` bytes from `start`. `n` is held against the bytes that are left, since `start + n` may wrap.
 fn frame(s: &[u8], b: u8, n: u64, start: usize, out: Refusal) -> Header
-    requires { ⌜ start ≤ length (now s) ⌝ }
-    ensures { λ r. ⌜ r ≡ framed out (now (s .entry)) b n start ⌝ }
+    requires { start ≤ length s.now }
+    ensures { result ≡ framed out s.now b n start }
 {
     if is_never(b / 16, b % 16, n) {
         return Header::No(Refusal::NotIon);
@@ -90,7 +87,7 @@ fn frame(s: &[u8], b: u8, n: u64, start: usize, out: Refusal) -> Header
 
 // The header at `at`, whatever its type byte.
 fn any_header_at(s: &[u8], at: usize, out: Refusal) -> Header
-    ensures { λ r. ⌜ r ≡ headerAt out (now (s .entry)) at ⌝ }
+    ensures { result ≡ header_at out s.now at }
 {
     if s.len() <= at {
         return Header::No(out);
@@ -118,7 +115,7 @@ fn any_header_at(s: &[u8], at: usize, out: Refusal) -> Header
 
 // The least length of a type's bodies that the low four bits of its type byte may say; no length for types whose low bits say other things too.
 fn least_length(t: u8) -> u8
-    ensures { λ r. ⌜ r ≡ leastLength t ⌝ }
+    ensures { result ≡ least_length t }
 {
     match t {
         BOOL => LONG,
@@ -134,14 +131,14 @@ fn least_length(t: u8) -> u8
 
 // The low four bits say a length that the type may have.
 fn is_usual(b: u8) -> bool
-    ensures { λ r. ⌜ r ≡ usual b ⌝ }
+    ensures { result ≡ usual b }
 {
     (least_length(b / 16) <= b % 16) & (b % 16 < LONG)
 }
 
 // The header at `at`; `out` where the bytes end before its body does. Most have a short length, so that is asked first.
 pub fn header_at(s: &[u8], at: usize, out: Refusal) -> Header
-    ensures { λ r. ⌜ r ≡ headerAt out (now (s .entry)) at ⌝ }
+    ensures { result ≡ header_at out s.now at }
 {
     if s.len() <= at {
         return Header::No(out);
@@ -162,7 +159,7 @@ pub fn header_at(s: &[u8], at: usize, out: Refusal) -> Header
 
 // The version marker at `at`.
 fn marker_at(s: &[u8], at: usize) -> Header
-    ensures { λ r. ⌜ r ≡ markerAt (now (s .entry)) at ⌝ }
+    ensures { result ≡ marker_at s.now at }
 {
     let mut i = at;
     let mut same = 0;
@@ -185,7 +182,7 @@ fn marker_at(s: &[u8], at: usize) -> Header
 
 // The header or marker at `at`, at top level.
 pub fn top_header_at(s: &[u8], at: usize) -> Header
-    ensures { λ r. ⌜ r ≡ topHeaderAt (now (s .entry)) at ⌝ }
+    ensures { result ≡ top_header_at s.now at }
 {
     if s.len() <= at {
         return Header::No(Refusal::CutShort);
@@ -198,7 +195,7 @@ pub fn top_header_at(s: &[u8], at: usize) -> Header
 
 // Why a header does not read.
 pub fn header_refusal(h: Header) -> Refusal
-    ensures { λ r. ⌜ r ≡ headerRefusal h ⌝ }
+    ensures { result ≡ header_refusal h }
 {
     match h {
         Header::No(r) => r,

@@ -1,24 +1,19 @@
 // One item of a stream or of a body: its name, its header, what a wrapper holds, and whether its content reads.
-use reading::Header;
-use reading::Item;
-use reading::Number;
-use reading::Refusal;
-use reading::Wrapped;
-ghost use mathlib.Core.Path.{_≡_};
-ghost use Prim.Native.Nat.{_+_, _<_, _≤_};
-ghost use lib.ListN.{length};
-ghost use lib.Seq.{slice};
-ghost use Rattle·reading.specs.declared.Refusal.the-variants.{NotIon};
-ghost use Rattle·reading.specs.declared.Number.the-variants as N;
-ghost use Rattle·reading.specs.declared.Header.the-variants as Hd;
-ghost use Rattle·reading.specs.declared.Wrapped.the-variants as W;
-ghost use Rattle·reading.specs.Headers.{headerAt};
-ghost use Rattle·reading.specs.Scalars.{isSome, sidsOf};
-ghost use Rattle·reading.specs.Items.{isPad, isWrapper, opens, hasNames, nameAt, headIn, filled, annotated, wrappedAt, unwrapped, reads, falls};
-ghost use Rattle·reading.specs.Items.{raised, judged, named, itemAt};
-ghost use Rattle·read_items·specs.specs.Ints.{isSequence, isShortInt, intEnd};
-ghost use Rattle·read_items·specs.specs.Sids.{groupsWith};
-ghost use Rattle·read_items·specs.specs.Refused.{wrappedRefusal};
+ghost use Rattle.std.specs.Prelude.{◌≡◌, ◌+◌, ◌<◌, ◌≤◌, length};
+ghost use Rattle.std.proofs.Math.Seq.{slice};
+ghost use Rattle.reading.specs.declared.Refusal.TheVariants.{NotIon};
+ghost use Rattle.reading.specs.declared.Number.TheVariants as N;
+ghost use Rattle.reading.specs.declared.Header.TheVariants as Hd;
+ghost use Rattle.reading.specs.declared.Wrapped.TheVariants as W;
+ghost use Rattle.reading.specs.Headers.{header_at};
+ghost use Rattle.reading.specs.Scalars.{is_some, sids_of};
+ghost use Rattle.reading.specs.Items.{is_pad, is_wrapper, opens, has_names, name_at, head_in, filled, annotated, wrapped_at, unwrapped, reads, falls};
+ghost use Rattle.reading.specs.Items.{raised, judged, named, item_at};
+ghost use Rattle.read_items.specs.Ints.{is_sequence, is_short_int, int_end};
+ghost use Rattle.read_items.specs.Sids.{groups_with};
+ghost use Rattle.read_items.specs.Refused.{wrapped_refusal};
+
+use reading::{Header, Item, Number, Refusal, Wrapped};
 
 // Type bytes. Those below null's are pads.
 const NULL: u8 = 0x0F;
@@ -56,55 +51,55 @@ const END_FLAG: u64 = 0x80;
 const MAX_BEFORE_GROUP: u64 = 0x1FF_FFFF_FFFF_FFFF;
 
 pub fn is_pad(kind: u8) -> bool
-    ensures { λ r. ⌜ r ≡ isPad kind ⌝ }
+    ensures { result ≡ is_pad kind }
 {
     kind < NULL
 }
 
 pub fn is_wrapper(kind: u8) -> bool
-    ensures { λ r. ⌜ r ≡ isWrapper kind ⌝ }
+    ensures { result ≡ is_wrapper kind }
 {
     (MARKER < kind) & (kind < NULL_WRAPPER)
 }
 
 // A list, an s-expression or a struct that is not null.
 pub fn is_container(kind: u8) -> bool
-    ensures { λ r. ⌜ r ≡ opens kind ⌝ }
+    ensures { result ≡ opens kind }
 {
     (LIST <= kind) & ((kind < NULL_STRUCT) & (!(kind == NULL_LIST) & !(kind == NULL_SEXP)))
 }
 
 // Whether the items of this parent have names.
 pub fn has_names(parent: u8) -> bool
-    ensures { λ r. ⌜ r ≡ hasNames parent ⌝ }
+    ensures { result ≡ has_names parent }
 {
     (STRUCT <= parent) & (parent < NULL_STRUCT)
 }
 
 // The least name that may follow: a pad's does not count.
 pub fn least_after(least: u64, kind: u8, name: u64) -> u64
-    ensures { λ r. ⌜ r ≡ raised least kind name ⌝ }
+    ensures { result ≡ raised least kind name }
 {
     if is_pad(kind) { least } else { name }
 }
 
 // In a sorted struct a name may repeat but not fall, a pad's aside.
 fn name_falls(parent: u8, least: u64, kind: u8, name: u64) -> bool
-    ensures { λ r. ⌜ r ≡ falls parent least kind name ⌝ }
+    ensures { result ≡ falls parent least kind name }
 {
     (parent == SORTED_STRUCT) & (!(kind < NULL) & (name < least))
 }
 
 fn wide(b: u8) -> u64
-    ensures { λ r. ⌜ (r ≡ b) × (r < 256) ⌝ }
+    ensures { (result ≡ b) × (result < 256) }
 {
     b as u64
 }
 
 // The groups of a VarUInt so far and a byte more. A last group leaves none.
 fn with_group(groups: u64, b: u64) -> u64
-    requires { ⌜ (groups ≤ 0x1FFFFFFFFFFFFFF) × (b < 256) ⌝ }
-    ensures { λ r. ⌜ r ≡ groupsWith groups b ⌝ }
+    requires { (groups ≤ 0x1FFFFFFFFFFFFFF) × (b < 256) }
+    ensures { result ≡ groups_with groups b }
 {
     if b < END_FLAG {
         return groups * 128 + b % 128;
@@ -114,7 +109,7 @@ fn with_group(groups: u64, b: u64) -> u64
 
 // Whether whole sids fill the bytes. Leading groups may be zero, so their count is not limited.
 pub fn are_sids(part: &[u8]) -> bool
-    ensures { λ r. ⌜ r ≡ isSome (sidsOf (now (part .entry))) ⌝ }
+    ensures { result ≡ is_some (sids_of part.now) }
 {
     let mut i = 0;
     let mut groups: u64 = 0;
@@ -133,7 +128,7 @@ pub fn are_sids(part: &[u8]) -> bool
 
 // Why a wrapper does not read.
 fn wrapped_refusal(w: Wrapped) -> Refusal
-    ensures { λ r. ⌜ r ≡ wrappedRefusal w ⌝ }
+    ensures { result ≡ wrapped_refusal w }
 {
     match w {
         Wrapped::No(r) => r,
@@ -149,7 +144,7 @@ fn wrapped_refusal(w: Wrapped) -> Refusal
 
 // The name of the item at `at`; 0 where items have none.
 fn name_at(s: &[u8], parent: u8, at: usize) -> Number
-    ensures { λ r. ⌜ r ≡ nameAt (now (s .entry)) parent at ⌝ }
+    ensures { result ≡ name_at s.now parent at }
 {
     if has_names(parent) {
         return read_fields::var_uint(s, at, Refusal::NotIon);
@@ -159,7 +154,7 @@ fn name_at(s: &[u8], parent: u8, at: usize) -> Number
 
 // The header behind the name. Only the stream itself can be cut short.
 fn head_in(s: &[u8], parent: u8, at: usize) -> Header
-    ensures { λ r. ⌜ r ≡ headIn (now (s .entry)) parent at ⌝ }
+    ensures { result ≡ head_in s.now parent at }
 {
     if parent == STREAM {
         return read_header::top_header_at(s, at);
@@ -169,7 +164,7 @@ fn head_in(s: &[u8], parent: u8, at: usize) -> Header
 
 // The one value behind a wrapper's sids.
 fn wrapped_value(s: &[u8], from: usize, to: usize) -> Wrapped
-    ensures { λ r. ⌜ r ≡ filled (now (s .entry)) from to (headerAt NotIon (now (s .entry)) to) ⌝ }
+    ensures { result ≡ filled s.now from to (header_at NotIon s.now to) }
 {
     let h = read_header::header_at(s, to, Refusal::NotIon);
     let Header::Is { kind, start, stop } = h else {
@@ -189,8 +184,8 @@ fn wrapped_value(s: &[u8], from: usize, to: usize) -> Wrapped
 
 // A wrapper's sids, which take n bytes, and the value behind them.
 fn annotated_value(s: &[u8], n: u64, from: usize) -> Wrapped
-    requires { ⌜ from ≤ length (now s) ⌝ }
-    ensures { λ r. ⌜ r ≡ annotated (now (s .entry)) (N.Is n from) ⌝ }
+    requires { from ≤ length s.now }
+    ensures { result ≡ annotated s.now (N.Is n from) }
 {
     if n < 1 {
         return Wrapped::No(Refusal::NotIon);
@@ -207,7 +202,7 @@ fn annotated_value(s: &[u8], n: u64, from: usize) -> Wrapped
 
 // What a wrapper holds whose body stands at `at`; the bytes reach to the wrapper's end.
 pub fn wrapped(s: &[u8], at: usize) -> Wrapped
-    ensures { λ r. ⌜ r ≡ wrappedAt (now (s .entry)) at ⌝ }
+    ensures { result ≡ wrapped_at s.now at }
 {
     let sum = read_fields::var_uint(s, at, Refusal::NotIon);
     let Number::Is { value, next } = sum else {
@@ -218,8 +213,8 @@ pub fn wrapped(s: &[u8], at: usize) -> Wrapped
 
 // The value of a header, in its wrapper or as it stands.
 fn unwrap(s: &[u8], kind: u8, start: usize, stop: usize) -> Wrapped
-    requires { ⌜ stop ≤ length (now s) ⌝ }
-    ensures { λ r. ⌜ r ≡ unwrapped (now (s .entry)) (Hd.Is kind start stop) ⌝ }
+    requires { stop ≤ length s.now }
+    ensures { result ≡ unwrapped s.now (Hd.Is kind start stop) }
 {
     if is_wrapper(kind) {
         return wrapped(&s[..stop], start);
@@ -235,8 +230,8 @@ fn unwrap(s: &[u8], kind: u8, start: usize, stop: usize) -> Wrapped
 
 // Whether the body of a scalar reads. Others are not judged by their body.
 fn body_reads(s: &[u8], kind: u8, start: usize, stop: usize) -> bool
-    requires { ⌜ (start ≤ stop) × (stop ≤ length (now s)) ⌝ }
-    ensures { λ r. ⌜ r ≡ reads kind (slice start stop (now (s .entry))) ⌝ }
+    requires { (start ≤ stop) × (stop ≤ length s.now) }
+    ensures { result ≡ reads kind (slice start stop s.now) }
 {
     if is_pad(kind) | ((kind == MARKER) | is_container(kind)) {
         return true;
@@ -257,8 +252,8 @@ fn judge(
     start: usize,
     stop: usize,
 ) -> Item
-    requires { ⌜ (start ≤ stop) × (stop ≤ length (now s)) ⌝ }
-    ensures { λ r. ⌜ r ≡ judged (now (s .entry)) parent least depth name (W.Is from to kind start stop) ⌝ }
+    requires { (start ≤ stop) × (stop ≤ length s.now) }
+    ensures { result ≡ judged s.now parent least depth name (W.Is from to kind start stop) }
 {
     if name_falls(parent, least, kind, name) {
         return Item::No(Refusal::NotIon);
@@ -281,7 +276,7 @@ fn judge(
 
 // The item whose name is read; its header stands at `at`.
 fn named_item(s: &[u8], parent: u8, least: u64, depth: u8, name: u64, at: usize) -> Item
-    ensures { λ r. ⌜ r ≡ named (now (s .entry)) parent least depth (N.Is name at) ⌝ }
+    ensures { result ≡ named s.now parent least depth (N.Is name at) }
 {
     let h = head_in(s, parent, at);
     let Header::Is { kind, start, stop } = h else {
@@ -314,7 +309,7 @@ fn named_item(s: &[u8], parent: u8, least: u64, depth: u8, name: u64, at: usize)
 
 // The item at `at`, in a parent of this type byte whose end the bytes reach to.
 pub fn item(s: &[u8], parent: u8, least: u64, depth: u8, at: usize) -> Item
-    ensures { λ r. ⌜ r ≡ itemAt (now (s .entry)) parent least depth at ⌝ }
+    ensures { result ≡ item_at s.now parent least depth at }
 {
     if s.len() < at {
         return Item::No(Refusal::PastTheEnd);
@@ -331,14 +326,14 @@ pub fn item(s: &[u8], parent: u8, least: u64, depth: u8, at: usize) -> Item
 
 // A list's or an s-expression's type byte.
 fn is_sequence(parent: u8) -> bool
-    ensures { λ r. ⌜ r ≡ isSequence parent ⌝ }
+    ensures { result ≡ is_sequence parent }
 {
     (LIST <= parent) & (parent < STRUCT)
 }
 
 // An int of 1 to 13 bytes, of either sign: their type codes are 2 and 3.
 fn is_short_int(kind: u8) -> bool
-    ensures { λ r. ⌜ r ≡ isShortInt kind ⌝ }
+    ensures { result ≡ is_short_int kind }
 {
     (kind / 32 == 1) & ((0 < kind % 16) & (kind % 16 < LONG))
 }
@@ -346,7 +341,7 @@ fn is_short_int(kind: u8) -> bool
 // A short way past an int in a list or an s-expression: the place behind it, or 0 where anything else stands, for `item` to judge.
 // In the shortest form an int's first byte is not zero, so it is not negative zero.
 pub fn int_end(s: &[u8], parent: u8, at: usize) -> usize
-    ensures { λ r. ⌜ r ≡ intEnd (now (s .entry)) parent at ⌝ }
+    ensures { result ≡ int_end s.now parent at }
 {
     if !is_sequence(parent) {
         return 0;

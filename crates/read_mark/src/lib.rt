@@ -1,16 +1,12 @@
 // A timestamp's body with the out-of-calendar mark: its UTC year, or its local year where it has a time, is outside 1 to 9999.
-use reading::Shown;
-use reading::Timestamp;
-ghost use mathlib.Core.Path.{_≡_};
-ghost use mathlib.Core.Bool.{true, not};
-ghost use mathlib.Core.List.{[], _∷_};
-ghost use lib.ListN.{take};
-ghost use lib.IntN.{pos, _+ℤ_};
-ghost use Rattle·ion.specs.Value.{signed};
-ghost use Rattle·ion.specs.Fields.{number};
-ghost use Rattle·ion.specs.Scalars.{offsetOf, areFields};
-ghost use Rattle·mark.specs.OutOfCalendar.{isCalendarMinute, outOfCalendar};
-ghost use Rattle·reading.specs.Bodies.{shownIn};
+ghost use Rattle.std.specs.Prelude.{◌≡◌, true, not, [], ◌∷◌, take, pos, ◌+ℤ◌};
+ghost use Rattle.ion.specs.Value.{signed};
+ghost use Rattle.ion.specs.Fields.{number};
+ghost use Rattle.ion.specs.Scalars.{offset_of, are_fields};
+ghost use Rattle.mark.specs.OutOfCalendar.{is_calendar_minute, out_of_calendar};
+ghost use Rattle.reading.specs.Bodies.{shown_in};
+
+use reading::{Shown, Timestamp};
 
 // The numbers of the first minute of the year 1 and of the year 10000.
 const FIRST: u64 = 528_480;
@@ -20,8 +16,8 @@ const LIMIT: u64 = 5_259_493_440;
 // An offset may be as large as an i64, so it is held to what is left on its side: no sum is made.
 // An unknown offset comes as negative zero, which shifts nothing.
 fn is_local_outside(minute: u64, negative: bool, offset: u64) -> bool
-    requires { ⌜ isCalendarMinute (pos minute) ≡ true ⌝ }
-    ensures { λ r. ⌜ r ≡ not (isCalendarMinute (pos minute +ℤ number (signed negative offset))) ⌝ }
+    requires { is_calendar_minute (pos minute) ≡ true }
+    ensures { result ≡ not (is_calendar_minute (pos minute +ℤ number (signed negative offset))) }
 {
     if negative {
         return minute - FIRST < offset;
@@ -41,8 +37,8 @@ fn is_marked(
     minute: u64,
     second: u64,
 ) -> bool
-    requires { ⌜ areFields (take count (year ∷ month ∷ day ∷ hour ∷ minute ∷ second ∷ [])) ≡ true ⌝ }
-    ensures { λ r. ⌜ r ≡ outOfCalendar (offsetOf (signed negative offset)) (take count (year ∷ month ∷ day ∷ hour ∷ minute ∷ second ∷ [])) ⌝ }
+    requires { are_fields (take count (year ∷ month ∷ day ∷ hour ∷ minute ∷ second ∷ [])) ≡ true }
+    ensures { result ≡ out_of_calendar (offset_of (signed negative offset)) (take count (year ∷ month ∷ day ∷ hour ∷ minute ∷ second ∷ [])) }
 {
     if (year < 1) | (9999 < year) {
         return true;
@@ -62,7 +58,7 @@ fn is_marked(
 
 // A body that does not read has no mark.
 pub fn timestamp(body: &[u8]) -> Shown
-    ensures { λ r. ⌜ r ≡ shownIn (now (body .entry)) ⌝ }
+    ensures { result ≡ shown_in body.now }
 {
     let timestamp = read_timestamp::timestamp(body);
     let Timestamp::Is {
@@ -86,15 +82,7 @@ pub fn timestamp(body: &[u8]) -> Shown
         };
     };
     let marked = is_marked(
-        negative,
-        offset,
-        count,
-        year,
-        month,
-        day,
-        hour,
-        minute,
-        second,
+        negative, offset, count, year, month, day, hour, minute, second,
     );
     Shown { timestamp, marked }
 }

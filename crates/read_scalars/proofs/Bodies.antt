@@ -1,100 +1,100 @@
 -- A body's answer is a scalar exactly where the grammar has one.
 -- Assumes nothing.
-use Prim.Native.Nat.{ℕ, zero, suc, _^_}
+use Prim.Native.Nat.{ℕ, zero, suc, ◌^◌}
 use native.Mathlib.Omega.{arith}
-use mathlib.Core.Path.{_≡_, refl}
-use mathlib.Core.Bool.{Bool, true, false, cond, _||_, not}
-use mathlib.Core.List.{List, [], _∷_}
+use mathlib.Core.Path.{◌≡◌, refl}
+use mathlib.Core.Bool.{Bool, true, false, cond, ◌||◌, not}
+use mathlib.Core.List.{List, [], ◌∷◌}
 use mathlib.Core.Option.{Option, none, some}
 use lib.Dec.{ltb, eqb}
 use lib.Ieee.{binary32, binary64}
 use lib.ListN.{length}
-use borrow.Author.Tests.{ne-eqb, le-ltb}
-use Rattle·ion.specs.Value as Ion
-use Rattle·ion.specs.Value.{Signed, signed, Scalar}
-use Rattle·ion.specs.Chain.{_>>=_, check}
-use Rattle·ion.specs.Fields.{uint, intField, varUInts, varInt, number}
-use Rattle·ion.specs.Scalars.{intOf, floatOf, decimalOf, offsetOf, areFields, fractionOf, fractionAt, timestampOf}
-use Rattle·reading.specs.declared.Refusal.the-variants.{NotIon}
-use Rattle·reading.specs.declared.Symbol.the-variants as Y
-use Rattle·reading.specs.declared.Timestamp.the-variants as T
-use Rattle·reading.specs.Bodies.{decimalFrom, decimalIn, fractioned, exponentFrom, fractionFrom, fieldsFrom, offsetFrom, timestampIn, symbolIn}
-use Rattle·reading.specs.Scalars.{boolOf, floatIn, isSome}
-use Rattle·read_timestamp.proofs.Coefficients.{checked, suc-not-zero}
-use Rattle·read_scalars·specs.specs.Answers.{isDecimal, isTimestamp, isSymbol}
+use borrow.Author.Tests.{ne_eqb, le-ltb}
+use Rattle.ion.specs.Value as Ion
+use Rattle.ion.specs.Value.{Signed, signed, Scalar}
+use Rattle.ion.specs.Chain.{◌>>=◌, check}
+use Rattle.ion.specs.Fields.{uint, int_field, var_uints, var_int, number}
+use Rattle.ion.specs.Scalars.{int_of, float_of, decimal_of, offset_of, are_fields, fraction_of, fraction_at, timestamp_of}
+use Rattle.reading.specs.declared.Refusal.TheVariants.{NotIon}
+use Rattle.reading.specs.declared.Symbol.TheVariants as Y
+use Rattle.reading.specs.declared.Timestamp.TheVariants as T
+use Rattle.reading.specs.Bodies.{decimal_from, decimal_in, fractioned, exponent_from, fraction_from, fields_from, offset_from, timestamp_in, symbol_in}
+use Rattle.reading.specs.Scalars.{bool_of, float_in, is_some}
+use Rattle.read_timestamp.proofs.Coefficients.{checked, suc_not_zero}
+use Rattle.read_scalars.specs.Answers.{is_decimal, is_timestamp, is_symbol}
 
-pub bool-reads : (l : ℕ) → ltb l 2 ≡ isSome (boolOf l)
-bool-reads zero = refl
-bool-reads (suc zero) = refl
-bool-reads (suc (suc n)) =
-    rw (le-ltb (suc (suc n)) 2 (omega arith), suc-not-zero (suc n), ne-eqb (suc (suc n)) 1 (λ z. omega arith)) refl
+pub bool_reads : (l : ℕ) → ltb l 2 ≡ is_some (bool_of l)
+bool_reads zero = refl
+bool_reads (suc zero) = refl
+bool_reads (suc (suc n)) =
+    rw (le-ltb (suc (suc n)) 2 (omega arith), suc_not_zero (suc n), ne_eqb (suc (suc n)) 1 (λ z. omega arith)) refl
 
-pub negative-reads : (n : ℕ) → not (eqb n 0) ≡ isSome (intOf (signed true n))
-negative-reads zero = refl
-negative-reads (suc n) = rw (suc-not-zero n) refl
+pub negative_reads : (n : ℕ) → not (eqb n 0) ≡ is_some (int_of (signed true n))
+negative_reads zero = refl
+negative_reads (suc n) = rw (suc_not_zero n) refl
 
-pub float-reads : (b : List ℕ) → (eqb (length b) 0 || (eqb (length b) 4 || eqb (length b) 8)) ≡ isSome (floatIn b)
-float-reads b =
+pub float_reads : (b : List ℕ) → (eqb (length b) 0 || (eqb (length b) 4 || eqb (length b) 8)) ≡ is_some (float_in b)
+float_reads b =
     go (eqb (length b) 0) (eqb (length b) 4) (eqb (length b) 8)
-    (Ion.float (Ion.finite false 0)) (Ion.float (floatOf binary32 (uint b))) (Ion.float (floatOf binary64 (uint b)))
+    (Ion.float (Ion.finite false 0)) (Ion.float (float_of binary32 (uint b))) (Ion.float (float_of binary64 (uint b)))
   where
-    go : (p q r : Bool) (x y z : Scalar) → (p || (q || r)) ≡ isSome (cond p (some x) (cond q (some y) (cond r (some z) none)))
+    go : (p q r : Bool) (x y z : Scalar) → (p || (q || r)) ≡ is_some (cond p (some x) (cond q (some y) (cond r (some z) none)))
     go true q r x y z = refl
     go false true r x y z = refl
     go false false true x y z = refl
     go false false false x y z = refl
 
-pub decimal-is-read : (b : List ℕ) → isDecimal (decimalIn b) ≡ isSome (decimalOf b)
-unfolding decimalIn decimalOf
-decimal-is-read [] = refl
-decimal-is-read (x ∷ xs) = go (varInt (x ∷ xs))
+pub decimal_is_read : (b : List ℕ) → is_decimal (decimal_in b) ≡ is_some (decimal_of b)
+unfolding decimal_in decimal_of
+decimal_is_read [] = refl
+decimal_is_read (x ∷ xs) = go (var_int (x ∷ xs))
   where
-    go : (o : Option (Signed × List ℕ)) → isDecimal (decimalFrom (length (x ∷ xs)) o) ≡ isSome (o >>= λ e. some (Ion.decimal (intField (e .1)) (number (e .0))))
+    go : (o : Option (Signed × List ℕ)) → is_decimal (decimal_from (length (x ∷ xs)) o) ≡ is_some (o >>= λ e. some (Ion.decimal (int_field e.1) (number e.0)))
     go none = refl
     go (some e) = refl
 
-pub symbol-is-read : (b : List ℕ) → isSymbol (symbolIn b) ≡ isSome (check (ltb (uint b) (2 ^ 64)) (some (Ion.symbol (uint b))))
-unfolding symbolIn
-symbol-is-read b = go (ltb (uint b) (2 ^ 64))
+pub symbol_is_read : (b : List ℕ) → is_symbol (symbol_in b) ≡ is_some (check (ltb (uint b) (2 ^ 64)) (some (Ion.symbol (uint b))))
+unfolding symbol_in
+symbol_is_read b = go (ltb (uint b) (2 ^ 64))
   where
-    go : (t : Bool) → isSymbol (cond t (Y.Is (uint b)) (Y.No NotIon)) ≡ isSome (check t (some (Ion.symbol (uint b))))
+    go : (t : Bool) → is_symbol (cond t (Y.Is (uint b)) (Y.No NotIon)) ≡ is_some (check t (some (Ion.symbol (uint b))))
     go true = refl
     go false = refl
 
 -- ---- timestamps
 
-fraction-reads : (size : ℕ) (o : Signed) (f l : List ℕ) (g : Ion.Fraction → Scalar)
-    → isTimestamp (fractionFrom size o f l) ≡ isSome (fractionAt l >>= λ x. some (g x))
-unfolding fractionAt
-fraction-reads size o f [] g = refl
-fraction-reads size o f (b ∷ bs) g = exponent (varInt (b ∷ bs))
+fraction_reads : (size : ℕ) (o : Signed) (f l : List ℕ) (g : Ion.Fraction → Scalar)
+    → is_timestamp (fraction_from size o f l) ≡ is_some (fraction_at l >>= λ x. some (g x))
+unfolding fraction_at
+fraction_reads size o f [] g = refl
+fraction_reads size o f (b ∷ bs) g = exponent (var_int (b ∷ bs))
   where
-    digits : (n : ℕ) (x : Option Ion.Fraction) → isTimestamp (fractioned size o f n x) ≡ isSome (x >>= λ y. some (g y))
+    digits : (n : ℕ) (x : Option Ion.Fraction) → is_timestamp (fractioned size o f n x) ≡ is_some (x >>= λ y. some (g y))
     digits n none = refl
-    digits n (some Ion.noFraction) = refl
+    digits n (some Ion.no_fraction) = refl
     digits n (some (Ion.fraction k c)) = refl
 
     exponent : (e : Option (Signed × List ℕ))
-        → isTimestamp (exponentFrom size o f e) ≡ isSome ((e >>= λ y. fractionOf (y .0) (intField (y .1))) >>= λ x. some (g x))
+        → is_timestamp (exponent_from size o f e) ≡ is_some ((e >>= λ y. fraction_of y.0 (int_field y.1)) >>= λ x. some (g x))
     exponent none = refl
-    exponent (some e) = digits (length (e .1)) (fractionOf (e .0) (intField (e .1)))
+    exponent (some e) = digits (length e.1) (fraction_of e.0 (int_field e.1))
 
-fields-read : (size : ℕ) (o : Signed) (fs : Option (List ℕ × List ℕ)) →
-    isTimestamp (fieldsFrom size o fs) ≡ isSome (fs >>= λ f. check (areFields (f .0)) (fractionAt (f .1) >>= λ x. some (Ion.timestamp (offsetOf o) (f .0) x)))
-fields-read size o none = refl
-fields-read size o (some f) = go (areFields (f .0))
+fields_read : (size : ℕ) (o : Signed) (fs : Option (List ℕ × List ℕ)) →
+    is_timestamp (fields_from size o fs) ≡ is_some (fs >>= λ f. check (are_fields f.0) (fraction_at f.1 >>= λ x. some (Ion.timestamp (offset_of o) f.0 x)))
+fields_read size o none = refl
+fields_read size o (some f) = go (are_fields f.0)
   where
     go : (t : Bool)
-        → isTimestamp (cond t (fractionFrom size o (f .0) (f .1)) (T.No NotIon))
-        ≡ isSome (check t (fractionAt (f .1) >>= λ x. some (Ion.timestamp (offsetOf o) (f .0) x)))
-    go true = fraction-reads size o (f .0) (f .1) (λ x. Ion.timestamp (offsetOf o) (f .0) x)
+        → is_timestamp (cond t (fraction_from size o f.0 f.1) (T.No NotIon))
+        ≡ is_some (check t (fraction_at f.1 >>= λ x. some (Ion.timestamp (offset_of o) f.0 x)))
+    go true = fraction_reads size o f.0 f.1 (λ x. Ion.timestamp (offset_of o) f.0 x)
     go false = refl
 
-pub timestamp-is-read : (b : List ℕ) → isTimestamp (timestampIn b) ≡ isSome (timestampOf b)
-unfolding timestampIn timestampOf
-timestamp-is-read b = go (varInt b)
+pub timestamp_is_read : (b : List ℕ) → is_timestamp (timestamp_in b) ≡ is_some (timestamp_of b)
+unfolding timestamp_in timestamp_of
+timestamp_is_read b = go (var_int b)
   where
-    go : (o : Option (Signed × List ℕ)) → isTimestamp (offsetFrom (length b) o) ≡ isSome (o >>= λ o. varUInts 6 (o .1) >>= λ f.
-        check (areFields (f .0)) (fractionAt (f .1) >>= λ x. some (Ion.timestamp (offsetOf (o .0)) (f .0) x)))
+    go : (o : Option (Signed × List ℕ)) → is_timestamp (offset_from (length b) o) ≡ is_some (o >>= λ o. var_uints 6 o.1 >>= λ f.
+        check (are_fields f.0) (fraction_at f.1 >>= λ x. some (Ion.timestamp (offset_of o.0) f.0 x)))
     go none = refl
-    go (some o) = fields-read (length b) (o .0) (varUInts 6 (o .1))
+    go (some o) = fields_read (length b) o.0 (var_uints 6 o.1)

@@ -1,16 +1,12 @@
 // Whether a body reads as the scalar that its type byte says, for every type byte.
-use reading::Decimal;
-use reading::Symbol;
-use reading::Timestamp;
-ghost use mathlib.Core.Path.{_≡_};
-ghost use mathlib.Core.Bool.{_||_};
-ghost use Prim.Native.Nat.{ℕ};
-ghost use lib.Dec.{eqb};
-ghost use Rattle·reading.specs.Scalars.{isSome, scalarIn};
-ghost use Rattle·read_scalars·specs.specs.Answers.{isDecimal, isTimestamp, isSymbol};
+ghost use Rattle.std.specs.Prelude.{◌≡◌, ◌||◌, ℕ, eqb};
+ghost use Rattle.reading.specs.Scalars.{is_some, scalar_in};
+ghost use Rattle.read_scalars.specs.Answers.{is_decimal, is_timestamp, is_symbol};
+
+use reading::{Decimal, Symbol, Timestamp};
 
 fn is_decimal(d: Decimal) -> bool
-    ensures { λ r. ⌜ r ≡ isDecimal d ⌝ }
+    ensures { result ≡ is_decimal d }
 {
     match d {
         Decimal::Is {
@@ -23,7 +19,7 @@ fn is_decimal(d: Decimal) -> bool
 }
 
 fn is_timestamp(t: Timestamp) -> bool
-    ensures { λ r. ⌜ r ≡ isTimestamp t ⌝ }
+    ensures { result ≡ is_timestamp t }
 {
     let Timestamp::No(_) = t else {
         return true;
@@ -32,7 +28,7 @@ fn is_timestamp(t: Timestamp) -> bool
 }
 
 fn is_symbol(s: Symbol) -> bool
-    ensures { λ r. ⌜ r ≡ isSymbol s ⌝ }
+    ensures { result ≡ is_symbol s }
 {
     match s {
         Symbol::Is(_) => true,
@@ -42,14 +38,14 @@ fn is_symbol(s: Symbol) -> bool
 
 // "4: float": no bytes, a binary32 or a binary64.
 fn is_float_size(size: usize) -> bool
-    ensures { λ r. ⌜ r ≡ (eqb size 0 || (eqb size 4 || eqb size 8)) ⌝ }
+    ensures { result ≡ (eqb size 0 || (eqb size 4 || eqb size 8)) }
 {
     (size == 0) | ((size == 4) | (size == 8))
 }
 
 // Nulls have a type byte alone; pads, containers and wrappers are no scalars.
 pub fn reads(kind: u8, body: &[u8]) -> bool
-    ensures { λ r. ⌜ r ≡ isSome (scalarIn kind (now (body .entry))) ⌝ }
+    ensures { result ≡ is_some (scalar_in kind body.now) }
 {
     if kind % 16 == 15 {
         return kind / 16 < 14;

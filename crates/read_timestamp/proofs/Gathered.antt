@@ -1,58 +1,58 @@
 -- The fields of a timestamp, gathered one by one.
 -- Assumes nothing.
-use Prim.Native.Nat.{ℕ, zero, suc, _+_, _-_, _≤_, _<_}
+use Prim.Native.Nat.{ℕ, zero, suc, ◌+◌, ◌-◌, ◌≤◌, ◌<◌}
 use native.Mathlib.Omega.{arith}
-use mathlib.Core.Path.{_≡_, refl, sym, _∙_, ap, subst}
-use mathlib.Core.Bool.{false, _&&_}
-use mathlib.Core.List.{List, [], _∷_, _++_, append-assoc, append-nil}
-use mathlib.Core.Option.{Option, none, some, Option·none-ne-some, Option·some-injective}
+use mathlib.Core.Path.{◌≡◌, refl, sym, ◌∙◌, ap, subst}
+use mathlib.Core.Bool.{false, ◌&&◌}
+use mathlib.Core.List.{List, [], ◌∷◌, ◌++◌, append_assoc, append-nil}
+use mathlib.Core.Option.{Option, none, some, none-ne-some, some-injective}
 use lib.Dec.{ltb}
-use lib.ListN.{length, getD, set, take, drop, replicate, length-append, length-replicate, length-drop, drop-of-length-le}
-use lib.Seq.{set-at, drop-drop}
+use lib.ListN.{length, get_or, set, take, drop, replicate, length-append, length-replicate, length-drop, drop_of_length-le}
+use lib.Seq.{set_at, drop-drop}
 use borrow.Author.Tests.{lt-ltb, ltb-false}
-use Rattle·ion.specs.Chain.{_>>=_}
-use Rattle·ion.specs.Fields.{varUInt, varUInts}
-use Rattle·read_bodies.specs.Places.{numberIn, varUIntAt}
-use Rattle·read_bodies.proofs.VarFields.{FieldAt, behind, var-uint-is}
-use Rattle·read_timestamp·specs.specs.declared.Fields.the-variants as F
-use Rattle·read_timestamp·specs.specs.Parts.{fieldsIn, fieldsAt}
+use Rattle.ion.specs.Chain.{◌>>=◌}
+use Rattle.ion.specs.Fields.{var_uint, var_uints}
+use Rattle.read_bodies.specs.Places.{number_in, var_uint_at}
+use Rattle.read_bodies.proofs.VarFields.{FieldAt, behind, var_uint_is}
+use Rattle.read_timestamp.specs.declared.Fields.TheVariants as F
+use Rattle.read_timestamp.specs.Parts.{fields_in, fields_at}
 
 -- ---- one field of them
 
 -- these fields, then those of the answer
 abbrev continued : List ℕ → Option (List ℕ × List ℕ) → Option (List ℕ × List ℕ)
-continued fs o = o >>= λ y. some (fs ++ y .0, y .1)
+continued fs o = o >>= λ y. some (fs ++ y.0, y.1)
 
-continued-nil : (o : Option (List ℕ × List ℕ)) → o ≡ continued [] o
-continued-nil none = refl
-continued-nil (some y) = refl
+continued_nil : (o : Option (List ℕ × List ℕ)) → o ≡ continued [] o
+continued_nil none = refl
+continued_nil (some y) = refl
 
-continued-cons : (fs : List ℕ) (v : ℕ) (o : Option (List ℕ × List ℕ)) → continued fs (o >>= λ y. some (v ∷ y .0, y .1)) ≡ continued (fs ++ (v ∷ [])) o
-continued-cons fs v none = refl
-continued-cons fs v (some y) = ap (λ (l : List ℕ). some (l, y .1)) (sym (append-assoc fs (v ∷ []) (y .0)))
+continued_cons : (fs : List ℕ) (v : ℕ) (o : Option (List ℕ × List ℕ)) → continued fs (o >>= λ y. some (v ∷ y.0, y.1)) ≡ continued (fs ++ (v ∷ [])) o
+continued_cons fs v none = refl
+continued_cons fs v (some y) = ap (λ (l : List ℕ). some (l, y.1)) (sym (append_assoc fs (v ∷ []) y.0))
 
-next-field : (n : ℕ) (l : List ℕ) (v : ℕ) (r : List ℕ) → 0 < length l → varUInt l ≡ some (v, r)
-    → varUInts (suc n) l ≡ (varUInts n r >>= λ y. some (v ∷ y .0, y .1))
-unfolding varUInts
-next-field n [] v r h e = absurd (omega arith)
-next-field n (b ∷ bs) v r h e = rw (e) refl
+next_field : (n : ℕ) (l : List ℕ) (v : ℕ) (r : List ℕ) → 0 < length l → var_uint l ≡ some (v, r)
+    → var_uints (suc n) l ≡ (var_uints n r >>= λ y. some (v ∷ y.0, y.1))
+unfolding var_uints
+next_field n [] v r h e = absurd (omega arith)
+next_field n (b ∷ bs) v r h e = rw (e) refl
 
-no-field : (n : ℕ) (l : List ℕ) → 0 < length l → varUInt l ≡ none → varUInts (suc n) l ≡ none
-unfolding varUInts
-no-field n [] h e = absurd (omega arith)
-no-field n (b ∷ bs) h e = rw (e) refl
+no_field : (n : ℕ) (l : List ℕ) → 0 < length l → var_uint l ≡ none → var_uints (suc n) l ≡ none
+unfolding var_uints
+no_field n [] h e = absurd (omega arith)
+no_field n (b ∷ bs) h e = rw (e) refl
 
 -- ---- the array holds the fields so far, and zeros
 
-getD-zeros : (n k : ℕ) → getD (replicate {A = ℕ} n 0) k 0 ≡ 0
-getD-zeros zero k = refl
-getD-zeros (suc n) zero = refl
-getD-zeros (suc n) (suc k) = getD-zeros n k
+get_d_zeros : (n k : ℕ) → get_or (replicate {A = ℕ} n 0) k 0 ≡ 0
+get_d_zeros zero k = refl
+get_d_zeros (suc n) zero = refl
+get_d_zeros (suc n) (suc k) = get_d_zeros n k
 
-getD-before-zeros : (fs : List ℕ) (n k : ℕ) → getD (fs ++ replicate n 0) k 0 ≡ getD fs k 0
-getD-before-zeros [] n k = getD-zeros n k
-getD-before-zeros (x ∷ fs) n zero = refl
-getD-before-zeros (x ∷ fs) n (suc k) = getD-before-zeros fs n k
+get_d_before-zeros : (fs : List ℕ) (n k : ℕ) → get_or (fs ++ replicate n 0) k 0 ≡ get_or fs k 0
+get_d_before-zeros [] n k = get_d_zeros n k
+get_d_before-zeros (x ∷ fs) n zero = refl
+get_d_before-zeros (x ∷ fs) n (suc k) = get_d_before-zeros fs n k
 
 pub record Gathered (s : List ℕ) (at : ℕ) (f : List ℕ) (count i : ℕ) : Type 0 where
   pub fields : List ℕ
@@ -61,78 +61,78 @@ pub record Gathered (s : List ℕ) (at : ℕ) (f : List ℕ) (count i : ℕ) : T
   pub sum : count + left ≡ 6
   pub stored : f ≡ fields ++ replicate left 0
   pub within : i ≤ length s
-  pub rest : varUInts 6 (drop at s) ≡ continued fields (varUInts left (drop i s))
+  pub rest : var_uints 6 (drop at s) ≡ continued fields (var_uints left (drop i s))
 
-pub gathered-none : (s : List ℕ) (at : ℕ) → at ≤ length s → Gathered s at (replicate 6 0) 0 at
-gathered-none s at h =
-    record { fields = []; left = 6; many = refl; sum = refl; stored = refl; within = h; rest = continued-nil (varUInts 6 (drop at s)) }
+pub gathered_none : (s : List ℕ) (at : ℕ) → at ≤ length s → Gathered s at (replicate 6 0) 0 at
+gathered_none s at h =
+    record { fields = []; left = 6; many = refl; sum = refl; stored = refl; within = h; rest = continued_nil (var_uints 6 (drop at s)) }
 
 module _ (s : List ℕ) (at : ℕ) (f : List ℕ) (count i : ℕ) (w : Gathered s at f count i) where
-  bytes-left : i < length s → 0 < length (drop i s)
-  bytes-left h = rw (length-drop i s) (omega arith)
+  bytes_left : i < length s → 0 < length (drop i s)
+  bytes_left h = rw (length-drop i s) (omega arith)
 
   module _ (few : count < 6) (inside : i < length s) where
-    pub gathered-more : (v next : ℕ) → FieldAt s i (varUInt (drop i s)) v next → Gathered s at (set f count v) (count + 1) next
-    gathered-more v next x = go (w .left) (w .sum) (w .stored) (w .rest)
+    pub gathered_more : (v next : ℕ) → FieldAt s i (var_uint (drop i s)) v next → Gathered s at (set f count v) (count + 1) next
+    gathered_more v next x = go w.left w.sum w.stored w.rest
       where
-        go : (n : ℕ) → count + n ≡ 6 → f ≡ w .fields ++ replicate n 0 → varUInts 6 (drop at s) ≡ continued (w .fields) (varUInts n (drop i s)) →
+        go : (n : ℕ) → count + n ≡ 6 → f ≡ w.fields ++ replicate n 0 → var_uints 6 (drop at s) ≡ continued w.fields (var_uints n (drop i s)) →
             Gathered s at (set f count v) (count + 1) next
         go zero e p q = absurd (omega arith)
         go (suc n) e p q =
             record {
-              fields = w .fields ++ (v ∷ []);
+              fields = w.fields ++ (v ∷ []);
               left = n;
-              many = length-append (w .fields) (v ∷ []) ∙ ap (λ (k : ℕ). k + 1) (w .many);
+              many = length-append w.fields (v ∷ []) ∙ ap (λ (k : ℕ). k + 1) w.many;
               sum = omega arith;
               stored =
-                  ap (λ (l : List ℕ). set l count v) p ∙ set-at (w .fields) 0 (replicate n 0) v count (w .many)
-                  ∙ sym (append-assoc (w .fields) (v ∷ []) (replicate n 0));
-              within = x .within;
+                  ap (λ (l : List ℕ). set l count v) p ∙ set_at w.fields 0 (replicate n 0) v count w.many
+                  ∙ sym (append_assoc w.fields (v ∷ []) (replicate n 0));
+              within = x.within;
               rest =
-                  q ∙ ap (continued (w .fields)) (next-field n (drop i s) v (drop next s) (bytes-left inside) (x .is))
-                  ∙ continued-cons (w .fields) v (varUInts n (drop next s));
+                  q ∙ ap (continued w.fields) (next_field n (drop i s) v (drop next s) (bytes_left inside) x.is)
+                  ∙ continued_cons w.fields v (var_uints n (drop next s));
             }
 
-    pub gathered-no : varUInt (drop i s) ≡ none → F.No ≡ fieldsAt s at
-    unfolding fieldsAt
-    gathered-no x = go (w .left) (w .sum) (w .rest)
+    pub gathered_no : var_uint (drop i s) ≡ none → F.No ≡ fields_at s at
+    unfolding fields_at
+    gathered_no x = go w.left w.sum w.rest
       where
-        go : (n : ℕ) → count + n ≡ 6 → varUInts 6 (drop at s) ≡ continued (w .fields) (varUInts n (drop i s))
-            → F.No ≡ fieldsIn (length s) (varUInts 6 (drop at s))
+        go : (n : ℕ) → count + n ≡ 6 → var_uints 6 (drop at s) ≡ continued w.fields (var_uints n (drop i s))
+            → F.No ≡ fields_in (length s) (var_uints 6 (drop at s))
         go zero e q = absurd (omega arith)
-        go (suc n) e q = rw (q, no-field n (drop i s) (bytes-left inside) x) refl
+        go (suc n) e q = rw (q, no_field n (drop i s) (bytes_left inside) x) refl
 
   module _ (ended : (ltb count 6 && ltb i (length s)) ≡ false) where
-    gathered-rest : varUInts 6 (drop at s) ≡ some (w .fields, drop i s)
-    unfolding varUInts
-    gathered-rest = go (w .left) (w .sum) (w .rest)
+    gathered_rest : var_uints 6 (drop at s) ≡ some (w.fields, drop i s)
+    unfolding var_uints
+    gathered_rest = go w.left w.sum w.rest
       where
         out : count < 6 → length s ≤ i
         out h = ltb-false i (length s) (rw (lt-ltb count 6 h) at ended)
 
-        go : (n : ℕ) → count + n ≡ 6 → varUInts 6 (drop at s) ≡ continued (w .fields) (varUInts n (drop i s))
-            → varUInts 6 (drop at s) ≡ some (w .fields, drop i s)
-        go zero e q = q ∙ ap (λ (l : List ℕ). some (l, drop i s)) (append-nil (w .fields))
+        go : (n : ℕ) → count + n ≡ 6 → var_uints 6 (drop at s) ≡ continued w.fields (var_uints n (drop i s))
+            → var_uints 6 (drop at s) ≡ some (w.fields, drop i s)
+        go zero e q = q ∙ ap (λ (l : List ℕ). some (l, drop i s)) (append-nil w.fields)
         go (suc n) e q =
-            let d : drop i s ≡ [] = drop-of-length-le s {i = i} (out (omega arith)) in
-            rw (d) (rw (d, append-nil (w .fields)) at q)
+            let d : drop i s ≡ [] = drop_of_length-le s {i = i} (out (omega arith)) in
+            rw (d) (rw (d, append-nil w.fields) at q)
 
-    getD-gathered : (k : ℕ) → getD f k 0 ≡ getD (w .fields) k 0
-    getD-gathered k = ap (λ (l : List ℕ). getD l k 0) (w .stored) ∙ getD-before-zeros (w .fields) (w .left) k
+    get_d_gathered : (k : ℕ) → get_or f k 0 ≡ get_or w.fields k 0
+    get_d_gathered k = ap (λ (l : List ℕ). get_or l k 0) w.stored ∙ get_d_before-zeros w.fields w.left k
 
-    pub gathered-all : F.Are count (getD f 0 0) (getD f 1 0) (getD f 2 0) (getD f 3 0) (getD f 4 0) (getD f 5 0) i ≡ fieldsAt s at
-    unfolding fieldsAt
-    gathered-all =
+    pub gathered_all : F.Are count (get_or f 0 0) (get_or f 1 0) (get_or f 2 0) (get_or f 3 0) (get_or f 4 0) (get_or f 5 0) i ≡ fields_at s at
+    unfolding fields_at
+    gathered_all =
         rw (
-          gathered-rest,
-          w .many,
-          behind s i (w .within),
-          getD-gathered 0,
-          getD-gathered 1,
-          getD-gathered 2,
-          getD-gathered 3,
-          getD-gathered 4,
-          getD-gathered 5,
+          gathered_rest,
+          w.many,
+          behind s i w.within,
+          get_d_gathered 0,
+          get_d_gathered 1,
+          get_d_gathered 2,
+          get_d_gathered 3,
+          get_d_gathered 4,
+          get_d_gathered 5,
         ) refl
 
 -- ---- what the fields told of the body say of the bytes
@@ -145,97 +145,97 @@ record Suffix (l rest : List ℕ) : Type 0 where
 
 later : (l r t : List ℕ) → Suffix l r → Suffix r t → Suffix l t
 later l r t a b =
-    let k : length r ≡ length l - a .count = ap length (a .is) ∙ length-drop (a .count) l in
+    let k : length r ≡ length l - a.count = ap length a.is ∙ length-drop a.count l in
     record {
-      count = a .count + b .count;
-      most = omega (arith, k, a .most, b .most);
-      is = b .is ∙ ap (drop (b .count)) (a .is) ∙ drop-drop (b .count) (a .count) l;
+      count = a.count + b.count;
+      most = omega (arith, k, a.most, b.most);
+      is = b.is ∙ ap (drop b.count) a.is ∙ drop-drop b.count a.count l;
     }
 
-one-behind : (l : List ℕ) (v : ℕ × List ℕ) → varUInt l ≡ some v → Suffix l (v .1)
-unfolding varUIntAt
-one-behind l v e =
-    let x = var-uint-is l 0 (v .0) (length l - length (v .1)) (ap (numberIn (length l)) e) in
-    let q : v ≡ (v .0, drop (length l - length (v .1)) l) = Option·some-injective v (v .0, drop (length l - length (v .1)) l) (sym e ∙ x .is) in
-    record { count = length l - length (v .1); most = omega arith; is = ap (λ (y : ℕ × List ℕ). y .1) q }
+one_behind : (l : List ℕ) (v : ℕ × List ℕ) → var_uint l ≡ some v → Suffix l v.1
+unfolding var_uint_at
+one_behind l v e =
+    let x = var_uint_is l 0 v.0 (length l - length v.1) (ap (number_in (length l)) e) in
+    let q : v ≡ (v.0, drop (length l - length v.1) l) = some-injective v (v.0, drop (length l - length v.1) l) (sym e ∙ x.is) in
+    record { count = length l - length v.1; most = omega arith; is = ap (λ (y : ℕ × List ℕ). y.1) q }
 
 -- the bytes behind the fields, and how many fields there are
 record Taken (n : ℕ) (l : List ℕ) (x : List ℕ × List ℕ) : Type 0 where
-  behind : Suffix l (x .1)
-  few : length (x .0) ≤ n
+  behind : Suffix l x.1
+  few : length x.0 ≤ n
 
-fields-taken : (n : ℕ) (l : List ℕ) (x : List ℕ × List ℕ) → varUInts n l ≡ some x → Taken n l x
-unfolding varUInts
+fields-taken : (n : ℕ) (l : List ℕ) (x : List ℕ × List ℕ) → var_uints n l ≡ some x → Taken n l x
+unfolding var_uints
 fields-taken zero l x e =
-    let q : ([], l) ≡ x = Option·some-injective ([], l) x e in
+    let q : ([], l) ≡ x = some-injective ([], l) x e in
     subst (λ (y : List ℕ × List ℕ). Taken zero l y) q (record { behind = record { count = 0; most = omega arith; is = refl }; few = omega arith })
 fields-taken (suc n) [] x e =
-    let q : ([], []) ≡ x = Option·some-injective ([], []) x e in
+    let q : ([], []) ≡ x = some-injective ([], []) x e in
     subst (λ (y : List ℕ × List ℕ). Taken (suc n) [] y) q (record { behind = record { count = 0; most = omega arith; is = refl }; few = omega arith })
-fields-taken (suc n) (b ∷ bs) x e = go (varUInt (b ∷ bs)) refl e (λ l y q. fields-taken n l y q)
+fields-taken (suc n) (b ∷ bs) x e = go (var_uint (b ∷ bs)) refl e (λ l y q. fields-taken n l y q)
   where
-    more : (v : ℕ × List ℕ) → Suffix (b ∷ bs) (v .1) → (o : Option (List ℕ × List ℕ)) → ((y : List ℕ × List ℕ) → o ≡ some y → Taken n (v .1) y) →
-        (o >>= λ y. some (v .0 ∷ y .0, y .1)) ≡ some x → Taken (suc n) (b ∷ bs) x
-    more v u none k e = absurd (Option·none-ne-some x e)
+    more : (v : ℕ × List ℕ) → Suffix (b ∷ bs) v.1 → (o : Option (List ℕ × List ℕ)) → ((y : List ℕ × List ℕ) → o ≡ some y → Taken n v.1 y) →
+        (o >>= λ y. some (v.0 ∷ y.0, y.1)) ≡ some x → Taken (suc n) (b ∷ bs) x
+    more v u none k e = absurd (none-ne-some x e)
     more v u (some y) k e =
         let t = k y refl in
-        let q : (v .0 ∷ y .0, y .1) ≡ x = Option·some-injective (v .0 ∷ y .0, y .1) x e in
+        let q : (v.0 ∷ y.0, y.1) ≡ x = some-injective (v.0 ∷ y.0, y.1) x e in
         subst (λ (z : List ℕ × List ℕ). Taken (suc n) (b ∷ bs) z) q
-        (record { behind = later (b ∷ bs) (v .1) (y .1) u (t .behind); few = omega (arith, t .few) })
+        (record { behind = later (b ∷ bs) v.1 y.1 u t.behind; few = omega (arith, t.few) })
 
-    go : (o : Option (ℕ × List ℕ)) → varUInt (b ∷ bs) ≡ o → (o >>= λ v. varUInts n (v .1) >>= λ y. some (v .0 ∷ y .0, y .1)) ≡ some x →
-        ((l : List ℕ) (y : List ℕ × List ℕ) → varUInts n l ≡ some y → Taken n l y) → Taken (suc n) (b ∷ bs) x
-    go none q e k = absurd (Option·none-ne-some x e)
-    go (some v) q e k = more v (one-behind (b ∷ bs) v q) (varUInts n (v .1)) (k (v .1)) e
+    go : (o : Option (ℕ × List ℕ)) → var_uint (b ∷ bs) ≡ o → (o >>= λ v. var_uints n v.1 >>= λ y. some (v.0 ∷ y.0, y.1)) ≡ some x →
+        ((l : List ℕ) (y : List ℕ × List ℕ) → var_uints n l ≡ some y → Taken n l y) → Taken (suc n) (b ∷ bs) x
+    go none q e k = absurd (none-ne-some x e)
+    go (some v) q e k = more v (one_behind (b ∷ bs) v q) (var_uints n v.1) (k v.1) e
 
 -- a list of at most six, by its places
-six-places : (fs : List ℕ) → length fs ≤ 6 →
-    take (length fs) (getD fs 0 0 ∷ getD fs 1 0 ∷ getD fs 2 0 ∷ getD fs 3 0 ∷ getD fs 4 0 ∷ getD fs 5 0 ∷ []) ≡ fs
-six-places [] k = refl
-six-places (y ∷ []) k = refl
-six-places (y ∷ m ∷ []) k = refl
-six-places (y ∷ m ∷ d ∷ []) k = refl
-six-places (y ∷ m ∷ d ∷ h ∷ []) k = refl
-six-places (y ∷ m ∷ d ∷ h ∷ i ∷ []) k = refl
-six-places (y ∷ m ∷ d ∷ h ∷ i ∷ s ∷ []) k = refl
-six-places (y ∷ m ∷ d ∷ h ∷ i ∷ s ∷ x ∷ r) k = absurd (omega arith)
+six_places : (fs : List ℕ) → length fs ≤ 6 →
+    take (length fs) (get_or fs 0 0 ∷ get_or fs 1 0 ∷ get_or fs 2 0 ∷ get_or fs 3 0 ∷ get_or fs 4 0 ∷ get_or fs 5 0 ∷ []) ≡ fs
+six_places [] k = refl
+six_places (y ∷ []) k = refl
+six_places (y ∷ m ∷ []) k = refl
+six_places (y ∷ m ∷ d ∷ []) k = refl
+six_places (y ∷ m ∷ d ∷ h ∷ []) k = refl
+six_places (y ∷ m ∷ d ∷ h ∷ i ∷ []) k = refl
+six_places (y ∷ m ∷ d ∷ h ∷ i ∷ s ∷ []) k = refl
+six_places (y ∷ m ∷ d ∷ h ∷ i ∷ s ∷ x ∷ r) k = absurd (omega arith)
 
 pub record FieldsAre (s : List ℕ) (at count y m d h i sec next : ℕ) : Type 0 where
   pub fields : List ℕ
-  pub is : varUInts 6 (drop at s) ≡ some (fields, drop next s)
+  pub is : var_uints 6 (drop at s) ≡ some (fields, drop next s)
   pub within : next ≤ length s
   pub most : count ≤ 6
   pub listed : take count (y ∷ m ∷ d ∷ h ∷ i ∷ sec ∷ []) ≡ fields
   pub places : F.Are count y m d h i sec next
-      ≡ F.Are (length fields) (getD fields 0 0) (getD fields 1 0) (getD fields 2 0) (getD fields 3 0) (getD fields 4 0) (getD fields 5 0) next
+      ≡ F.Are (length fields) (get_or fields 0 0) (get_or fields 1 0) (get_or fields 2 0) (get_or fields 3 0) (get_or fields 4 0) (get_or fields 5 0) next
 
-pub fields-are : (s : List ℕ) (at count y m d h i sec next : ℕ) → at ≤ length s → fieldsAt s at ≡ F.Are count y m d h i sec next
+pub fields_are : (s : List ℕ) (at count y m d h i sec next : ℕ) → at ≤ length s → fields_at s at ≡ F.Are count y m d h i sec next
     → FieldsAre s at count y m d h i sec next
-unfolding fieldsAt
-fields-are s at count y m d h i sec next inside e = go (varUInts 6 (drop at s)) refl e
+unfolding fields_at
+fields_are s at count y m d h i sec next inside e = go (var_uints 6 (drop at s)) refl e
   where
-    go : (o : Option (List ℕ × List ℕ)) → varUInts 6 (drop at s) ≡ o → fieldsIn (length s) o ≡ F.Are count y m d h i sec next
+    go : (o : Option (List ℕ × List ℕ)) → var_uints 6 (drop at s) ≡ o → fields_in (length s) o ≡ F.Are count y m d h i sec next
         → FieldsAre s at count y m d h i sec next
-    go none q e = let z : _≡_ {A = ℕ} 0 1 = cc in absurd (omega arith)
+    go none q e = let z : ◌≡◌ {A = ℕ} 0 1 = cc in absurd (omega arith)
     go (some x) q e =
         let t = fields-taken 6 (drop at s) x q in
-        let u = t .behind in
+        let u = t.behind in
         let n : length (drop at s) ≡ length s - at = length-drop at s in
-        let r : x .1 ≡ drop (at + u .count) s = u .is ∙ drop-drop (u .count) at s in
-        let p : length s - length (x .1) ≡ at + u .count = ap (λ (l : List ℕ). length s - length l) r ∙ behind s (at + u .count) (omega (arith, u .most, n)) in
-        let k : length s - length (x .1) ≡ next = cc in
-        let c : length (x .0) ≡ count = cc in
-        let y≡ : getD (x .0) 0 0 ≡ y = cc in
-        let m≡ : getD (x .0) 1 0 ≡ m = cc in
-        let d≡ : getD (x .0) 2 0 ≡ d = cc in
-        let h≡ : getD (x .0) 3 0 ≡ h = cc in
-        let i≡ : getD (x .0) 4 0 ≡ i = cc in
-        let s≡ : getD (x .0) 5 0 ≡ sec = cc in
+        let r : x.1 ≡ drop (at + u.count) s = u.is ∙ drop-drop u.count at s in
+        let p : length s - length x.1 ≡ at + u.count = ap (λ (l : List ℕ). length s - length l) r ∙ behind s (at + u.count) (omega (arith, u.most, n)) in
+        let k : length s - length x.1 ≡ next = cc in
+        let c : length x.0 ≡ count = cc in
+        let y≡ : get_or x.0 0 0 ≡ y = cc in
+        let m≡ : get_or x.0 1 0 ≡ m = cc in
+        let d≡ : get_or x.0 2 0 ≡ d = cc in
+        let h≡ : get_or x.0 3 0 ≡ h = cc in
+        let i≡ : get_or x.0 4 0 ≡ i = cc in
+        let s≡ : get_or x.0 5 0 ≡ sec = cc in
         record {
-          fields = x .0;
-          is = q ∙ ap (λ (l : List ℕ). some (x .0, l)) (r ∙ ap (λ (j : ℕ). drop j s) (sym p ∙ k));
+          fields = x.0;
+          is = q ∙ ap (λ (l : List ℕ). some (x.0, l)) (r ∙ ap (λ (j : ℕ). drop j s) (sym p ∙ k));
           within = omega (arith, k);
-          most = omega (arith, c, t .few);
-          listed = rw (← c, ← y≡, ← m≡, ← d≡, ← h≡, ← i≡, ← s≡) (six-places (x .0) (t .few));
+          most = omega (arith, c, t.few);
+          listed = rw (← c, ← y≡, ← m≡, ← d≡, ← h≡, ← i≡, ← s≡) (six_places x.0 t.few);
           places = rw (c, y≡, m≡, d≡, h≡, i≡, s≡) refl;
         }

@@ -1,23 +1,18 @@
 // A timestamp's body: offset, UTC fields and seconds fraction.
+ghost use Rattle.std.specs.Prelude.{◌≡◌, ◌&&◌, List, [], ◌∷◌, ℕ, ◌≤◌, eqb, length, take, drop};
+ghost use Rattle.ion.specs.Value.{signed};
+ghost use Rattle.ion.specs.Fields.{int_field};
+ghost use Rattle.ion.specs.Calendar.{is_day};
+ghost use Rattle.ion.specs.Scalars.{is_year, are_fields, fraction_of};
+ghost use Rattle.reading.specs.Scalars.{is_some};
+ghost use Rattle.reading.specs.Bodies.{is_negative, magnitude, timestamp_in};
+ghost use Rattle.read_timestamp.specs.Parts.{fields_at, fraction_at};
+
 use read_bodies::VarInt;
-use reading::Number;
-use reading::Refusal;
-use reading::Timestamp;
-ghost use mathlib.Core.Path.{_≡_};
-ghost use mathlib.Core.Bool.{_&&_};
-ghost use mathlib.Core.List.{List, [], _∷_};
-ghost use Prim.Native.Nat.{ℕ, _≤_};
-ghost use lib.Dec.{eqb};
-ghost use lib.ListN.{length, take, drop};
-ghost use Rattle·ion.specs.Value.{signed};
-ghost use Rattle·ion.specs.Fields.{intField};
-ghost use Rattle·ion.specs.Calendar.{isDay};
-ghost use Rattle·ion.specs.Scalars.{isYear, areFields, fractionOf};
-ghost use Rattle·reading.specs.Scalars.{isSome};
-ghost use Rattle·reading.specs.Bodies.{isNegative, magnitude, timestampIn};
-ghost use Rattle·read_timestamp·specs.specs.Parts.{fieldsAt, fractionAt};
+use reading::{Number, Refusal, Timestamp};
 
 // How many fields there are, the fields, 0 where there is none, and the place behind them.
+#[derive(Drop)]
 enum Fields {
     Are {
         count: u8,
@@ -33,6 +28,7 @@ enum Fields {
 }
 
 // How many digits the fraction has, 0 where there is none, and where their coefficient starts.
+#[derive(Drop)]
 enum Fraction {
     Is { digits: u64, coefficient: usize },
     No,
@@ -44,8 +40,8 @@ const MOST_FIELDS: usize = 6;
 
 // At most six VarUInts, as many as there are bytes for.
 fn fields_at(body: &[u8], at: usize) -> Fields
-    requires { ⌜ at ≤ length (now body) ⌝ }
-    ensures { λ r. ⌜ r ≡ fieldsAt (now (body .entry)) at ⌝ }
+    requires { at ≤ length body.now }
+    ensures { result ≡ fields_at body.now at }
 {
     let mut f = [0u64; 6];
     let mut count = 0;
@@ -73,7 +69,7 @@ fn fields_at(body: &[u8], at: usize) -> Fields
 
 // A year from 0 to 10000, and a day of the calendar.
 fn is_date(year: u64, month: u64, day: u64) -> bool
-    ensures { λ r. ⌜ r ≡ (isYear year && isDay year month day) ⌝ }
+    ensures { result ≡ (is_year year && is_day year month day) }
 {
     if (10000 < year) | (12 < month) {
         return false;
@@ -92,8 +88,8 @@ fn are_fields(
     minute: u64,
     second: u64,
 ) -> bool
-    requires { ⌜ count ≤ 6 ⌝ }
-    ensures { λ r. ⌜ r ≡ areFields (take count (year ∷ month ∷ day ∷ hour ∷ minute ∷ second ∷ [])) ⌝ }
+    requires { count ≤ 6 }
+    ensures { result ≡ are_fields (take count (year ∷ month ∷ day ∷ hour ∷ minute ∷ second ∷ [])) }
 {
     if count < 3 {
         return (1 <= count) & ((year <= 10000) & ((count == 1) | ((1 <= month) & (month <= 12))));
@@ -107,7 +103,7 @@ fn are_fields(
 
 // The sign of an Int.
 fn is_negative(c: &[u8]) -> bool
-    ensures { λ r. ⌜ r ≡ isNegative (intField (now (c .entry))) ⌝ }
+    ensures { result ≡ is_negative (int_field c.now) }
 {
     if c.len() == 0 {
         return false;
@@ -117,7 +113,7 @@ fn is_negative(c: &[u8]) -> bool
 
 // An Int of zero, of either sign.
 fn is_zero(c: &[u8]) -> bool
-    ensures { λ r. ⌜ r ≡ eqb (magnitude (intField (now (c .entry)))) 0 ⌝ }
+    ensures { result ≡ eqb (magnitude (int_field c.now)) 0 }
 {
     if c.len() == 0 {
         return true;
@@ -130,7 +126,7 @@ fn is_zero(c: &[u8]) -> bool
 
 // Below one and not below zero, with the Int's bytes; an exponent that is not below zero only has zero.
 fn coefficient_fits(negative: bool, exponent: u64, c: &[u8]) -> bool
-    ensures { λ r. ⌜ r ≡ isSome (fractionOf (signed negative exponent) (intField (now (c .entry)))) ⌝ }
+    ensures { result ≡ is_some (fraction_of (signed negative exponent) (int_field c.now)) }
 {
     if negative & ((exponent != 0) & !is_negative(c)) {
         return read_fraction::below_one(c, exponent);
@@ -140,7 +136,7 @@ fn coefficient_fits(negative: bool, exponent: u64, c: &[u8]) -> bool
 
 // What follows the fields: nothing, or an exponent and a coefficient.
 fn fraction_at(body: &[u8], at: usize) -> Fraction
-    ensures { λ r. ⌜ r ≡ fractionAt (now (body .entry)) at ⌝ }
+    ensures { result ≡ fraction_at body.now at }
 {
     if body.len() <= at {
         return Fraction::Is {
@@ -176,7 +172,7 @@ fn fraction_at(body: &[u8], at: usize) -> Fraction
 
 // "6: timestamp".
 pub fn timestamp(body: &[u8]) -> Timestamp
-    ensures { λ r. ⌜ r ≡ timestampIn (now (body .entry)) ⌝ }
+    ensures { result ≡ timestamp_in body.now }
 {
     let offset = read_bodies::var_int(body, 0);
     let VarInt::Is {

@@ -1,17 +1,13 @@
 // The walk over the bytes of a stream or of a body: item by item to the end, containers entered, up to the first item that does not read.
-use reading::Item;
-use reading::Reading;
-use reading::Refusal;
-use reading::Value;
-ghost use mathlib.Core.Path.{_≡_};
-ghost use Prim.Native.Nat.{ℕ, _+_, _-_, _≤_};
-ghost use lib.ListN.{length};
-ghost use Rattle·reading.specs.Walk.{walkFrom, walkIn};
-ghost use Rattle·reader·specs.specs.Values.{endedAt, ended, past, valueAt, nextIn};
+ghost use Rattle.std.specs.Prelude.{◌≡◌, ℕ, ◌+◌, ◌-◌, ◌≤◌, length};
+ghost use Rattle.reading.specs.Walk.{walk_from, walk_in};
+ghost use Rattle.reader.specs.Values.{ended_at, ended, past, value_at, next_in};
+
+use reading::{Item, Reading, Refusal, Value};
 
 // How the walk ended at a place where there is no item to go on from.
 fn ended_at(at: usize, found: Item) -> Reading
-    ensures { λ r. ⌜ r ≡ endedAt at found ⌝ }
+    ensures { result ≡ ended_at at found }
 {
     match found {
         Item::End => Reading::Whole,
@@ -29,7 +25,7 @@ fn ended_at(at: usize, found: Item) -> Reading
 
 // How the walk ended, of an item that it does not go on from.
 fn ended_by(v: Value) -> Reading
-    ensures { λ r. ⌜ r ≡ ended v ⌝ }
+    ensures { result ≡ ended v }
 {
     match v {
         Value::Ended(r) => r,
@@ -39,7 +35,7 @@ fn ended_by(v: Value) -> Reading
 
 // Past a container, where its inside came to its end.
 fn past_container(inside: Reading, next: usize, least: u64) -> Value
-    ensures { λ r. ⌜ r ≡ past inside next least ⌝ }
+    ensures { result ≡ past inside next least }
 {
     match inside {
         Reading::Whole => Value::Is { next, least },
@@ -48,8 +44,9 @@ fn past_container(inside: Reading, next: usize, least: u64) -> Value
 }
 
 // The item at `at` and all that it holds.
+#[cycle(body_value)]
 fn value(s: &[u8], parent: u8, least: u64, depth: u8, at: usize) -> Value
-    ensures { λ r. ⌜ ((f : ℕ) → length (now (s .entry)) - at ≤ f → r ≡ valueAt f (now (s .entry)) parent least depth at) ⌝ }
+    ensures { (f : ℕ) → length s.now - at ≤ f → result ≡ value_at f s.now parent least depth at }
 {
     let behind = read_items::int_end(s, parent, at);
     if behind != 0 {
@@ -85,9 +82,10 @@ fn value(s: &[u8], parent: u8, least: u64, depth: u8, at: usize) -> Value
 }
 
 // The items from `at` to the end of the bytes. They are a loop: only containers inside containers take the stack.
+#[cycle(body_value)]
 fn body(s: &[u8], parent: u8, least: u64, depth: u8, at: usize) -> Reading
-    requires { ⌜ at ≤ length (now s) ⌝ }
-    ensures { λ r. ⌜ ((f : ℕ) → length (now (s .entry)) - at + 1 ≤ f → r ≡ walkFrom f (now (s .entry)) parent least depth at .1) ⌝ }
+    requires { at ≤ length s.now }
+    ensures { (f : ℕ) → length s.now - at + 1 ≤ f → result ≡ (walk_from f s.now parent least depth at).1 }
 {
     let mut i = at;
     let mut low = least;
@@ -108,7 +106,7 @@ fn body(s: &[u8], parent: u8, least: u64, depth: u8, at: usize) -> Reading
 
 // How the walk over the bytes before `end` ends, from `at` on, in a parent of this type byte.
 pub fn read(s: &[u8], end: usize, parent: u8, least: u64, depth: u8, at: usize) -> Reading
-    ensures { λ r. ⌜ r ≡ walkIn (now (s .entry)) end parent least depth at .1 ⌝ }
+    ensures { result ≡ (walk_in s.now end parent least depth at).1 }
 {
     if s.len() < end {
         return Reading::Refused {
@@ -127,7 +125,7 @@ pub fn read(s: &[u8], end: usize, parent: u8, least: u64, depth: u8, at: usize) 
 
 // The item at `at` of the bytes before `end`, in a parent of this type byte.
 pub fn next(s: &[u8], end: usize, parent: u8, least: u64, depth: u8, at: usize) -> Item
-    ensures { λ r. ⌜ r ≡ nextIn (now (s .entry)) end parent least depth at ⌝ }
+    ensures { result ≡ next_in s.now end parent least depth at }
 {
     if s.len() < end {
         return Item::No(Refusal::PastTheEnd);

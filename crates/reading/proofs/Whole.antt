@@ -1,224 +1,224 @@
--- What a body's answer tells is the scalar, whole: the parts that `decimalIn`, `timestampIn` and `symbolIn` name, put together, are what the grammar reads.
+-- What a body's answer tells is the scalar, whole: the parts that `decimal_in`, `timestamp_in` and `symbol_in` name, put together, are what the grammar reads.
 -- Assumes nothing.
-use Prim.Native.Nat.{ℕ, zero, suc, _+_, _-_, _*_, _%_, _^_}
+use Prim.Native.Nat.{ℕ, zero, suc, ◌+◌, ◌-◌, ◌*◌, ◌%◌, ◌^◌}
 use native.Mathlib.Omega.{arith}
-use mathlib.Core.Path.{_≡_, refl, sym, _∙_, ap, ap₂, subst}
-use mathlib.Core.Bool.{Bool, true, false, false≢true, _&&_}
-use mathlib.Core.List.{List, [], _∷_, _++_, append-assoc}
+use mathlib.Core.Path.{◌≡◌, refl, sym, ◌∙◌, ap, ap₂, subst}
+use mathlib.Core.Bool.{Bool, true, false, false≢true, ◌&&◌}
+use mathlib.Core.List.{List, [], ◌∷◌, ◌++◌, append_assoc}
 use mathlib.Core.Option.{Option, none, some}
 use lib.Dec.{ltb, eqb}
-use lib.ListN.{length, take, drop, getD, length-append}
-use lib.Seq.{drop-at}
+use lib.ListN.{length, take, drop, get_or, length-append}
+use lib.Seq.{drop_at}
 use borrow.Author.Tests.{eqb-true}
-use Rattle·ion.specs.Value.{decimalCode, timestampCode, symbolCode, Signed, signed, Fraction, noFraction, fraction, Scalar, decimal, timestamp, symbol}
-use Rattle·ion.specs.Chain.{_>>=_, check}
-use Rattle·ion.specs.Fields.{uint, intField, groups, inU64, varUInt, varUInts, isI64, giveSign, varInt, number}
-use Rattle·ion.specs.Fields.{isNegative as signAt}
-use Rattle·ion.specs.Scalars.{offsetOf, areFields, isCoefficient, fractionOf, fractionAt, decimalOf, timestampOf, scalarOf}
-use Rattle·ion.proofs.Tests.{by-cases}
-use Rattle·reading·specs.specs.declared.Refusal.{Refusal}
-use Rattle·reading·specs.specs.declared.Decimal.{Decimal}
-use Rattle·reading·specs.specs.declared.Decimal.the-variants as D
-use Rattle·reading·specs.specs.declared.Timestamp.{Timestamp}
-use Rattle·reading·specs.specs.declared.Timestamp.the-variants as T
-use Rattle·reading·specs.specs.declared.Symbol.{Symbol}
-use Rattle·reading·specs.specs.declared.Symbol.the-variants as S
-use Rattle·reading·specs.specs.Scalars.{isSome}
-use Rattle·reading·specs.specs.Told.{decimalTold, fractionIn, timestampTold, symbolTold, KnownTold, DecimalWhole, TimestampWhole, MarkWhole, SymbolWhole}
-use Rattle·reading·specs.specs.Bodies.{magnitude, decimalFrom, decimalIn, stamped, fractioned, exponentFrom, fractionFrom, fieldsFrom, offsetFrom}
-use Rattle·reading·specs.specs.Bodies.{timestampIn, markIn, shownIn, symbolIn}
+use Rattle.ion.specs.Value.{decimal_code, timestamp_code, symbol_code, Signed, signed, Fraction, no_fraction, fraction, Scalar, decimal, timestamp, symbol}
+use Rattle.ion.specs.Chain.{◌>>=◌, check}
+use Rattle.ion.specs.Fields.{uint, int_field, groups, in_u64, var_uint, var_uints, is_i64, give_sign, var_int, number}
+use Rattle.ion.specs.Fields.{is_negative as sign_at}
+use Rattle.ion.specs.Scalars.{offset_of, are_fields, is_coefficient, fraction_of, fraction_at, decimal_of, timestamp_of, scalar_of}
+use Rattle.ion.proofs.Tests.{by_cases}
+use Rattle.reading.specs.declared.Refusal.{Refusal}
+use Rattle.reading.specs.declared.Decimal.{Decimal}
+use Rattle.reading.specs.declared.Decimal.TheVariants as D
+use Rattle.reading.specs.declared.Timestamp.{Timestamp}
+use Rattle.reading.specs.declared.Timestamp.TheVariants as T
+use Rattle.reading.specs.declared.Symbol.{Symbol}
+use Rattle.reading.specs.declared.Symbol.TheVariants as S
+use Rattle.reading.specs.Scalars.{is_some}
+use Rattle.reading.specs.Told.{decimal_told, fraction_in, timestamp_told, symbol_told, KnownTold, DecimalWhole, TimestampWhole, MarkWhole, SymbolWhole}
+use Rattle.reading.specs.Bodies.{magnitude, decimal_from, decimal_in, stamped, fractioned, exponent_from, fraction_from, fields_from, offset_from}
+use Rattle.reading.specs.Bodies.{timestamp_in, mark_in, shown_in, symbol_in}
 
 -- ---- the bytes behind a field end the body
 
 module _ {A : Type 0} where
   abbrev Ends : List ℕ → Option (A × List ℕ) → Type 0
   Ends b none = Unit {0}
-  Ends b (some x) = (l : List ℕ) × (b ≡ l ++ x .1)
+  Ends b (some x) = (l : List ℕ) × (b ≡ l ++ x.1)
 
-  ends-next : (c : ℕ) (bs : List ℕ) (x : Option (A × List ℕ)) → Ends bs x → Ends (c ∷ bs) x
-  ends-next c bs none h = tt
-  ends-next c bs (some x) h = (c ∷ h .0, ap (c ∷_) (h .1))
+  ends_next : (c : ℕ) (bs : List ℕ) (x : Option (A × List ℕ)) → Ends bs x → Ends (c ∷ bs) x
+  ends_next c bs none h = tt
+  ends_next c bs (some x) h = (c ∷ h.0, ap (c ∷◌) h.1)
 
-  ends-check : (b : List ℕ) (t : Bool) (x : A × List ℕ) → Ends b (some x) → Ends b (check t (some x))
-  ends-check b true x h = h
-  ends-check b false x h = tt
+  ends_check : (b : List ℕ) (t : Bool) (x : A × List ℕ) → Ends b (some x) → Ends b (check t (some x))
+  ends_check b true x h = h
+  ends_check b false x h = tt
 
 -- behind a part of the bytes
-ends-behind : {A : Type 0} (b l r : List ℕ) (x : Option (A × List ℕ)) → b ≡ l ++ r → Ends r x → Ends b x
-ends-behind b l r none e h = tt
-ends-behind b l r (some x) e h = (l ++ h .0, e ∙ ap (λ (y : List ℕ). l ++ y) (h .1) ∙ sym (append-assoc l (h .0) (x .1)))
+ends_behind : {A : Type 0} (b l r : List ℕ) (x : Option (A × List ℕ)) → b ≡ l ++ r → Ends r x → Ends b x
+ends_behind b l r none e h = tt
+ends_behind b l r (some x) e h = (l ++ h.0, e ∙ ap (λ (y : List ℕ). l ++ y) h.1 ∙ sym (append_assoc l h.0 x.1))
 
 -- and stand where the length of the rest says
-ends-at : (b l r : List ℕ) → b ≡ l ++ r → drop (length b - length r) b ≡ r
-ends-at b l r e = rw e (drop-at l r (length (l ++ r) - length r) (omega (arith, length-append l r)))
+ends_at : (b l r : List ℕ) → b ≡ l ++ r → drop (length b - length r) b ≡ r
+ends_at b l r e = rw e (drop_at l r (length (l ++ r) - length r) (omega (arith, length-append l r)))
 
-groups-ends : (acc : ℕ) (b : List ℕ) → Ends b (groups acc b)
+groups_ends : (acc : ℕ) (b : List ℕ) → Ends b (groups acc b)
 unfolding groups
-groups-ends acc [] = tt
-groups-ends acc (c ∷ bs) =
-    by-cases (ltb c 0x80)
-    (λ p. rw (p, groups) (ends-next c bs (groups (acc * 128 + c) bs) (groups-ends (acc * 128 + c) bs)))
+groups_ends acc [] = tt
+groups_ends acc (c ∷ bs) =
+    by_cases (ltb c 0x80)
+    (λ p. rw (p, groups) (ends_next c bs (groups (acc * 128 + c) bs) (groups_ends (acc * 128 + c) bs)))
     (λ p. rw (p, groups) (c ∷ [], refl))
 
-varUInt-ends : (b : List ℕ) → Ends b (varUInt b)
-unfolding varUInt
-varUInt-ends b = on (groups 0 b) (groups-ends 0 b)
+var_uint_ends : (b : List ℕ) → Ends b (var_uint b)
+unfolding var_uint
+var_uint_ends b = on (groups 0 b) (groups_ends 0 b)
   where
-    on : (x : Option (ℕ × List ℕ)) → Ends b x → Ends b (inU64 x)
+    on : (x : Option (ℕ × List ℕ)) → Ends b x → Ends b (in_u64 x)
     on none h = tt
-    on (some x) h = ends-check b (ltb (x .0) (2 ^ 64)) x h
+    on (some x) h = ends_check b (ltb x.0 (2 ^ 64)) x h
 
-varInt-ends : (b : List ℕ) → Ends b (varInt b)
-unfolding varInt
-varInt-ends [] = tt
-varInt-ends (c ∷ bs) =
-    by-cases (ltb c 0x80)
-    (λ p. rw (p, varInt) (on (groups (c % 64) bs) (ends-next c bs (groups (c % 64) bs) (groups-ends (c % 64) bs))))
-    (λ p. rw (p, varInt) (on (some (c % 64, bs)) (c ∷ [], refl)))
+var_int_ends : (b : List ℕ) → Ends b (var_int b)
+unfolding var_int
+var_int_ends [] = tt
+var_int_ends (c ∷ bs) =
+    by_cases (ltb c 0x80)
+    (λ p. rw (p, var_int) (on (groups (c % 64) bs) (ends_next c bs (groups (c % 64) bs) (groups_ends (c % 64) bs))))
+    (λ p. rw (p, var_int) (on (some (c % 64, bs)) (c ∷ [], refl)))
   where
-    on : (x : Option (ℕ × List ℕ)) → Ends (c ∷ bs) x → Ends (c ∷ bs) (giveSign (signAt c) x)
+    on : (x : Option (ℕ × List ℕ)) → Ends (c ∷ bs) x → Ends (c ∷ bs) (give_sign (sign_at c) x)
     on none h = tt
-    on (some x) h = ends-check (c ∷ bs) (isI64 (signed (signAt c) (x .0))) (signed (signAt c) (x .0), x .1) h
+    on (some x) h = ends_check (c ∷ bs) (is_i64 (signed (sign_at c) x.0)) (signed (sign_at c) x.0, x.1) h
 
-varUInts-ends : (n : ℕ) (b : List ℕ) → Ends b (varUInts n b)
-unfolding varUInts
-varUInts-ends zero b = ([], refl)
-varUInts-ends (suc n) [] = ([], refl)
-varUInts-ends (suc n) (c ∷ bs) = first (varUInt (c ∷ bs)) (varUInt-ends (c ∷ bs)) (λ r. varUInts-ends n r)
+var_uints_ends : (n : ℕ) (b : List ℕ) → Ends b (var_uints n b)
+unfolding var_uints
+var_uints_ends zero b = ([], refl)
+var_uints_ends (suc n) [] = ([], refl)
+var_uints_ends (suc n) (c ∷ bs) = first (var_uint (c ∷ bs)) (var_uint_ends (c ∷ bs)) (λ r. var_uints_ends n r)
   where
-    rest : (k : ℕ) (x : Option (List ℕ × List ℕ)) → Ends (c ∷ bs) x → Ends (c ∷ bs) (x >>= λ y. some (k ∷ y .0, y .1))
+    rest : (k : ℕ) (x : Option (List ℕ × List ℕ)) → Ends (c ∷ bs) x → Ends (c ∷ bs) (x >>= λ y. some (k ∷ y.0, y.1))
     rest k none h = tt
     rest k (some y) h = h
 
-    first : (x : Option (ℕ × List ℕ)) → Ends (c ∷ bs) x → ((r : List ℕ) → Ends r (varUInts n r))
-        → Ends (c ∷ bs) (x >>= λ x. varUInts n (x .1) >>= λ y. some (x .0 ∷ y .0, y .1))
+    first : (x : Option (ℕ × List ℕ)) → Ends (c ∷ bs) x → ((r : List ℕ) → Ends r (var_uints n r))
+        → Ends (c ∷ bs) (x >>= λ x. var_uints n x.1 >>= λ y. some (x.0 ∷ y.0, y.1))
     first none h go = tt
-    first (some x) h go = rest (x .0) (varUInts n (x .1)) (ends-behind (c ∷ bs) (h .0) (x .1) (varUInts n (x .1)) (h .1) (go (x .1)))
+    first (some x) h go = rest x.0 (var_uints n x.1) (ends_behind (c ∷ bs) h.0 x.1 (var_uints n x.1) h.1 (go x.1))
 
 -- ---- decimals
 
-pub decimal-whole : DecimalWhole
-unfolding scalarOf decimalOf decimalIn intField
-decimal-whole [] = refl
-decimal-whole (c ∷ bs) = on (varInt (c ∷ bs)) (varInt-ends (c ∷ bs))
+pub decimal_whole : DecimalWhole
+unfolding scalar_of decimal_of decimal_in int_field
+decimal_whole [] = refl
+decimal_whole (c ∷ bs) = on (var_int (c ∷ bs)) (var_int_ends (c ∷ bs))
   where
     on : (x : Option (Signed × List ℕ)) → Ends (c ∷ bs) x
-        → (x >>= λ e. some (decimal (intField (e .1)) (number (e .0)))) ≡ decimalTold (c ∷ bs) (decimalFrom (length (c ∷ bs)) x)
+        → (x >>= λ e. some (decimal (int_field e.1) (number e.0))) ≡ decimal_told (c ∷ bs) (decimal_from (length (c ∷ bs)) x)
     on none h = refl
-    on (some (signed s n, r)) h = ap (λ (l : List ℕ). some (decimal (intField l) (number (signed s n)))) (sym (ends-at (c ∷ bs) (h .0) r (h .1)))
+    on (some (signed s n, r)) h = ap (λ (l : List ℕ). some (decimal (int_field l) (number (signed s n)))) (sym (ends_at (c ∷ bs) h.0 r h.1))
 
 -- ---- symbols
 
-pub symbol-whole : SymbolWhole
-unfolding scalarOf symbolIn
-symbol-whole b = by-cases (ltb (uint b) (2 ^ 64)) (λ p. rw p) (λ p. rw p)
+pub symbol_whole : SymbolWhole
+unfolding scalar_of symbol_in
+symbol_whole b = by_cases (ltb (uint b) (2 ^ 64)) (λ p. rw p) (λ p. rw p)
 
 -- ---- timestamps
 
 -- the fields that a calendar time can have are six at most
-fields-told : (f : List ℕ) → areFields f ≡ true
-    → take (length f) (getD f 0 0 ∷ getD f 1 0 ∷ getD f 2 0 ∷ getD f 3 0 ∷ getD f 4 0 ∷ getD f 5 0 ∷ []) ≡ f
-unfolding areFields
-fields-told [] e = refl
-fields-told (y ∷ []) e = refl
-fields-told (y ∷ m ∷ []) e = refl
-fields-told (y ∷ m ∷ d ∷ []) e = refl
-fields-told (y ∷ m ∷ d ∷ h ∷ []) e = refl
-fields-told (y ∷ m ∷ d ∷ h ∷ i ∷ []) e = refl
-fields-told (y ∷ m ∷ d ∷ h ∷ i ∷ s ∷ []) e = refl
-fields-told (y ∷ m ∷ d ∷ h ∷ i ∷ s ∷ x ∷ r) e = absurd (false≢true e)
+fields_told : (f : List ℕ) → are_fields f ≡ true
+    → take (length f) (get_or f 0 0 ∷ get_or f 1 0 ∷ get_or f 2 0 ∷ get_or f 3 0 ∷ get_or f 4 0 ∷ get_or f 5 0 ∷ []) ≡ f
+unfolding are_fields
+fields_told [] e = refl
+fields_told (y ∷ []) e = refl
+fields_told (y ∷ m ∷ []) e = refl
+fields_told (y ∷ m ∷ d ∷ []) e = refl
+fields_told (y ∷ m ∷ d ∷ h ∷ []) e = refl
+fields_told (y ∷ m ∷ d ∷ h ∷ i ∷ []) e = refl
+fields_told (y ∷ m ∷ d ∷ h ∷ i ∷ s ∷ []) e = refl
+fields_told (y ∷ m ∷ d ∷ h ∷ i ∷ s ∷ x ∷ r) e = absurd (false≢true e)
 
 -- the digits of a fraction are as many as its exponent says, and the number that they make is the coefficient's magnitude
 abbrev Fractions : Signed → Option Fraction → Type 0
 Fractions c none = Unit {0}
-Fractions c (some noFraction) = Unit {0}
+Fractions c (some no_fraction) = Unit {0}
 Fractions c (some (fraction k n)) = (j : ℕ) × (k ≡ suc j) × (n ≡ magnitude c)
 
 fractions-check : (c : Signed) (t : Bool) (x : Fraction) → (t ≡ true → Fractions c (some x)) → Fractions c (check t (some x))
 fractions-check c true x h = h refl
 fractions-check c false x h = tt
 
-fraction-told : (e c : Signed) → Fractions c (fractionOf e c)
-unfolding fractionOf
-fraction-told (signed false e) (signed s c) = fractions-check (signed s c) (eqb c 0) noFraction (λ p. tt)
-fraction-told (signed true zero) (signed s c) = fractions-check (signed s c) (eqb c 0) noFraction (λ p. tt)
-fraction-told (signed true (suc e)) (signed false c) =
-    fractions-check (signed false c) (isCoefficient c && ltb c (10 ^ suc e)) (fraction (suc e) c) (λ p. (e, refl, refl))
-fraction-told (signed true (suc e)) (signed true c) = fractions-check (signed true c) (eqb c 0) (fraction (suc e) 0) (λ p. (e, refl, sym (eqb-true c 0 p)))
+fraction_told : (e c : Signed) → Fractions c (fraction_of e c)
+unfolding fraction_of
+fraction_told (signed false e) (signed s c) = fractions-check (signed s c) (eqb c 0) no_fraction (λ p. tt)
+fraction_told (signed true zero) (signed s c) = fractions-check (signed s c) (eqb c 0) no_fraction (λ p. tt)
+fraction_told (signed true (suc e)) (signed false c) =
+    fractions-check (signed false c) (is_coefficient c && ltb c (10 ^ suc e)) (fraction (suc e) c) (λ p. (e, refl, refl))
+fraction_told (signed true (suc e)) (signed true c) = fractions-check (signed true c) (eqb c 0) (fraction (suc e) 0) (λ p. (e, refl, sym (eqb-true c 0 p)))
 
-module _ (b : List ℕ) (o : Signed) (f : List ℕ) (is : areFields f ≡ true) where
+module _ (b : List ℕ) (o : Signed) (f : List ℕ) (is : are_fields f ≡ true) where
   -- with these digits, whose coefficient stands at a place
-  stamped-told : (k c : ℕ) (x : Fraction) → x ≡ fractionIn k (drop c b) → some (timestamp (offsetOf o) f x) ≡ timestampTold b (stamped o f k c)
+  stamped-told : (k c : ℕ) (x : Fraction) → x ≡ fraction_in k (drop c b) → some (timestamp (offset_of o) f x) ≡ timestamp_told b (stamped o f k c)
   stamped-told k c x e = on o
     where
-      on : (o : Signed) → some (timestamp (offsetOf o) f x) ≡ timestampTold b (stamped o f k c)
-      on (signed s n) = ap₂ (λ (l : List ℕ) (y : Fraction). some (timestamp (offsetOf (signed s n)) l y)) (sym (fields-told f is)) e
+      on : (o : Signed) → some (timestamp (offset_of o) f x) ≡ timestamp_told b (stamped o f k c)
+      on (signed s n) = ap₂ (λ (l : List ℕ) (y : Fraction). some (timestamp (offset_of (signed s n)) l y)) (sym (fields_told f is)) e
 
-  fractioned-told : (r : List ℕ) (x : Option Fraction) → drop (length b - length r) b ≡ r → Fractions (intField r) x
-      → (x >>= λ y. some (timestamp (offsetOf o) f y)) ≡ timestampTold b (fractioned (length b) o f (length r) x)
+  fractioned-told : (r : List ℕ) (x : Option Fraction) → drop (length b - length r) b ≡ r → Fractions (int_field r) x
+      → (x >>= λ y. some (timestamp (offset_of o) f y)) ≡ timestamp_told b (fractioned (length b) o f (length r) x)
   fractioned-told r none d h = refl
-  fractioned-told r (some noFraction) d h = stamped-told 0 (length b) noFraction refl
-  fractioned-told r (some (fraction k n)) d h = stamped-told k (length b - length r) (fraction k n) (rw (d, h .1, h .2))
+  fractioned-told r (some no_fraction) d h = stamped-told 0 (length b) no_fraction refl
+  fractioned-told r (some (fraction k n)) d h = stamped-told k (length b - length r) (fraction k n) (rw (d, h.1, h.2))
 
-  exponent-told : (x : Option (Signed × List ℕ)) → Ends b x
-      → ((x >>= λ e. fractionOf (e .0) (intField (e .1))) >>= λ y. some (timestamp (offsetOf o) f y)) ≡ timestampTold b (exponentFrom (length b) o f x)
-  exponent-told none h = refl
-  exponent-told (some e) h =
-      fractioned-told (e .1) (fractionOf (e .0) (intField (e .1))) (ends-at b (h .0) (e .1) (h .1)) (fraction-told (e .0) (intField (e .1)))
+  exponent_told : (x : Option (Signed × List ℕ)) → Ends b x
+      → ((x >>= λ e. fraction_of e.0 (int_field e.1)) >>= λ y. some (timestamp (offset_of o) f y)) ≡ timestamp_told b (exponent_from (length b) o f x)
+  exponent_told none h = refl
+  exponent_told (some e) h =
+      fractioned-told e.1 (fraction_of e.0 (int_field e.1)) (ends_at b h.0 e.1 h.1) (fraction_told e.0 (int_field e.1))
 
-  fraction-whole : (l r : List ℕ) → b ≡ l ++ r → (fractionAt r >>= λ y. some (timestamp (offsetOf o) f y)) ≡ timestampTold b (fractionFrom (length b) o f r)
-  unfolding fractionAt
-  fraction-whole l [] e = stamped-told 0 (length b) noFraction refl
-  fraction-whole l (c ∷ cs) e = exponent-told (varInt (c ∷ cs)) (ends-behind b l (c ∷ cs) (varInt (c ∷ cs)) e (varInt-ends (c ∷ cs)))
+  fraction_whole : (l r : List ℕ) → b ≡ l ++ r → (fraction_at r >>= λ y. some (timestamp (offset_of o) f y)) ≡ timestamp_told b (fraction_from (length b) o f r)
+  unfolding fraction_at
+  fraction_whole l [] e = stamped-told 0 (length b) no_fraction refl
+  fraction_whole l (c ∷ cs) e = exponent_told (var_int (c ∷ cs)) (ends_behind b l (c ∷ cs) (var_int (c ∷ cs)) e (var_int_ends (c ∷ cs)))
 
 fields-whole : (b : List ℕ) (o : Signed) (x : Option (List ℕ × List ℕ)) → Ends b x
-    → (x >>= λ f. check (areFields (f .0)) (fractionAt (f .1) >>= λ y. some (timestamp (offsetOf o) (f .0) y))) ≡ timestampTold b (fieldsFrom (length b) o x)
+    → (x >>= λ f. check (are_fields f.0) (fraction_at f.1 >>= λ y. some (timestamp (offset_of o) f.0 y))) ≡ timestamp_told b (fields_from (length b) o x)
 fields-whole b o none h = refl
-fields-whole b o (some f) h = by-cases (areFields (f .0)) (λ p. rw p (fraction-whole b o (f .0) p (h .0) (f .1) (h .1))) (λ p. rw p)
+fields-whole b o (some f) h = by_cases (are_fields f.0) (λ p. rw p (fraction_whole b o f.0 p h.0 f.1 h.1)) (λ p. rw p)
 
-pub timestamp-whole : TimestampWhole
-unfolding scalarOf timestampOf timestampIn
-timestamp-whole b = on (varInt b) (varInt-ends b)
+pub timestamp_whole : TimestampWhole
+unfolding scalar_of timestamp_of timestamp_in
+timestamp_whole b = on (var_int b) (var_int_ends b)
   where
     on : (x : Option (Signed × List ℕ)) → Ends b x
-        → (x >>= λ o. varUInts 6 (o .1) >>= λ f. check (areFields (f .0)) (fractionAt (f .1) >>= λ y. some (timestamp (offsetOf (o .0)) (f .0) y)))
-        ≡ timestampTold b (offsetFrom (length b) x)
+        → (x >>= λ o. var_uints 6 o.1 >>= λ f. check (are_fields f.0) (fraction_at f.1 >>= λ y. some (timestamp (offset_of o.0) f.0 y)))
+        ≡ timestamp_told b (offset_from (length b) x)
     on none h = refl
-    on (some o) h = fields-whole b (o .0) (varUInts 6 (o .1)) (ends-behind b (h .0) (o .1) (varUInts 6 (o .1)) (h .1) (varUInts-ends 6 (o .1)))
+    on (some o) h = fields-whole b o.0 (var_uints 6 o.1) (ends_behind b h.0 o.1 (var_uints 6 o.1) h.1 (var_uints_ends 6 o.1))
 
-pub mark-whole : MarkWhole
-unfolding shownIn scalarOf
-mark-whole b = ap markIn (timestamp-whole b)
+pub mark_whole : MarkWhole
+unfolding shown_in scalar_of
+mark_whole b = ap mark_in (timestamp_whole b)
 
 -- the offset is said to be known exactly where there is one
-stamped-known : (o : Signed) (f : List ℕ) (k c : ℕ) → KnownTold (stamped o f k c)
-stamped-known (signed false n) f k c = refl
-stamped-known (signed true zero) f k c = refl
-stamped-known (signed true (suc n)) f k c = refl
+stamped_known : (o : Signed) (f : List ℕ) (k c : ℕ) → KnownTold (stamped o f k c)
+stamped_known (signed false n) f k c = refl
+stamped_known (signed true zero) f k c = refl
+stamped_known (signed true (suc n)) f k c = refl
 
-pub timestamp-known : (b : List ℕ) → KnownTold (timestampIn b)
-unfolding timestampIn
-timestamp-known b = by-offset (varInt b)
+pub timestamp_known : (b : List ℕ) → KnownTold (timestamp_in b)
+unfolding timestamp_in
+timestamp_known b = by_offset (var_int b)
   where
-    by-fraction : (o : Signed) (f : List ℕ) (n : ℕ) (x : Option Fraction) → KnownTold (fractioned (length b) o f n x)
-    by-fraction o f n none = tt
-    by-fraction o f n (some noFraction) = stamped-known o f 0 (length b)
-    by-fraction o f n (some (fraction k c)) = stamped-known o f k (length b - n)
+    by_fraction : (o : Signed) (f : List ℕ) (n : ℕ) (x : Option Fraction) → KnownTold (fractioned (length b) o f n x)
+    by_fraction o f n none = tt
+    by_fraction o f n (some no_fraction) = stamped_known o f 0 (length b)
+    by_fraction o f n (some (fraction k c)) = stamped_known o f k (length b - n)
 
-    by-exponent : (o : Signed) (f : List ℕ) (x : Option (Signed × List ℕ)) → KnownTold (exponentFrom (length b) o f x)
-    by-exponent o f none = tt
-    by-exponent o f (some e) = by-fraction o f (length (e .1)) (fractionOf (e .0) (intField (e .1)))
+    by_exponent : (o : Signed) (f : List ℕ) (x : Option (Signed × List ℕ)) → KnownTold (exponent_from (length b) o f x)
+    by_exponent o f none = tt
+    by_exponent o f (some e) = by_fraction o f (length e.1) (fraction_of e.0 (int_field e.1))
 
-    by-rest : (o : Signed) (f r : List ℕ) → KnownTold (fractionFrom (length b) o f r)
-    by-rest o f [] = stamped-known o f 0 (length b)
-    by-rest o f (c ∷ cs) = by-exponent o f (varInt (c ∷ cs))
+    by_rest : (o : Signed) (f r : List ℕ) → KnownTold (fraction_from (length b) o f r)
+    by_rest o f [] = stamped_known o f 0 (length b)
+    by_rest o f (c ∷ cs) = by_exponent o f (var_int (c ∷ cs))
 
-    by-fields : (o : Signed) (x : Option (List ℕ × List ℕ)) → KnownTold (fieldsFrom (length b) o x)
-    by-fields o none = tt
-    by-fields o (some f) = by-cases (areFields (f .0)) (λ p. rw p (by-rest o (f .0) (f .1))) (λ p. rw p tt)
+    by_fields : (o : Signed) (x : Option (List ℕ × List ℕ)) → KnownTold (fields_from (length b) o x)
+    by_fields o none = tt
+    by_fields o (some f) = by_cases (are_fields f.0) (λ p. rw p (by_rest o f.0 f.1)) (λ p. rw p tt)
 
-    by-offset : (x : Option (Signed × List ℕ)) → KnownTold (offsetFrom (length b) x)
-    by-offset none = tt
-    by-offset (some o) = by-fields (o .0) (varUInts 6 (o .1))
+    by_offset : (x : Option (Signed × List ℕ)) → KnownTold (offset_from (length b) x)
+    by_offset none = tt
+    by_offset (some o) = by_fields o.0 (var_uints 6 o.1)
 
 -- ---- by the cases of the answer

@@ -2,30 +2,26 @@
 -- The bytes reach to the end of what the header stands in, the stream or its parent; `out` is what running out of them means:
 -- the stream is cut short, or, where a parent ends, the bytes are outside the grammar.
 -- Assumes nothing.
-use Prim.Native.Nat.{ℕ, _+_, _*_, _/_, _%_, _^_}
-use mathlib.Core.Bool.{Bool, true, false, cond, _&&_, _||_, not}
-use mathlib.Core.List.{List, [], _∷_}
-use lib.Dec.{ltb, leb, eqb}
-use lib.ListN.{length, drop, getD}
-use Rattle·reading·specs.specs.declared.Refusal.{Refusal}
-use Rattle·reading·specs.specs.declared.Refusal.the-variants.{NotIon, CutShort}
-use Rattle·reading·specs.specs.declared.Number.{Number}
-use Rattle·reading·specs.specs.declared.Number.the-variants as N
-use Rattle·reading·specs.specs.declared.Header.{Header}
-use Rattle·reading·specs.specs.declared.Header.the-variants as H
+use Rattle.std.specs.Prelude.{ℕ, ◌+◌, ◌*◌, ◌/◌, ◌%◌, ◌^◌, Bool, true, false, cond, ◌&&◌, ◌||◌, not, List, [], ◌∷◌, ltb, leb, eqb, length, drop, get_or}
+use Rattle.reading.specs.declared.Refusal.{Refusal}
+use Rattle.reading.specs.declared.Refusal.TheVariants.{NotIon, CutShort}
+use Rattle.reading.specs.declared.Number.{Number}
+use Rattle.reading.specs.declared.Number.TheVariants as N
+use Rattle.reading.specs.declared.Header.{Header}
+use Rattle.reading.specs.declared.Header.TheVariants as H
 
 -- ---- "VarUInt and VarInt Fields": a number, and the place behind it
 
 -- The bytes stand at the place `at`, and the groups before them make `acc`. A number past 64 bits is outside the grammar as soon as it is.
-unfoldable pub varUIntFrom : Refusal → ℕ → ℕ → List ℕ → Number
-varUIntFrom out acc at [] = N.No out
-varUIntFrom out acc at (b ∷ bs) =
+unfoldable pub var_uint_from : Refusal → ℕ → ℕ → List ℕ → Number
+var_uint_from out acc at [] = N.No out
+var_uint_from out acc at (b ∷ bs) =
     cond (ltb (acc * 128 + b % 128) (2 ^ 64))
-    (cond (ltb b 0x80) (varUIntFrom out (acc * 128 + b % 128) (at + 1) bs) (N.Is (acc * 128 + b % 128) (at + 1)))
+    (cond (ltb b 0x80) (var_uint_from out (acc * 128 + b % 128) (at + 1) bs) (N.Is (acc * 128 + b % 128) (at + 1)))
     (N.No NotIon)
 
-unfoldable pub varUIntAt : Refusal → List ℕ → ℕ → Number
-varUIntAt out s at = varUIntFrom out 0 at (drop at s)
+unfoldable pub var_uint_at : Refusal → List ℕ → ℕ → Number
+var_uint_at out s at = var_uint_from out 0 at (drop at s)
 
 -- ---- "Typed Value Formats": type descriptors, by their type code t and their low four bits l
 
@@ -63,20 +59,20 @@ framed out s b n start =
     cond (never (b / 16) (b % 16) n) (H.No NotIon)
     (cond (leb (start + n) (length s)) (H.Is b start (start + n)) (H.No out))
 
-abbrev pub framedBy : Refusal → List ℕ → ℕ → Number → Header
-framedBy out s b (N.No r) = H.No r
-framedBy out s b (N.Is n next) = framed out s b n next
+abbrev pub framed_by : Refusal → List ℕ → ℕ → Number → Header
+framed_by out s b (N.No r) = H.No r
+framed_by out s b (N.Is n next) = framed out s b n next
 
 -- the header whose type byte b stands at `at`
 abbrev pub headed : Refusal → List ℕ → ℕ → ℕ → Header
 headed out s at b =
     cond (impossible (b / 16) (b % 16)) (H.No NotIon)
     (cond (alone (b / 16) (b % 16)) (H.Is b (at + 1) (at + 1))
-    (cond (measured (b / 16) (b % 16)) (framedBy out s b (varUIntAt out s (at + 1)))
+    (cond (measured (b / 16) (b % 16)) (framed_by out s b (var_uint_at out s (at + 1)))
     (framed out s b (b % 16) (at + 1))))
 
-unfoldable pub headerAt : Refusal → List ℕ → ℕ → Header
-headerAt out s at = cond (ltb at (length s)) (headed out s at (getD s at 0)) (H.No out)
+unfoldable pub header_at : Refusal → List ℕ → ℕ → Header
+header_at out s at = cond (ltb at (length s)) (headed out s at (get_or s at 0)) (H.No out)
 
 -- ---- "Value Streams": a version marker. Another byte is outside the grammar as soon as it is there, a beginning that stops is cut short.
 
@@ -85,9 +81,9 @@ marked [] at l = H.Is 0xE0 at at
 marked (m ∷ ms) at [] = H.No CutShort
 marked (m ∷ ms) at (b ∷ bs) = cond (eqb b m) (marked ms (at + 1) bs) (H.No NotIon)
 
-unfoldable pub markerAt : List ℕ → ℕ → Header
-markerAt s at = marked (0xE0 ∷ 0x01 ∷ 0x00 ∷ 0xEA ∷ []) at (drop at s)
+unfoldable pub marker_at : List ℕ → ℕ → Header
+marker_at s at = marked (0xE0 ∷ 0x01 ∷ 0x00 ∷ 0xEA ∷ []) at (drop at s)
 
 -- At top level: a marker, whose first byte begins nothing else, or a header that the stream may cut.
-unfoldable pub topHeaderAt : List ℕ → ℕ → Header
-topHeaderAt s at = cond (eqb (getD s at 0) 0xE0) (markerAt s at) (headerAt CutShort s at)
+unfoldable pub top_header_at : List ℕ → ℕ → Header
+top_header_at s at = cond (eqb (get_or s at 0) 0xE0) (marker_at s at) (header_at CutShort s at)

@@ -1,8 +1,8 @@
 -- The reader's refusals, as document 02, Item 1, numbers them.
 -- Assumes nothing.
-use Prim.Native.Nat.{ℕ}
-use Rattle·reading·specs.specs.declared.Refusal.{Refusal}
-use Rattle·reading·specs.specs.declared.Refusal.the-variants.{PastTheEnd, TooDeep, NotIon, CutShort}
+use Rattle.std.specs.Prelude.{ℕ}
+use Rattle.reading.specs.declared.Refusal.{Refusal}
+use Rattle.reading.specs.declared.Refusal.TheVariants.{PastTheEnd, TooDeep, NotIon, CutShort}
 
 -- a position past the stream's end; a thirty-third open container; bytes outside the grammar; a stream that stops inside a value, pad or marker
 abbrev pub number : Refusal → ℕ

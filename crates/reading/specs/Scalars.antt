@@ -1,68 +1,64 @@
 -- What a type byte and its body stand for, where they are a scalar: "Typed Value Formats" of the Ion 1.0 binary encoding, by the functions of the grammar.
 -- Assumes nothing.
-use Prim.Native.Nat.{ℕ, _/_, _%_}
-use mathlib.Core.Bool.{Bool, true, false, cond}
-use mathlib.Core.List.{List, [], _∷_}
-use mathlib.Core.Option.{Option, none, some}
-use lib.Dec.{eqb}
-use lib.Ieee.{binary32, binary64}
-use lib.ListN.{length}
-use Rattle·ion.specs.Value.{TypeCode, nullCode, boolCode, positiveCode, negativeCode, floatCode, decimalCode, timestampCode, symbolCode}
-use Rattle·ion.specs.Value.{stringCode, clobCode, blobCode, listCode, sexpCode, structCode, annotationCode, highBits, nullType}
-use Rattle·ion.specs.Value.{Scalar, null, bool, float, finite}
-use Rattle·ion.specs.Chain.{_>>=_}
-use Rattle·ion.specs.Fields.{uint, varUInts}
-use Rattle·ion.specs.Scalars.{floatOf, scalarOf}
+use Rattle.std.specs.Prelude.{ℕ, ◌/◌, ◌%◌, Bool, true, false, cond, List, [], ◌∷◌, eqb, length}
+use Rattle.std.proofs.Math.Option.{Option, none, some}
+use Rattle.std.specs.Float.{binary32, binary64}
+use Rattle.ion.specs.Value.{TypeCode, null_code, bool_code, positive_code, negative_code, float_code, decimal_code, timestamp_code, symbol_code}
+use Rattle.ion.specs.Value.{string_code, clob_code, blob_code, list_code, sexp_code, struct_code, annotation_code, high_bits, null_type}
+use Rattle.ion.specs.Value.{Scalar, null, bool, float, finite}
+use Rattle.ion.specs.Chain.{◌>>=◌}
+use Rattle.ion.specs.Fields.{uint, var_uints}
+use Rattle.ion.specs.Scalars.{float_of, scalar_of}
 
 -- the type code of a number: the first of these that has it
-unfoldable pub codeFrom : List TypeCode → ℕ → Option TypeCode
-codeFrom [] n = none
-codeFrom (c ∷ cs) n = cond (eqb (highBits c) n) (some c) (codeFrom cs n)
+unfoldable pub code_from : List TypeCode → ℕ → Option TypeCode
+code_from [] n = none
+code_from (c ∷ cs) n = cond (eqb (high_bits c) n) (some c) (code_from cs n)
 
-abbrev pub codeOf : ℕ → Option TypeCode
-codeOf n =
-    codeFrom (nullCode ∷ boolCode ∷ positiveCode ∷ negativeCode ∷ floatCode ∷ decimalCode ∷ timestampCode ∷ symbolCode
-    ∷ stringCode ∷ clobCode ∷ blobCode ∷ listCode ∷ sexpCode ∷ structCode ∷ annotationCode ∷ []) n
+abbrev pub code_of : ℕ → Option TypeCode
+code_of n =
+    code_from (null_code ∷ bool_code ∷ positive_code ∷ negative_code ∷ float_code ∷ decimal_code ∷ timestamp_code ∷ symbol_code
+    ∷ string_code ∷ clob_code ∷ blob_code ∷ list_code ∷ sexp_code ∷ struct_code ∷ annotation_code ∷ []) n
 
 -- "1: bool"
-abbrev pub boolOf : ℕ → Option Scalar
-boolOf l = cond (eqb l 0) (some (bool false)) (cond (eqb l 1) (some (bool true)) none)
+abbrev pub bool_of : ℕ → Option Scalar
+bool_of l = cond (eqb l 0) (some (bool false)) (cond (eqb l 1) (some (bool true)) none)
 
 -- "4: float"
-abbrev pub floatIn : List ℕ → Option Scalar
-floatIn b =
+abbrev pub float_in : List ℕ → Option Scalar
+float_in b =
     cond (eqb (length b) 0) (some (float (finite false 0)))
-    (cond (eqb (length b) 4) (some (float (floatOf binary32 (uint b))))
-    (cond (eqb (length b) 8) (some (float (floatOf binary64 (uint b)))) none))
+    (cond (eqb (length b) 4) (some (float (float_of binary32 (uint b))))
+    (cond (eqb (length b) 8) (some (float (float_of binary64 (uint b)))) none))
 
 -- by the type code, the low four bits (not 15) and the body
-unfoldable pub bodyOf : TypeCode → ℕ → List ℕ → Option Scalar
-bodyOf nullCode l b = none
-bodyOf boolCode l b = boolOf l
-bodyOf positiveCode l b = scalarOf positiveCode b
-bodyOf negativeCode l b = scalarOf negativeCode b
-bodyOf floatCode l b = floatIn b
-bodyOf decimalCode l b = scalarOf decimalCode b
-bodyOf timestampCode l b = scalarOf timestampCode b
-bodyOf symbolCode l b = scalarOf symbolCode b
-bodyOf stringCode l b = scalarOf stringCode b
-bodyOf clobCode l b = scalarOf clobCode b
-bodyOf blobCode l b = scalarOf blobCode b
-bodyOf listCode l b = none
-bodyOf sexpCode l b = none
-bodyOf structCode l b = none
-bodyOf annotationCode l b = none
+unfoldable pub body_of : TypeCode → ℕ → List ℕ → Option Scalar
+body_of null_code l b = none
+body_of bool_code l b = bool_of l
+body_of positive_code l b = scalar_of positive_code b
+body_of negative_code l b = scalar_of negative_code b
+body_of float_code l b = float_in b
+body_of decimal_code l b = scalar_of decimal_code b
+body_of timestamp_code l b = scalar_of timestamp_code b
+body_of symbol_code l b = scalar_of symbol_code b
+body_of string_code l b = scalar_of string_code b
+body_of clob_code l b = scalar_of clob_code b
+body_of blob_code l b = scalar_of blob_code b
+body_of list_code l b = none
+body_of sexp_code l b = none
+body_of struct_code l b = none
+body_of annotation_code l b = none
 
 -- The scalar of a type byte and its body; none for pads, containers and wrappers, and for bodies that do not read.
-unfoldable pub scalarIn : ℕ → List ℕ → Option Scalar
-scalarIn kind b =
-    codeOf (kind / 16) >>= λ c.
-    cond (eqb (kind % 16) 15) (nullType c >>= λ t. some (null t)) (bodyOf c (kind % 16) b)
+unfoldable pub scalar_in : ℕ → List ℕ → Option Scalar
+scalar_in kind b =
+    code_of (kind / 16) >>= λ c.
+    cond (eqb (kind % 16) 15) (null_type c >>= λ t. some (null t)) (body_of c (kind % 16) b)
 
-abbrev pub isSome : {A : Type 0} → Option A → Bool
-isSome none = false
-isSome (some x) = true
+abbrev pub is_some : {A : Type 0} → Option A → Bool
+is_some none = false
+is_some (some x) = true
 
 -- The sids that fill the bytes.
-unfoldable pub sidsOf : List ℕ → Option (List ℕ)
-sidsOf b = varUInts (length b) b >>= λ x. some (x .0)
+unfoldable pub sids_of : List ℕ → Option (List ℕ)
+sids_of b = var_uints (length b) b >>= λ x. some x.0

@@ -1,203 +1,203 @@
 -- The other way, at one value: what is found behind a header is a pad, a scalar or a container of the grammar.
 -- Assumes nothing.
-use Prim.Native.Nat.{ℕ, _+_, _*_, _/_, _%_, _≤_, _<_}
+use Prim.Native.Nat.{ℕ, ◌+◌, ◌*◌, ◌/◌, ◌%◌, ◌≤◌, ◌<◌}
 use native.Mathlib.Omega.{arith}
-use mathlib.Core.Path.{_≡_, refl, sym, _∙_, ap, subst}
-use mathlib.Core.Logic.{_≢_}
-use mathlib.Core.Bool.{true, false, cond, _||_, not, or-true}
-use mathlib.Core.List.{List, [], _∷_, _++_}
-use mathlib.Core.Option.{some, Option·some-injective, Option·none-ne-some}
+use mathlib.Core.Path.{◌≡◌, refl, sym, ◌∙◌, ap, subst}
+use mathlib.Core.Logic.{◌≢◌}
+use mathlib.Core.Bool.{true, false, cond, ◌||◌, not, or-true}
+use mathlib.Core.List.{List, [], ◌∷◌, ◌++◌}
+use mathlib.Core.Option.{some, some-injective, none-ne-some}
 use lib.Dec.{ltb, leb, eqb}
 use lib.Ieee.{binary32, binary64}
 use lib.ListN.{length}
-use borrow.Author.Tests.{ltb-true, leb-true, eqb-true, eqb-false, ne-eqb, not-true}
-use Rattle·ion.specs.Value.{TypeCode, nullCode, boolCode, positiveCode, negativeCode, floatCode, decimalCode, timestampCode, symbolCode, stringCode}
-use Rattle·ion.specs.Value.{clobCode, blobCode, listCode, sexpCode, structCode, annotationCode, highBits, nullType, list, sexp}
-use Rattle·ion.specs.Value.{finite, Scalar, null, bool, float, scalar, sequence, struct, Members, Fields}
-use Rattle·ion.specs.Chain.{_>>=_}
-use Rattle·ion.specs.Fields.{VarUInt, uint}
-use Rattle·ion.specs.Scalars.{scalarOf, floatOf}
-use Rattle·ion.specs.Grammar.{sorted, padding, bare, members, fields, _⟶_, pad, is-null, is-false, is-true, is-zero, is-float32, is-float64}
-use Rattle·ion.specs.Grammar.{is-scalar, is-sequence, is-struct, is-sorted}
-use Rattle·ion.proofs.Tests.{by-cases, both}
-use Rattle·ion.proofs.Bytes.{none-nil}
-use Rattle·ion.proofs.Exact.{bind-some}
-use Rattle·reading.specs.Headers.{impossible, alone}
-use Rattle·reading.specs.Scalars.{codeFrom, codeOf, floatIn, boolOf, bodyOf, scalarIn}
-use Rattle·reading.specs.Items.{isPad, opens, isSorted}
-use Rattle·reading_grammar·proofs.proofs.Tests.{neither, contrary, or-left}
-use Rattle·reading_grammar·proofs.proofs.Framing.{Framing, by-itself, by-low-bits, by-field, framing-header, halves}
+use borrow.Author.Tests.{ltb-true, leb-true, eqb-true, eqb-false, ne_eqb, not-true}
+use Rattle.ion.specs.Value.{TypeCode, null_code, bool_code, positive_code, negative_code, float_code, decimal_code, timestamp_code, symbol_code, string_code}
+use Rattle.ion.specs.Value.{clob_code, blob_code, list_code, sexp_code, struct_code, annotation_code, high_bits, null_type, list, sexp}
+use Rattle.ion.specs.Value.{finite, Scalar, null, bool, float, scalar, sequence, struct, Members, Fields}
+use Rattle.ion.specs.Chain.{◌>>=◌}
+use Rattle.ion.specs.Fields.{VarUInt, uint}
+use Rattle.ion.specs.Scalars.{scalar_of, float_of}
+use Rattle.ion.specs.Grammar.{sorted, padding, bare, members, fields, ◌⟶◌, pad, is-null, is_false, is_true, is_zero, is_float32, is_float64}
+use Rattle.ion.specs.Grammar.{is_scalar, is-sequence, is_struct, is_sorted}
+use Rattle.ion.proofs.Tests.{by_cases, both}
+use Rattle.ion.proofs.Bytes.{none_nil}
+use Rattle.ion.proofs.Exact.{bind_some}
+use Rattle.reading.specs.Headers.{impossible, alone}
+use Rattle.reading.specs.Scalars.{code_from, code_of, float_in, bool_of, body_of, scalar_in}
+use Rattle.reading.specs.Items.{is_pad, opens, is_sorted_struct}
+use Rattle.reading_grammar.proofs.Tests.{neither, contrary, or_left}
+use Rattle.reading_grammar.proofs.Framing.{Framing, by_itself, by_low_bits, by_field, framing_header, halves}
 
 -- ---- pads
 
-pub pad-reading : (k : ℕ) (tail body : List ℕ) → Framing k (length body) tail → isPad k ≡ true → (k ∷ (tail ++ body)) ⟶ padding
-pad-reading k tail body f e =
+pub pad_reading : (k : ℕ) (tail body : List ℕ) → Framing k (length body) tail → is_pad k ≡ true → (k ∷ (tail ++ body)) ⟶ padding
+pad_reading k tail body f e =
     let h : k < 15 = ltb-true k 15 e in
     let hi : k / 16 ≡ 0 = omega arith in
     let lo : k % 16 ≡ k = omega arith in
-    pad body (framing-header nullCode f hi (rw (hi, lo, ne-eqb k 15 (λ q. omega arith))) refl)
+    pad body (framing_header null_code f hi (rw (hi, lo, ne_eqb k 15 (λ q. omega arith))) refl)
 
 -- ---- a type byte alone
 
 nothing-behind : {k : ℕ} {tail : List ℕ} (body : List ℕ) → Framing k (length body) tail → alone (k / 16) (k % 16) ≡ true → tail ++ body ≡ []
-nothing-behind body (by-itself a z) e = none-nil body z
-nothing-behind body (by-low-bits a m z) e = contrary a e
-nothing-behind body (by-field a m f v) e = contrary a e
+nothing-behind body (by_itself a z) e = none_nil body z
+nothing-behind body (by_low_bits a m z) e = contrary a e
+nothing-behind body (by_field a m f v) e = contrary a e
 
 -- ---- scalars
 
-find-code : (cs : List TypeCode) (n : ℕ) (c : TypeCode) → codeFrom cs n ≡ some c → highBits c ≡ n
-unfolding codeFrom
-find-code [] n c e = absurd (Option·none-ne-some c e)
+find-code : (cs : List TypeCode) (n : ℕ) (c : TypeCode) → code_from cs n ≡ some c → high_bits c ≡ n
+unfolding code_from
+find-code [] n c e = absurd (none-ne-some c e)
 find-code (d ∷ cs) n c e =
-    by-cases (eqb (highBits d) n)
-    (λ p. ap highBits (sym (Option·some-injective d c (rw p at e))) ∙ eqb-true (highBits d) n p)
+    by_cases (eqb (high_bits d) n)
+    (λ p. ap high_bits (sym (some-injective d c (rw p at e))) ∙ eqb-true (high_bits d) n p)
     (λ p. find-code cs n c (rw p at e))
 
-float-frame : {k n : ℕ} {tail : List ℕ} → Framing k n tail → k / 16 ≡ 4 → eqb (k % 16) 15 ≡ false → impossible (k / 16) (k % 16) ≡ false
+float_frame : {k n : ℕ} {tail : List ℕ} → Framing k n tail → k / 16 ≡ 4 → eqb (k % 16) 15 ≡ false → impossible (k / 16) (k % 16) ≡ false
     → (tail ≡ []) × (n ≡ k % 16)
-float-frame (by-itself a z) h l can = contrary (rw (h, l)) a
-float-frame (by-low-bits a m e) h l can = (refl, e)
-float-frame {k} (by-field a m f v) h l can =
-    let w : k % 16 ≡ 14 = eqb-true (k % 16) 14 (or-left m (rw h)) in
+float_frame (by_itself a z) h l can = contrary (rw (h, l)) a
+float_frame (by_low_bits a m e) h l can = (refl, e)
+float_frame {k} (by_field a m f v) h l can =
+    let w : k % 16 ≡ 14 = eqb-true (k % 16) 14 (or_left m (rw h)) in
     contrary can (rw (h, w))
 
 module _ (an : List ℕ) (k : ℕ) (tail body : List ℕ) (x : Scalar) (can : impossible (k / 16) (k % 16) ≡ false) (f : Framing k (length body) tail) where
   -- the bytes and the scalar, as the grammar has them
-  as-bytes : (b : List ℕ) (y : Scalar) → b ⟶ bare an (scalar an y) → b ≡ k ∷ (tail ++ body) → y ≡ x → (k ∷ (tail ++ body)) ⟶ bare an (scalar an x)
-  as-bytes b y r p q = subst (λ (z : Scalar). (k ∷ (tail ++ body)) ⟶ bare an (scalar an z)) q (subst (λ (z : List ℕ). z ⟶ bare an (scalar an y)) p r)
+  as_bytes : (b : List ℕ) (y : Scalar) → b ⟶ bare an (scalar an y) → b ≡ k ∷ (tail ++ body) → y ≡ x → (k ∷ (tail ++ body)) ⟶ bare an (scalar an x)
+  as_bytes b y r p q = subst (λ (z : Scalar). (k ∷ (tail ++ body)) ⟶ bare an (scalar an z)) q (subst (λ (z : List ℕ). z ⟶ bare an (scalar an y)) p r)
 
-  null-reading : (c : TypeCode) → highBits c ≡ k / 16 → eqb (k % 16) 15 ≡ true → (nullType c >>= λ t. some (null t)) ≡ some x
+  null_reading : (c : TypeCode) → high_bits c ≡ k / 16 → eqb (k % 16) 15 ≡ true → (null_type c >>= λ t. some (null t)) ≡ some x
       → (k ∷ (tail ++ body)) ⟶ bare an (scalar an x)
-  null-reading c h p e =
-      let m = bind-some (nullType c) (λ t. some (null t)) x e in
+  null_reading c h p e =
+      let m = bind_some (null_type c) (λ t. some (null t)) x e in
       let q : k % 16 ≡ 15 = eqb-true (k % 16) 15 p in
-      let g : highBits c * 16 + 15 ≡ k = omega (arith, halves k) in
-      as-bytes ((highBits c * 16 + 15) ∷ []) (null (m .0)) (is-null c (m .1)) (rw (g, nothing-behind body f (rw p)))
-      (Option·some-injective (null (m .0)) x (m .2))
+      let g : high_bits c * 16 + 15 ≡ k = omega (arith, halves k) in
+      as_bytes ((high_bits c * 16 + 15) ∷ []) (null m.0) (is-null c m.1) (rw (g, nothing-behind body f (rw p)))
+      (some-injective (null m.0) x m.2)
 
-  bool-reading : k / 16 ≡ 1 → boolOf (k % 16) ≡ some x → (k ∷ (tail ++ body)) ⟶ bare an (scalar an x)
-  bool-reading h e =
+  bool_reading : k / 16 ≡ 1 → bool_of (k % 16) ≡ some x → (k ∷ (tail ++ body)) ⟶ bare an (scalar an x)
+  bool_reading h e =
       let z : tail ++ body ≡ [] = nothing-behind body f (rw (h, or-true (eqb (k % 16) 15))) in
-      by-cases (eqb (k % 16) 0)
+      by_cases (eqb (k % 16) 0)
       (λ p.
       let g : 0x10 ≡ k = omega (arith, halves k, eqb-true (k % 16) 0 p) in
-      as-bytes (0x10 ∷ []) (bool false) is-false (rw (z, g)) (Option·some-injective (bool false) x (rw p at e)))
-      (λ p. by-cases (eqb (k % 16) 1)
+      as_bytes (0x10 ∷ []) (bool false) is_false (rw (z, g)) (some-injective (bool false) x (rw p at e)))
+      (λ p. by_cases (eqb (k % 16) 1)
       (λ q.
       let g : 0x11 ≡ k = omega (arith, halves k, eqb-true (k % 16) 1 q) in
-      as-bytes (0x11 ∷ []) (bool true) is-true (rw (z, g)) (Option·some-injective (bool true) x (rw q at (rw p at e))))
-      (λ q. absurd (Option·none-ne-some x (rw q at (rw p at e)))))
+      as_bytes (0x11 ∷ []) (bool true) is_true (rw (z, g)) (some-injective (bool true) x (rw q at (rw p at e))))
+      (λ q. absurd (none-ne-some x (rw q at (rw p at e)))))
 
-  plain-reading : (c : TypeCode) → highBits c ≡ k / 16 → eqb (highBits c) 1 ≡ false → eqb (highBits c) 13 ≡ false → eqb (k % 16) 15 ≡ false
-      → scalarOf c body ≡ some x → (k ∷ (tail ++ body)) ⟶ bare an (scalar an x)
-  plain-reading c h b d l e = is-scalar c body (framing-header c f (sym h) (rw (← h, b, l)) (rw d)) e
+  plain_reading : (c : TypeCode) → high_bits c ≡ k / 16 → eqb (high_bits c) 1 ≡ false → eqb (high_bits c) 13 ≡ false → eqb (k % 16) 15 ≡ false
+      → scalar_of c body ≡ some x → (k ∷ (tail ++ body)) ⟶ bare an (scalar an x)
+  plain_reading c h b d l e = is_scalar c body (framing_header c f (sym h) (rw (← h, b, l)) (rw d)) e
 
-  float-reading : k / 16 ≡ 4 → eqb (k % 16) 15 ≡ false → floatIn body ≡ some x → (k ∷ (tail ++ body)) ⟶ bare an (scalar an x)
-  float-reading h l e =
-      let w = float-frame f h l can in
-      let size : k ≡ 64 + length body = omega (arith, halves k, w .1) in
-      by-cases (eqb (length body) 0)
+  float_reading : k / 16 ≡ 4 → eqb (k % 16) 15 ≡ false → float_in body ≡ some x → (k ∷ (tail ++ body)) ⟶ bare an (scalar an x)
+  float_reading h l e =
+      let w = float_frame f h l can in
+      let size : k ≡ 64 + length body = omega (arith, halves k, w.1) in
+      by_cases (eqb (length body) 0)
       (λ p.
       let n : length body ≡ 0 = eqb-true (length body) 0 p in
       let g : 0x40 ≡ k = omega arith in
-      as-bytes (0x40 ∷ []) (float (finite false 0)) is-zero (rw (g, w .0, none-nil body n)) (Option·some-injective (float (finite false 0)) x (rw p at e)))
-      (λ p. by-cases (eqb (length body) 4)
+      as_bytes (0x40 ∷ []) (float (finite false 0)) is_zero (rw (g, w.0, none_nil body n)) (some-injective (float (finite false 0)) x (rw p at e)))
+      (λ p. by_cases (eqb (length body) 4)
       (λ q.
       let n : length body ≡ 4 = eqb-true (length body) 4 q in
       let g : 0x44 ≡ k = omega arith in
-      as-bytes (0x44 ∷ body) (float (floatOf binary32 (uint body))) (is-float32 body n) (rw (g, w .0))
-      (Option·some-injective (float (floatOf binary32 (uint body))) x (rw q at (rw p at e))))
-      (λ q. by-cases (eqb (length body) 8)
+      as_bytes (0x44 ∷ body) (float (float_of binary32 (uint body))) (is_float32 body n) (rw (g, w.0))
+      (some-injective (float (float_of binary32 (uint body))) x (rw q at (rw p at e))))
+      (λ q. by_cases (eqb (length body) 8)
       (λ r.
       let n : length body ≡ 8 = eqb-true (length body) 8 r in
       let g : 0x48 ≡ k = omega arith in
-      as-bytes (0x48 ∷ body) (float (floatOf binary64 (uint body))) (is-float64 body n) (rw (g, w .0))
-      (Option·some-injective (float (floatOf binary64 (uint body))) x (rw r at (rw q at (rw p at e)))))
-      (λ r. absurd (Option·none-ne-some x (rw r at (rw q at (rw p at e)))))))
+      as_bytes (0x48 ∷ body) (float (float_of binary64 (uint body))) (is_float64 body n) (rw (g, w.0))
+      (some-injective (float (float_of binary64 (uint body))) x (rw r at (rw q at (rw p at e)))))
+      (λ r. absurd (none-ne-some x (rw r at (rw q at (rw p at e)))))))
 
-  body-reading : (c : TypeCode) → highBits c ≡ k / 16 → eqb (k % 16) 15 ≡ false → bodyOf c (k % 16) body ≡ some x → (k ∷ (tail ++ body)) ⟶ bare an (scalar an x)
-  unfolding bodyOf
-  body-reading nullCode h l e = absurd (Option·none-ne-some x e)
-  body-reading boolCode h l e = bool-reading (sym h) e
-  body-reading positiveCode h l e = plain-reading positiveCode h refl refl l e
-  body-reading negativeCode h l e = plain-reading negativeCode h refl refl l e
-  body-reading floatCode h l e = float-reading (sym h) l e
-  body-reading decimalCode h l e = plain-reading decimalCode h refl refl l e
-  body-reading timestampCode h l e = plain-reading timestampCode h refl refl l e
-  body-reading symbolCode h l e = plain-reading symbolCode h refl refl l e
-  body-reading stringCode h l e = plain-reading stringCode h refl refl l e
-  body-reading clobCode h l e = plain-reading clobCode h refl refl l e
-  body-reading blobCode h l e = plain-reading blobCode h refl refl l e
-  body-reading listCode h l e = absurd (Option·none-ne-some x e)
-  body-reading sexpCode h l e = absurd (Option·none-ne-some x e)
-  body-reading structCode h l e = absurd (Option·none-ne-some x e)
-  body-reading annotationCode h l e = absurd (Option·none-ne-some x e)
+  body_reading : (c : TypeCode) → high_bits c ≡ k / 16 → eqb (k % 16) 15 ≡ false → body_of c (k % 16) body ≡ some x → (k ∷ (tail ++ body)) ⟶ bare an (scalar an x)
+  unfolding body_of
+  body_reading null_code h l e = absurd (none-ne-some x e)
+  body_reading bool_code h l e = bool_reading (sym h) e
+  body_reading positive_code h l e = plain_reading positive_code h refl refl l e
+  body_reading negative_code h l e = plain_reading negative_code h refl refl l e
+  body_reading float_code h l e = float_reading (sym h) l e
+  body_reading decimal_code h l e = plain_reading decimal_code h refl refl l e
+  body_reading timestamp_code h l e = plain_reading timestamp_code h refl refl l e
+  body_reading symbol_code h l e = plain_reading symbol_code h refl refl l e
+  body_reading string_code h l e = plain_reading string_code h refl refl l e
+  body_reading clob_code h l e = plain_reading clob_code h refl refl l e
+  body_reading blob_code h l e = plain_reading blob_code h refl refl l e
+  body_reading list_code h l e = absurd (none-ne-some x e)
+  body_reading sexp_code h l e = absurd (none-ne-some x e)
+  body_reading struct_code h l e = absurd (none-ne-some x e)
+  body_reading annotation_code h l e = absurd (none-ne-some x e)
 
-  coded-reading : (c : TypeCode) → highBits c ≡ k / 16
-      → cond (eqb (k % 16) 15) (nullType c >>= λ t. some (null t)) (bodyOf c (k % 16) body) ≡ some x
+  coded_reading : (c : TypeCode) → high_bits c ≡ k / 16
+      → cond (eqb (k % 16) 15) (null_type c >>= λ t. some (null t)) (body_of c (k % 16) body) ≡ some x
       → (k ∷ (tail ++ body)) ⟶ bare an (scalar an x)
-  coded-reading c h e = by-cases (eqb (k % 16) 15) (λ p. null-reading c h p (rw p at e)) (λ p. body-reading c h p (rw p at e))
+  coded_reading c h e = by_cases (eqb (k % 16) 15) (λ p. null_reading c h p (rw p at e)) (λ p. body_reading c h p (rw p at e))
 
-  pub scalar-reading : scalarIn k body ≡ some x → (k ∷ (tail ++ body)) ⟶ bare an (scalar an x)
-  unfolding scalarIn
-  scalar-reading e =
-      let m = bind-some (codeOf (k / 16)) (λ c. cond (eqb (k % 16) 15) (nullType c >>= λ t. some (null t)) (bodyOf c (k % 16) body)) x e in
-      coded-reading (m .0) (find-code _ (k / 16) (m .0) (m .1)) (m .2)
+  pub scalar_reading : scalar_in k body ≡ some x → (k ∷ (tail ++ body)) ⟶ bare an (scalar an x)
+  unfolding scalar_in
+  scalar_reading e =
+      let m = bind_some (code_of (k / 16)) (λ c. cond (eqb (k % 16) 15) (null_type c >>= λ t. some (null t)) (body_of c (k % 16) body)) x e in
+      coded_reading m.0 (find-code _ (k / 16) m.0 m.1) m.2
 
 -- ---- containers
 
 pub record Opening (k : ℕ) : Type 0 where
   pub least : 0xB0 ≤ k
   pub most : k < 0xDF
-  pub not-null-list : k ≢ 0xBF
-  pub not-null-sexp : k ≢ 0xCF
+  pub not_null_list : k ≢ 0xBF
+  pub not_null_sexp : k ≢ 0xCF
 
 pub opening : (k : ℕ) → opens k ≡ true → Opening k
 opening k e =
     let a = both {a = leb 0xB0 k} e in
-    let b = both {a = ltb k 0xDF} (a .1) in
-    let c = both {a = not (eqb k 0xBF)} (b .1) in
+    let b = both {a = ltb k 0xDF} a.1 in
+    let c = both {a = not (eqb k 0xBF)} b.1 in
     record {
-      least = leb-true 0xB0 k (a .0);
-      most = ltb-true k 0xDF (b .0);
-      not-null-list = eqb-false k 0xBF (not-true (eqb k 0xBF) (c .0));
-      not-null-sexp = eqb-false k 0xCF (not-true (eqb k 0xCF) (c .1));
+      least = leb-true 0xB0 k a.0;
+      most = ltb-true k 0xDF b.0;
+      not_null_list = eqb-false k 0xBF (not-true (eqb k 0xBF) c.0);
+      not_null_sexp = eqb-false k 0xCF (not-true (eqb k 0xCF) c.1);
     }
 
-not-alone : (k : ℕ) → k / 16 ≢ 1 → k % 16 ≢ 15 → alone (k / 16) (k % 16) ≡ false
-not-alone k p q = rw (ne-eqb (k % 16) 15 q, ne-eqb (k / 16) 1 p)
+not_alone : (k : ℕ) → k / 16 ≢ 1 → k % 16 ≢ 15 → alone (k / 16) (k % 16) ≡ false
+not_alone k p q = rw (ne_eqb (k % 16) 15 q, ne_eqb (k / 16) 1 p)
 
 module _ (an : List ℕ) (k : ℕ) (tail body : List ℕ) (f : Framing k (length body) tail) (o : Opening k) where
-  pub list-reading : k < 0xC0 → (vs : Members Scalar) → body ⟶ members vs → (k ∷ (tail ++ body)) ⟶ bare an (sequence an list vs)
-  list-reading lt vs r =
+  pub list_reading : k < 0xC0 → (vs : Members Scalar) → body ⟶ members vs → (k ∷ (tail ++ body)) ⟶ bare an (sequence an list vs)
+  list_reading lt vs r =
       let hi : k / 16 ≡ 11 = omega arith in
-      let n : k ≢ 0xBF = o .not-null-list in
-      is-sequence list (framing-header listCode f hi (not-alone k (λ q. omega arith) (λ q. omega arith)) refl) r
+      let n : k ≢ 0xBF = o.not_null_list in
+      is-sequence list (framing_header list_code f hi (not_alone k (λ q. omega arith) (λ q. omega arith)) refl) r
 
-  pub sexp-reading : 0xC0 ≤ k → k < 0xD0 → (vs : Members Scalar) → body ⟶ members vs → (k ∷ (tail ++ body)) ⟶ bare an (sequence an sexp vs)
-  sexp-reading le lt vs r =
+  pub sexp_reading : 0xC0 ≤ k → k < 0xD0 → (vs : Members Scalar) → body ⟶ members vs → (k ∷ (tail ++ body)) ⟶ bare an (sequence an sexp vs)
+  sexp_reading le lt vs r =
       let hi : k / 16 ≡ 12 = omega arith in
-      let n : k ≢ 0xCF = o .not-null-sexp in
-      is-sequence sexp (framing-header sexpCode f hi (not-alone k (λ q. omega arith) (λ q. omega arith)) refl) r
+      let n : k ≢ 0xCF = o.not_null_sexp in
+      is-sequence sexp (framing_header sexp_code f hi (not_alone k (λ q. omega arith) (λ q. omega arith)) refl) r
 
   sorted-frame : {t : List ℕ} → k ≡ 0xD1 → Framing k (length body) t → VarUInt t (length body) × (0 < length body)
-  sorted-frame e (by-itself a z) = contrary (rw e) a
-  sorted-frame e (by-low-bits a m z) = contrary m (rw e)
-  sorted-frame e (by-field a m n v) =
+  sorted-frame e (by_itself a z) = contrary (rw e) a
+  sorted-frame e (by_low_bits a m z) = contrary m (rw e)
+  sorted-frame e (by_field a m n v) =
       let w : (eqb (length body) 1 || eqb (length body) 0) ≡ false = rw e at n in
-      let z : length body ≢ 0 = eqb-false (length body) 0 (neither {a = eqb (length body) 1} w .1) in
+      let z : length body ≢ 0 = eqb-false (length body) 0 (neither {a = eqb (length body) 1} w).1 in
       (v, omega arith)
 
-  pub struct-reading : 0xD0 ≤ k → (fs : Fields Scalar) → body ⟶ fields fs → (isSorted k ≡ true → sorted 0 fs ≡ true)
+  pub struct_reading : 0xD0 ≤ k → (fs : Fields Scalar) → body ⟶ fields fs → (is_sorted_struct k ≡ true → sorted 0 fs ≡ true)
       → (k ∷ (tail ++ body)) ⟶ bare an (struct an fs)
-  struct-reading le fs r up =
-      by-cases (isSorted k)
+  struct_reading le fs r up =
+      by_cases (is_sorted_struct k)
       (λ p.
       let e : k ≡ 0xD1 = eqb-true k 0xD1 p in
       let w = sorted-frame e f in
-      subst (λ (j : ℕ). (j ∷ (tail ++ body)) ⟶ bare an (struct an fs)) (sym e) (is-sorted tail (w .0) (w .1) r (up p)))
+      subst (λ (j : ℕ). (j ∷ (tail ++ body)) ⟶ bare an (struct an fs)) (sym e) (is_sorted tail w.0 w.1 r (up p)))
       (λ p.
-      let hi : k / 16 ≡ 13 = omega (arith, o .most) in
+      let hi : k / 16 ≡ 13 = omega (arith, o.most) in
       let n : k ≢ 0xD1 = eqb-false k 0xD1 p in
-      is-struct (framing-header structCode f hi (not-alone k (λ q. omega arith) (λ q. omega (arith, o .most))) (ne-eqb (k % 16) 1 (λ q. omega arith))) r)
+      is_struct (framing_header struct_code f hi (not_alone k (λ q. omega arith) (λ q. omega (arith, o.most))) (ne_eqb (k % 16) 1 (λ q. omega arith))) r)

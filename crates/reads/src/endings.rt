@@ -1,11 +1,11 @@
 // How a walk over a stream ended, and its words.
-use crate::numbers::print;
-use crate::numbers::print_number;
+use crate::numbers::{print, print_number};
 use crate::values::print_refusal;
 use read_answers::answer_reading;
 use reading::Reading;
 
 // A refusal's number, or 0, and the place.
+#[derive(Drop)]
 pub(crate) struct Ending {
     pub(crate) refusal: u8,
     pub(crate) place: usize,

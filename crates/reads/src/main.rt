@@ -7,8 +7,8 @@ mod top;
 mod values;
 mod walk;
 
-ghost use Prim.Native.Nat.{_≤_};
-ghost use lib.ListN.{length};
+ghost use Rattle.std.specs.Prelude.{◌≤◌, length};
+
 use libc::STDIN_FILENO;
 use numbers::print;
 
@@ -37,7 +37,7 @@ fn answer(line: &[u8]) {
 }
 
 fn answer_lines(text: &[u8])
-    requires { ⌜ length (now text) ≤ 65536 ⌝ }
+    requires { length text.now ≤ 65536 }
 {
     let mut at: usize = 0;
     while at < text.len() {

@@ -1,7 +1,6 @@
 // Text, numbers in base ten, and the numbers of a body in hex, from the first byte that is not zero on.
 use libc::STDOUT_FILENO;
-use words::byte_at;
-use words::least;
+use words::{byte_at, least};
 
 // The sign of an Int is the highest bit of its first byte.
 const SIGN: u8 = 0x80;

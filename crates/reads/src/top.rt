@@ -1,13 +1,13 @@
 // The top level of a stream, by a reader that holds the stream and a position.
-ghost use mathlib.Core.Path.{_≡_};
-ghost use Rattle·stream_reader.specs.Top.{topItem, topReading};
+ghost use Rattle.std.specs.Prelude.{◌≡◌};
+ghost use Rattle.stream_reader.specs.Top.{top_item, top_reading};
+
 use crate::endings::print_reading;
-use crate::numbers::print;
-use crate::numbers::print_number;
-use reading::Item;
-use reading::Reading;
+use crate::numbers::{print, print_number};
+use reading::{Item, Reading};
 
 // How many items stand one behind the other, and the place behind the last.
+#[derive(Drop)]
 struct Items {
     count: usize,
     end: usize,
@@ -15,14 +15,14 @@ struct Items {
 
 // The item at a position.
 fn item(stream: &[u8], position: usize) -> Item
-    ensures { λ r. ⌜ r ≡ topItem (now (stream .entry)) position ⌝ }
+    ensures { result ≡ top_item stream.now position }
 {
     stream_reader::next_item(stream_reader::moved(stream_reader::new(stream), position))
 }
 
 // How the walk from a position on ends.
 fn ending(stream: &[u8], position: usize) -> Reading
-    ensures { λ r. ⌜ r ≡ topReading (now (stream .entry)) position ⌝ }
+    ensures { result ≡ top_reading stream.now position }
 {
     stream_reader::read_rest(stream_reader::moved(stream_reader::new(stream), position))
 }

@@ -1,15 +1,9 @@
 // Values as words, by their type byte and body. A container is shown by its bracket.
-use crate::numbers::behind;
-use crate::numbers::print;
-use crate::numbers::print_bytes;
-use crate::numbers::print_int_magnitude;
-use crate::numbers::print_int_sign;
-use crate::numbers::print_number;
-use crate::numbers::print_signed;
-use crate::numbers::print_uint;
-use entry_reading::gm_read_decimal;
-use entry_reading::gm_read_symbol;
-use entry_reading::gm_read_timestamp;
+use crate::numbers::{
+    behind, print, print_bytes, print_int_magnitude, print_int_sign, print_number, print_signed,
+    print_uint,
+};
+use entry_reading::{gm_read_decimal, gm_read_symbol, gm_read_timestamp};
 
 // "Typed Value Formats": a type byte is the type code and four low bits, of which 15 is a null.
 const NULL: u8 = 15;

@@ -1,17 +1,12 @@
 // The walk over a stream by the reader's entry points: item by item, containers entered.
-ghost use Prim.Native.Nat.{_≤_};
-ghost use lib.ListN.{length};
-ghost use Rattle·reads·specs.specs.Standing.{Standing};
-use crate::endings::Ending;
-use crate::endings::print_ending;
-use crate::numbers::print;
-use crate::numbers::print_number;
+ghost use Rattle.std.specs.Prelude.{◌≤◌, length};
+ghost use Rattle.reads.specs.Standing.{Standing};
+
+use crate::endings::{Ending, print_ending};
+use crate::numbers::{print, print_number};
 use crate::top::print_top;
-use crate::values::print_refusal;
-use crate::values::print_value;
-use entry_reading::gm_read_item;
-use entry_reading::gm_read_rest;
-use entry_reading::gm_read_sid;
+use crate::values::{print_refusal, print_value};
+use entry_reading::{gm_read_item, gm_read_rest, gm_read_sid};
 use words::least;
 
 const MOST_OPEN: usize = 32;
@@ -37,6 +32,7 @@ const MARKER: u8 = 0xE0;
 const NO_MORE: u8 = 0xFF;
 
 // What holds an item, a container or the stream: where it ends, its type byte, which is 0 for the stream, and the least name that may follow in it.
+#[derive(Drop)]
 struct Holder {
     end: usize,
     kind: u8,
@@ -44,6 +40,7 @@ struct Holder {
 }
 
 // Where a walk stands: the position, and what holds it, the stream first and then the containers that were entered.
+#[derive(Drop)]
 struct Walk {
     position: usize,
     depth: usize,
@@ -121,7 +118,7 @@ fn print_item(stream: &[u8], holder: u8, item: &[u64; 6]) {
 }
 
 fn start(end: usize, position: usize) -> Walk
-    ensures { λ r. ⌜ Standing r ⌝ }
+    ensures { Standing result }
 {
     let stream = Holder {
         end,
@@ -137,13 +134,13 @@ fn start(end: usize, position: usize) -> Walk
 
 // What holds the position.
 fn innermost(walk: Walk) -> Holder
-    requires { ⌜ Standing walk ⌝ }
+    requires { Standing walk }
 {
     walk.holders[walk.depth]
 }
 
 fn read_item(stream: &[u8], walk: Walk, item: &mut [u64; 6]) -> u8
-    requires { ⌜ Standing walk ⌝ }
+    requires { Standing walk }
 {
     let holder = innermost(walk);
     gm_read_item(
@@ -159,8 +156,8 @@ fn read_item(stream: &[u8], walk: Walk, item: &mut [u64; 6]) -> u8
 
 // The walk behind the container that it entered last.
 fn left(walk: Walk) -> Walk
-    requires { ⌜ Standing walk ⌝ }
-    ensures { λ r. ⌜ Standing r ⌝ }
+    requires { Standing walk }
+    ensures { Standing result }
 {
     if walk.depth == 0 {
         return walk;
@@ -173,8 +170,8 @@ fn left(walk: Walk) -> Walk
 
 // The walk behind an item. The name of a pad does not count.
 fn passed(walk: Walk, item: &[u64; 6]) -> Walk
-    requires { ⌜ Standing walk ⌝ }
-    ensures { λ r. ⌜ Standing r ⌝ }
+    requires { Standing walk }
+    ensures { Standing result }
 {
     let mut next = walk;
     next.position = item[STOP] as usize;
@@ -187,8 +184,8 @@ fn passed(walk: Walk, item: &[u64; 6]) -> Walk
 
 // The walk in a container. The reader refuses one for which there is no room.
 fn entered(walk: Walk, item: &[u64; 6]) -> Walk
-    requires { ⌜ Standing walk ⌝ }
-    ensures { λ r. ⌜ Standing r ⌝ }
+    requires { Standing walk }
+    ensures { Standing result }
 {
     if walk.depth == MOST_OPEN {
         return walk;
@@ -206,8 +203,8 @@ fn entered(walk: Walk, item: &[u64; 6]) -> Walk
 
 // The walk one item on.
 fn moved(walk: Walk, item: &[u64; 6]) -> Walk
-    requires { ⌜ Standing walk ⌝ }
-    ensures { λ r. ⌜ Standing r ⌝ }
+    requires { Standing walk }
+    ensures { Standing result }
 {
     let kind = kind_of(item);
     if kind == NO_MORE {
@@ -226,7 +223,7 @@ fn ends(walk: Walk, item: &[u64; 6]) -> bool {
 
 // Each turn reads an item, of a byte at least, or leaves a container.
 fn walked(stream: &[u8], position: usize) -> Ending
-    requires { ⌜ length (now stream) ≤ 8192 ⌝ }
+    requires { length stream.now ≤ 8192 }
 {
     let mut walk = start(stream.len(), position);
     let mut turns = 2 * stream.len() + 1;
@@ -261,7 +258,7 @@ fn rest(stream: &[u8], position: usize) -> Ending {
 
 // Prints what the walk from a position shows, and how it ended; then how `gm_read_rest` and the reader at top level say that it ends.
 pub(crate) fn print_walk(stream: &[u8], position: usize)
-    requires { ⌜ length (now stream) ≤ 8192 ⌝ }
+    requires { length stream.now ≤ 8192 }
 {
     print_ending(walked(stream, position));
     print(b"; rest ");

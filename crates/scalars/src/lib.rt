@@ -1,18 +1,14 @@
 // The scalars of document 01's value_writer, without annotations: a descriptor byte with the type code in its high four bits, then the body.
 // A function that writes answers how many bytes it put. It puts all or none, and none where a check of its own refuses the value.
-ghost use mathlib.Core.Path.{_≡_};
-ghost use mathlib.Core.Bool.{_&&_};
-ghost use mathlib.Core.List.{List};
-ghost use Prim.Native.Nat.{ℕ, _*_, _/_, _^_, _<_, _≤_};
-ghost use lib.Dec.{eqb};
-ghost use lib.ListN.{length};
-ghost use Rattle·ion.specs.Value.{highBits};
-ghost use Rattle·ion.specs.Fields.{uint};
-ghost use Rattle·encoding.specs.Headers.{typeByte, framedBytes};
-ghost use Rattle·encoding.specs.Argument.{codeOfNull, codeOfSign, checkedBytes, writeNull, writeBool, writeI64, writeInt, writeSymbol};
-ghost use Rattle·buffer.specs.Laid.{placed};
-ghost use Rattle·scalars·specs.specs.Types.{typeOf, scalarArgument};
+ghost use Rattle.std.specs.Prelude.{◌≡◌, ◌&&◌, List, ℕ, ◌*◌, ◌/◌, ◌^◌, ◌<◌, ◌≤◌, eqb, length};
+ghost use Rattle.ion.specs.Value.{high_bits};
+ghost use Rattle.ion.specs.Fields.{uint};
+ghost use Rattle.encoding.specs.Headers.{type_byte, framed_bytes};
+ghost use Rattle.encoding.specs.Argument.{code_of_null, code_of_sign, checked_bytes, write_null, write_bool, write_i64, write_int, write_symbol};
+ghost use Rattle.buffer.specs.Laid.{placed};
+ghost use Rattle.scalars.specs.Types.{type_of, scalar_argument};
 
+#[derive(Drop)]
 pub enum IonType {
     Null,
     Bool,
@@ -30,6 +26,7 @@ pub enum IonType {
 }
 
 // The scalars that no check refuses. Floats are given by their value or by their bits.
+#[derive(Drop)]
 pub enum Scalar {
     Null(IonType),
     Bool(bool),
@@ -52,7 +49,7 @@ const SYMBOL: u8 = 0x70;
 
 // The type code of a null. Of the two codes of the ints it is that of zero and above.
 fn null_code(t: IonType) -> u8
-    ensures { λ r. ⌜ (r ≡ highBits (codeOfNull (typeOf t))) × (r < 16) ⌝ }
+    ensures { (result ≡ high_bits (code_of_null (type_of t))) × (result < 16) }
 {
     match t {
         IonType::Null => 0,
@@ -73,28 +70,28 @@ fn null_code(t: IonType) -> u8
 
 // One byte: the type code, and F.
 pub fn write_null(buf: &mut [u8], at: usize, t: IonType) -> usize
-    ensures { λ r. ⌜ _≡_ {A = ℕ × List ℕ} (r, now (buf .exit)) (placed (now (buf .entry)) at (checkedBytes (writeNull (typeOf t)))) ⌝ }
+    ensures { ◌≡◌ {A = ℕ × List ℕ} (result, buf.new) (placed buf.old at (checked_bytes (write_null (type_of t)))) }
 {
     buffer::put(buf, at, null_code(t) * 16 + 15)
 }
 
 // 10, and 11 for true.
 pub fn write_bool(buf: &mut [u8], at: usize, value: bool) -> usize
-    ensures { λ r. ⌜ _≡_ {A = ℕ × List ℕ} (r, now (buf .exit)) (placed (now (buf .entry)) at (checkedBytes (writeBool value))) ⌝ }
+    ensures { ◌≡◌ {A = ℕ × List ℕ} (result, buf.new) (placed buf.old at (checked_bytes (write_bool value))) }
 {
     buffer::put(buf, at, BOOL + value as u8)
 }
 
 // 2 for zero and above, 3 below.
 fn int_code(negative: bool) -> u8
-    ensures { λ r. ⌜ r ≡ typeByte (codeOfSign negative) ⌝ }
+    ensures { result ≡ type_byte (code_of_sign negative) }
 {
     INT + NEGATIVE * (negative as u8)
 }
 
 // Zero has no body.
 pub fn write_i64(buf: &mut [u8], at: usize, value: i64) -> usize
-    ensures { λ r. ⌜ _≡_ {A = ℕ × List ℕ} (r, now (buf .exit)) (placed (now (buf .entry)) at (checkedBytes (writeI64 value))) ⌝ }
+    ensures { ◌≡◌ {A = ℕ × List ℕ} (result, buf.new) (placed buf.old at (checked_bytes (write_i64 value))) }
 {
     uint::write_framed(
         buf,
@@ -106,22 +103,22 @@ pub fn write_i64(buf: &mut [u8], at: usize, value: i64) -> usize
 
 // Sid 0 has no body.
 pub fn write_symbol(buf: &mut [u8], at: usize, sid: u64) -> usize
-    ensures { λ r. ⌜ _≡_ {A = ℕ × List ℕ} (r, now (buf .exit)) (placed (now (buf .entry)) at (checkedBytes (writeSymbol sid))) ⌝ }
+    ensures { ◌≡◌ {A = ℕ × List ℕ} (result, buf.new) (placed buf.old at (checked_bytes (write_symbol sid))) }
 {
     uint::write_framed(buf, at, SYMBOL, sid)
 }
 
 // The bytes that `body` bytes take with their header, of any type. A slice is shorter than 2 to the 63, so the sum does not wrap.
 fn framed_size(body: usize) -> usize
-    requires { ⌜ body ≤ 2 ^ 63 ⌝ }
-    ensures { λ r. ⌜ ((t : ℕ) (bytes : List ℕ) → length bytes ≡ body → r ≡ length (framedBytes t bytes)) ⌝ }
+    requires { body ≤ 2 ^ 63 }
+    ensures { (t : ℕ) (bytes : List ℕ) → length bytes ≡ body → result ≡ length (framed_bytes t bytes) }
 {
     header::encoded_size_of(body) + body
 }
 
 // A body of any length behind its header: strings, clobs and blobs. The low four bits of `code` do not count.
 pub fn write_bytes(buf: &mut [u8], at: usize, code: u8, bytes: &[u8]) -> usize
-    ensures { λ r. ⌜ _≡_ {A = ℕ × List ℕ} (r, now (buf .exit)) (placed (now (buf .entry)) at (framedBytes (code / 16 * 16) (now (bytes .entry)))) ⌝ }
+    ensures { ◌≡◌ {A = ℕ × List ℕ} (result, buf.new) (placed buf.old at (framed_bytes (code / 16 * 16) bytes.now)) }
 {
     if !buffer::has_room(buf.len(), at, framed_size(bytes.len())) {
         return 0;
@@ -132,14 +129,14 @@ pub fn write_bytes(buf: &mut [u8], at: usize, code: u8, bytes: &[u8]) -> usize
 
 // Check 5 of document 01's table.
 pub fn is_negative_zero(negative: bool, magnitude: &[u8]) -> bool
-    ensures { λ r. ⌜ r ≡ (negative && eqb (uint (now (magnitude .entry))) 0) ⌝ }
+    ensures { result ≡ (negative && eqb (uint magnitude.now) 0) }
 {
     negative & (uint::leading_zero_bytes(magnitude) == magnitude.len())
 }
 
 // The sign and a big-endian magnitude, whose leading zero bytes do not count. Zero has one byte; negative zero is refused.
 pub fn write_int(buf: &mut [u8], at: usize, negative: bool, magnitude: &[u8]) -> usize
-    ensures { λ r. ⌜ _≡_ {A = ℕ × List ℕ} (r, now (buf .exit)) (placed (now (buf .entry)) at (checkedBytes (writeInt negative (now (magnitude .entry))))) ⌝ }
+    ensures { ◌≡◌ {A = ℕ × List ℕ} (result, buf.new) (placed buf.old at (checked_bytes (write_int negative magnitude.now))) }
 {
     if is_negative_zero(negative, magnitude) {
         return 0;
@@ -154,14 +151,14 @@ pub fn write_int(buf: &mut [u8], at: usize, negative: bool, magnitude: &[u8]) ->
 
 // The bytes that the body `bytes` takes with its header, of any type.
 pub fn bytes_size(bytes: &[u8]) -> usize
-    ensures { λ r. ⌜ ((t : ℕ) → r ≡ length (framedBytes t (now (bytes .entry)))) ⌝ }
+    ensures { (t : ℕ) → result ≡ length (framed_bytes t bytes.now) }
 {
     framed_size(bytes.len())
 }
 
 // The bytes that an int takes; none for negative zero.
 pub fn int_size(negative: bool, magnitude: &[u8]) -> usize
-    ensures { λ r. ⌜ r ≡ length (checkedBytes (writeInt negative (now (magnitude .entry)))) ⌝ }
+    ensures { result ≡ length (checked_bytes (write_int negative magnitude.now)) }
 {
     if is_negative_zero(negative, magnitude) {
         return 0;
@@ -172,7 +169,7 @@ pub fn int_size(negative: bool, magnitude: &[u8]) -> usize
 
 // The bytes that a scalar takes.
 pub fn size(value: Scalar) -> usize
-    ensures { λ r. ⌜ r ≡ length (checkedBytes (scalarArgument value)) ⌝ }
+    ensures { result ≡ length (checked_bytes (scalar_argument value)) }
 {
     match value {
         Scalar::Null(_) => 1,
@@ -188,7 +185,7 @@ pub fn size(value: Scalar) -> usize
 
 // By its case.
 pub fn write(buf: &mut [u8], at: usize, value: Scalar) -> usize
-    ensures { λ r. ⌜ _≡_ {A = ℕ × List ℕ} (r, now (buf .exit)) (placed (now (buf .entry)) at (checkedBytes (scalarArgument value))) ⌝ }
+    ensures { ◌≡◌ {A = ℕ × List ℕ} (result, buf.new) (placed buf.old at (checked_bytes (scalar_argument value))) }
 {
     match value {
         Scalar::Null(t) => write_null(buf, at, t),

@@ -1,27 +1,27 @@
 -- The next small value, from a number on: that number, or the next one from the number behind it; and the limits of the sizes.
 -- Assumes nothing.
-use Prim.Native.Nat.{ℕ, zero, suc, _+_, _-_, _<_, _≤_}
+use Prim.Native.Nat.{ℕ, zero, suc, ◌+◌, ◌-◌, ◌<◌, ◌≤◌}
 use native.Mathlib.Omega.{arith}
-use mathlib.Core.Path.{_≡_, refl, ap}
+use mathlib.Core.Path.{◌≡◌, refl, ap}
 use mathlib.Core.Bool.{true, false}
 use borrow.Author.Tests.{lt-leb}
-use Rattle·encoding.specs.Digits.{lowDigits}
-use Rattle·unpadded.specs.Rule.{isOneValue}
-use Rattle·small_values·specs.specs.Listing.{limit, firstFrom, nextOf}
+use Rattle.encoding.specs.Digits.{low_digits}
+use Rattle.unpadded.specs.Rule.{is_one_value}
+use Rattle.small_values.specs.Listing.{limit, first_from, next_of}
 
 pub limit-none : (n : ℕ) → 3 < n → limit n ≡ 0
 unfolding limit
 limit-none n h = rw (lt-leb n 3 h) refl
 
 module _ (n x : ℕ) where
-  pub next-here : x < limit n → isOneValue (lowDigits 256 n x) ≡ true → nextOf n x ≡ x
-  unfolding nextOf firstFrom
-  next-here h e = let k : limit n - x ≡ suc (limit n - (x + 1)) = omega arith in rw (k, e) refl
+  pub next_here : x < limit n → is_one_value (low_digits 256 n x) ≡ true → next_of n x ≡ x
+  unfolding next_of first_from
+  next_here h e = let k : limit n - x ≡ suc (limit n - (x + 1)) = omega arith in rw (k, e) refl
 
-  pub next-later : x < limit n → isOneValue (lowDigits 256 n x) ≡ false → nextOf n x ≡ nextOf n (x + 1)
-  unfolding nextOf firstFrom
+  pub next-later : x < limit n → is_one_value (low_digits 256 n x) ≡ false → next_of n x ≡ next_of n (x + 1)
+  unfolding next_of first_from
   next-later h e = let k : limit n - x ≡ suc (limit n - (x + 1)) = omega arith in rw (k, e) refl
 
-  pub next-end : limit n ≤ x → nextOf n x ≡ x
-  unfolding nextOf firstFrom
-  next-end h = let k : limit n - x ≡ 0 = omega arith in rw k refl
+  pub next_end : limit n ≤ x → next_of n x ≡ x
+  unfolding next_of first_from
+  next_end h = let k : limit n - x ≡ 0 = omega arith in rw k refl

@@ -1,25 +1,19 @@
 -- The order of byte strings that document 02, Item 12, asks for, and what it is to list the strings of a set in it.
 -- Assumes nothing.
-use Prim.Native.Nat.{ℕ}
-use mathlib.Core.Path.{_≡_}
-use mathlib.Core.Logic.{_⊎_}
-use mathlib.Core.Bool.{Bool, true, false, _&&_, _||_}
-use mathlib.Core.List.{List, [], _∷_}
-use lib.Dec.{ltb, eqb}
-use lib.ListN.{length}
+use Rattle.std.specs.Prelude.{ℕ, ◌≡◌, ◌⊎◌, Bool, true, false, ◌&&◌, ◌||◌, List, [], ◌∷◌, ltb, eqb, length}
 
 -- of strings of one length, by the first bytes that differ
-unfoldable pub byBytes : List ℕ → List ℕ → Bool
-byBytes [] c = false
-byBytes (x ∷ b) [] = false
-byBytes (x ∷ b) (y ∷ c) = ltb x y || (eqb x y && byBytes b c)
+unfoldable pub by_bytes : List ℕ → List ℕ → Bool
+by_bytes [] c = false
+by_bytes (x ∷ b) [] = false
+by_bytes (x ∷ b) (y ∷ c) = ltb x y || (eqb x y && by_bytes b c)
 
 -- "shorter first and then by bytes"
 unfoldable pub precedes : List ℕ → List ℕ → Bool
-precedes b c = ltb (length b) (length c) || (eqb (length b) (length c) && byBytes b c)
+precedes b c = ltb (length b) (length c) || (eqb (length b) (length c) && by_bytes b c)
 
-infix 30 _∈_
-abbrev pub _∈_ : List ℕ → List (List ℕ) → Type 0
+infix 30 ◌∈◌
+abbrev pub ◌∈◌ : List ℕ → List (List ℕ) → Type 0
 b ∈ [] = ⊥
 b ∈ (c ∷ l) = (b ≡ c) ⊎ (b ∈ l)
 

@@ -1,10 +1,8 @@
 -- The small values (document 02, Item 12).
 -- Assumes nothing.
-use Prim.Native.Nat.{ℕ, _≤_}
-use mathlib.Core.List.{List}
-use lib.ListN.{length}
-use Rattle·encoding.specs.Fields.{AllBelow}
-use Rattle·unpadded_grammar.specs.Exact.{OneValue}
+use Rattle.std.specs.Prelude.{ℕ, ◌≤◌, List, length}
+use Rattle.encoding.specs.Fields.{AllBelow}
+use Rattle.unpadded_grammar.specs.Exact.{OneValue}
 
 -- A byte string of at most three bytes that reads as exactly one value and contains no NOP pad. An out-of-calendar timestamp is not listed.
 pub record SmallValue (b : List ℕ) : Type 0 where

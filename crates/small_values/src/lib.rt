@@ -1,15 +1,13 @@
 // The small values (document 02, Item 12): byte strings of one to three bytes by their size and their big-endian number, and which of them is the next.
-ghost use mathlib.Core.Path.{_≡_};
-ghost use Prim.Native.Nat.{_≤_};
-ghost use lib.ListN.{length};
-ghost use Rattle·encoding.specs.Digits.{lowDigits};
-ghost use Rattle·unpadded.specs.Rule.{isOneValue};
-ghost use Rattle·small_values·specs.specs.Listing as S;
-ghost use Rattle·small_values·specs.specs.Listing.{nextOf};
+ghost use Rattle.std.specs.Prelude.{◌≡◌, ◌≤◌, length};
+ghost use Rattle.encoding.specs.Digits.{low_digits};
+ghost use Rattle.unpadded.specs.Rule.{is_one_value};
+ghost use Rattle.small_values.specs.Listing as S;
+ghost use Rattle.small_values.specs.Listing.{next_of};
 
 // How many byte strings of a size are asked: all up to three bytes.
 pub fn limit(size: usize) -> u32
-    ensures { λ r. ⌜ r ≡ S.limit size ⌝ }
+    ensures { result ≡ S.limit size }
 {
     match size {
         0 => 1,
@@ -22,7 +20,7 @@ pub fn limit(size: usize) -> u32
 
 // The bytes of a number, as many as there is room for.
 pub fn spell(bytes: &mut [u8], number: u32)
-    ensures { λ r. ⌜ now (bytes .exit) ≡ lowDigits 256 (length (now (bytes .entry))) number ⌝ }
+    ensures { bytes.new ≡ low_digits 256 (length bytes.old) number }
 {
     let size = bytes.len();
     digits::put_digits(bytes, 0, size, 255, number as u64);
@@ -30,8 +28,8 @@ pub fn spell(bytes: &mut [u8], number: u32)
 
 // Whether a string is one value without pad and mark.
 fn is_value(size: usize, number: u32) -> bool
-    requires { ⌜ size ≤ 3 ⌝ }
-    ensures { λ r. ⌜ r ≡ isOneValue (lowDigits 256 size number) ⌝ }
+    requires { size ≤ 3 }
+    ensures { result ≡ is_one_value (low_digits 256 size number) }
 {
     let mut bytes = [0u8; 3];
     spell(&mut bytes[..size], number);
@@ -40,7 +38,7 @@ fn is_value(size: usize, number: u32) -> bool
 
 // The number of the next small value of a size, from a number on; where there is none, the limit, or that number if it is past the limit.
 pub fn next(size: usize, from: u32) -> u32
-    ensures { λ r. ⌜ r ≡ nextOf size from ⌝ }
+    ensures { result ≡ next_of size from }
 {
     let end = limit(size);
     let mut number = from;

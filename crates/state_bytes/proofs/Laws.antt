@@ -1,105 +1,105 @@
 -- The state that bytes spell, part by part, and whether a check by place passes over them.
 -- Assumes nothing.
-use Prim.Native.Nat.{ℕ, zero, suc, _+_, _-_, _*_, _%_, _<_, _≤_, _/_}
+use Prim.Native.Nat.{ℕ, zero, suc, ◌+◌, ◌-◌, ◌*◌, ◌%◌, ◌<◌, ◌≤◌, ◌/◌}
 use native.Mathlib.Omega.{arith}
-use native.Mathlib.Nat.{add-zero, add-suc, suc-add, zero-add, add-mul-div-left, add-mul-mod-self-left}
-use mathlib.Core.Path.{_≡_, refl, sym, _∙_, ap}
-use mathlib.Core.Bool.{Bool, true, false, false≢true, not, _&&_, _||_, and-false, and-true}
-use mathlib.Core.List.{List, [], _∷_, _++_}
-use lib.Dec.{eqb, ltb, leb, eqb·suc-zero}
-use lib.ListN.{length, getD, take, set, List·getD-append, List·getD-eq-default, replicate}
-use lib.Seq.{getD-take, getD-set-same, length-take-le}
-use mir.Val.{boolByte}
-use borrow.Author.Tests.{eq-eqb, ne-eqb, eqb-true, eqb-false, lt-ltb, le-ltb, lt-leb, le-leb, leb-true, leb-false, ltb-true, ltb-false, not-false}
-use Rattle·ion.proofs.Tests.{by-cases, both}
-use Rattle·buffer.specs.Laid.{laid, placed}
-use Rattle·buffer.proofs.Laid.{laid-one, laid-snoc, length-laid, laid-more, leb-iff}
-use Rattle·machine.specs.declared.Container.{Container}
-use Rattle·machine.specs.declared.State.{State}
-use Rattle·machine.specs.Machine.{mostOpen, longestBuffer, noContainer, innermostFirst, openContainers, inStruct, outer, withMember, counted}
-use Rattle·machine.specs.Machine.{containerFits, containersFit, fits, placeVerdict, isAccepted}
-use Rattle·place.proofs.Laws.{same-test, innermost-step, innermost-none, chain-step, fits-overused, fits-overopen}
-use Rattle·state_bytes·specs.specs.StateBytes.{headSize, recordSize, stateSize, four, placeOf, containerAt, containersFrom, unfitState, stateOf}
-use Rattle·state_bytes·specs.specs.StateBytes.{fourBytes, flag, storedHead, storedContainer, storedMembers, storedCount, numbersLaid}
+use native.Mathlib.Nat.{add-zero, add-suc, suc-add, zero-add, add-mul-div_left, add-mul-mod_self_left}
+use mathlib.Core.Path.{◌≡◌, refl, sym, ◌∙◌, ap}
+use mathlib.Core.Bool.{Bool, true, false, false≢true, not, ◌&&◌, ◌||◌, and-false, and-true}
+use mathlib.Core.List.{List, [], ◌∷◌, ◌++◌}
+use lib.Dec.{eqb, ltb, leb, eqb-suc-zero}
+use lib.ListN.{length, get_or, take, set, get_or-append, get_or-eq_default, replicate}
+use lib.Seq.{get_or-take, get_or-set_same, length-take-le}
+use mir.Val.{bool_byte}
+use borrow.Author.Tests.{eq-eqb, ne_eqb, eqb-true, eqb-false, lt-ltb, le-ltb, lt-leb, le-leb, leb-true, leb-false, ltb-true, ltb-false, not-false}
+use Rattle.ion.proofs.Tests.{by_cases, both}
+use Rattle.buffer.specs.Laid.{laid, placed}
+use Rattle.buffer.proofs.Laid.{laid_one, laid_snoc, length-laid, laid_more, leb_iff}
+use Rattle.machine.specs.declared.Container.{Container}
+use Rattle.machine.specs.declared.State.{State}
+use Rattle.machine.specs.Machine.{most_open, longest_buffer, no_container, innermost_first, open_containers, in_struct, outer, with_member, counted}
+use Rattle.machine.specs.Machine.{container_fits, containers_fit, fits, place_verdict, is_accepted}
+use Rattle.place.proofs.Laws.{same_test, innermost_step, innermost-none, chain_step, fits_overused, fits_overopen}
+use Rattle.state_bytes.specs.StateBytes.{head_size, record_size, state_size, four, place_of, container_at, containers_from, unfit_state, state_of}
+use Rattle.state_bytes.specs.StateBytes.{four_bytes, flag, stored_head, stored_container, stored_members, stored_count, numbers_laid}
 
 -- ---- the state
 
 abbrev pub spelled : List ℕ → State
-spelled b = record { used = four b 0; depth = getD b 4 0; waiting = not (eqb (getD b 5 0) 0); containers = containersFrom b 0 mostOpen }
+spelled b = record { used = four b 0; depth = get_or b 4 0; waiting = not (eqb (get_or b 5 0) 0); containers = containers_from b 0 most_open }
 
-pub state-is : (b : List ℕ) → length b ≡ stateSize → stateOf b ≡ spelled b
-unfolding stateOf
-state-is b h = rw (eq-eqb (length b) stateSize h, stateOf)
+pub state_is : (b : List ℕ) → length b ≡ state_size → state_of b ≡ spelled b
+unfolding state_of
+state_is b h = rw (eq-eqb (length b) state_size h, state_of)
 
-pub state-none : (b : List ℕ) → (length b ≡ stateSize → ⊥) → stateOf b ≡ unfitState
-unfolding stateOf
-state-none b h = rw (ne-eqb (length b) stateSize h, stateOf)
+pub state_none : (b : List ℕ) → (length b ≡ state_size → ⊥) → state_of b ≡ unfit_state
+unfolding state_of
+state_none b h = rw (ne_eqb (length b) state_size h, state_of)
 
-container-of : (b : List ℕ) (i n j : ℕ) → j < n → getD (containersFrom b i n) j noContainer ≡ containerAt b (placeOf (i + j))
-unfolding containersFrom
-container-of b i zero j h = absurd (none j h)
+container_of : (b : List ℕ) (i n j : ℕ) → j < n → get_or (containers_from b i n) j no_container ≡ container_at b (place_of (i + j))
+unfolding containers_from
+container_of b i zero j h = absurd (none j h)
   where
     none : (k : ℕ) → k < 0 → ⊥
     none k q = omega arith
-container-of b i (suc n) zero h = rw (add-zero i)
-container-of b i (suc n) (suc j) h = container-of b (suc i) n j (omega arith) ∙ rw (add-suc i j, suc-add i j)
+container_of b i (suc n) zero h = rw (add-zero i)
+container_of b i (suc n) (suc j) h = container_of b (suc i) n j (omega arith) ∙ rw (add-suc i j, suc-add i j)
 
-pub container-is : (b : List ℕ) (j : ℕ) → j < mostOpen → getD (containersFrom b 0 mostOpen) j noContainer ≡ containerAt b (placeOf j)
-container-is b j h = container-of b 0 mostOpen j h ∙ rw (zero-add j)
+pub container_is : (b : List ℕ) (j : ℕ) → j < most_open → get_or (containers_from b 0 most_open) j no_container ≡ container_at b (place_of j)
+container_is b j h = container_of b 0 most_open j h ∙ rw (zero-add j)
 
-pub length-containers : (b : List ℕ) (i n : ℕ) → length (containersFrom b i n) ≡ n
-unfolding containersFrom
-length-containers b i zero = refl
-length-containers b i (suc n) = ap suc (length-containers b (suc i) n)
+pub length_containers : (b : List ℕ) (i n : ℕ) → length (containers_from b i n) ≡ n
+unfolding containers_from
+length_containers b i zero = refl
+length_containers b i (suc n) = ap suc (length_containers b (suc i) n)
 
-pub container-past : (b : List ℕ) (j : ℕ) → mostOpen ≤ j → noContainer ≡ getD (containersFrom b 0 mostOpen) j noContainer
-container-past b j h = sym (List·getD-eq-default (containersFrom b 0 mostOpen) noContainer (omega (arith, length-containers b 0 mostOpen)))
+pub container_past : (b : List ℕ) (j : ℕ) → most_open ≤ j → no_container ≡ get_or (containers_from b 0 most_open) j no_container
+container_past b j h = sym (get_or-eq_default (containers_from b 0 most_open) no_container (omega (arith, length_containers b 0 most_open)))
 
 -- the container that is read before the place i
-pub container-at : (b : List ℕ) (i : ℕ) (c : Container) → length b ≡ stateSize → 0 < i → i ≤ mostOpen → c ≡ containerAt b (placeOf (i - 1))
-    → c ≡ getD (stateOf b .containers) (i - 1) noContainer
-container-at b i c h p q e = e ∙ (rw (state-is b h) (sym (container-is b (i - 1) (omega arith))))
+pub container-at : (b : List ℕ) (i : ℕ) (c : Container) → length b ≡ state_size → 0 < i → i ≤ most_open → c ≡ container_at b (place_of (i - 1))
+    → c ≡ get_or (state_of b).containers (i - 1) no_container
+container-at b i c h p q e = e ∙ (rw (state_is b h) (sym (container_is b (i - 1) (omega arith))))
 
 -- each container of the state that does not fit is one of zeros
-pub container-unfit : (j : ℕ) → noContainer ≡ getD (unfitState .containers) j noContainer
-container-unfit j = of-zeros mostOpen j
+pub container_unfit : (j : ℕ) → no_container ≡ get_or unfit_state.containers j no_container
+container_unfit j = of_zeros most_open j
   where
-    of-zeros : (n k : ℕ) → noContainer ≡ getD (replicate n noContainer) k noContainer
-    of-zeros zero k = refl
-    of-zeros (suc n) zero = refl
-    of-zeros (suc n) (suc k) = of-zeros n k
+    of_zeros : (n k : ℕ) → no_container ≡ get_or (replicate n no_container) k no_container
+    of_zeros zero k = refl
+    of_zeros (suc n) zero = refl
+    of_zeros (suc n) (suc k) = of_zeros n k
 
 -- ---- the innermost container
 
-pub inStruct-step : (l : List Container) (n : ℕ) → 0 < n → eqb (getD l (n - 1) noContainer .code) 0xD0 ≡ inStruct (innermostFirst l n)
-inStruct-step l n h = rw (innermost-step l n h)
+pub in_struct_step : (l : List Container) (n : ℕ) → 0 < n → eqb (get_or l (n - 1) no_container).code 0xD0 ≡ in_struct (innermost_first l n)
+in_struct_step l n h = rw (innermost_step l n h)
 
-pub inStruct-none : (l : List Container) (n : ℕ) → n ≤ 0 → false ≡ inStruct (innermostFirst l n)
-inStruct-none l n h = rw (innermost-none l n h)
+pub in_struct-none : (l : List Container) (n : ℕ) → n ≤ 0 → false ≡ in_struct (innermost_first l n)
+in_struct-none l n h = rw (innermost-none l n h)
 
 -- the code of the container below d; at 0 the byte there is the highest of the used length
-pub struct-below : (b : List ℕ) (d : ℕ) → length b ≡ stateSize → d ≤ mostOpen → stateOf b .used ≤ longestBuffer
-    → eqb (getD b (headSize + recordSize * d - 5) 0) 0xD0 ≡ inStruct (innermostFirst (stateOf b .containers) d)
-struct-below b d h k u =
-    by-cases (eqb d 0)
+pub struct_below : (b : List ℕ) (d : ℕ) → length b ≡ state_size → d ≤ most_open → (state_of b).used ≤ longest_buffer
+    → eqb (get_or b (head_size + record_size * d - 5) 0) 0xD0 ≡ in_struct (innermost_first (state_of b).containers d)
+struct_below b d h k u =
+    by_cases (eqb d 0)
     (λ p.
-    let e : headSize + recordSize * d - 5 ≡ 3 = omega (arith, eqb-true d 0 p) in
-    let f : four b 0 ≤ longestBuffer = rw (state-is b h) at u in
-    rw (e, ne-eqb (getD b 3 0) 0xD0 (λ q. omega (arith, f, q))) (inStruct-none (stateOf b .containers) d (omega (arith, eqb-true d 0 p))))
+    let e : head_size + record_size * d - 5 ≡ 3 = omega (arith, eqb-true d 0 p) in
+    let f : four b 0 ≤ longest_buffer = rw (state_is b h) at u in
+    rw (e, ne_eqb (get_or b 3 0) 0xD0 (λ q. omega (arith, f, q))) (in_struct-none (state_of b).containers d (omega (arith, eqb-true d 0 p))))
     (λ p.
     let q : 0 < d = positive (eqb-false d 0 p) in
-    let e : headSize + recordSize * d - 5 ≡ placeOf (d - 1) + 8 = omega arith in
-    rw e (sym (ap (λ (c : Container). eqb (c .code) 0xD0)
-    (ap (λ (s : State). getD (s .containers) (d - 1) noContainer) (state-is b h) ∙ container-is b (d - 1) (omega arith)))
-    ∙ inStruct-step (stateOf b .containers) d q))
+    let e : head_size + record_size * d - 5 ≡ place_of (d - 1) + 8 = omega arith in
+    rw e (sym (ap (λ (c : Container). eqb c.code 0xD0)
+    (ap (λ (s : State). get_or s.containers (d - 1) no_container) (state_is b h) ∙ container_is b (d - 1) (omega arith)))
+    ∙ in_struct_step (state_of b).containers d q))
   where
     positive : (d ≡ 0 → ⊥) → 0 < d
     positive n = omega (arith, n)
 
-pub outer-step : (l : List Container) (n : ℕ) → 0 < n → inStruct (innermostFirst l (n - 1)) ≡ inStruct (outer (innermostFirst l n))
-outer-step l n h = rw (innermost-step l n h)
+pub outer_step : (l : List Container) (n : ℕ) → 0 < n → in_struct (innermost_first l (n - 1)) ≡ in_struct (outer (innermost_first l n))
+outer_step l n h = rw (innermost_step l n h)
 
-pub outer-none : (l : List Container) (n : ℕ) → n ≤ 0 → false ≡ inStruct (outer (innermostFirst l n))
+pub outer-none : (l : List Container) (n : ℕ) → n ≤ 0 → false ≡ in_struct (outer (innermost_first l n))
 outer-none l n h = rw (innermost-none l n h)
 
 -- ---- whether it fits
@@ -111,248 +111,248 @@ module _ (code : ℕ) where
 
   named : (leb 11 exchanged && leb exchanged 13) ≡ true → (eqb code 0xB0 || (eqb code 0xC0 || eqb code 0xD0)) ≡ true
   named e =
-      let p = leb-true 11 exchanged (both {a = leb 11 exchanged} e .0) in
-      let q = leb-true exchanged 13 (both {a = leb 11 exchanged} e .1) in
+      let p = leb-true 11 exchanged (both {a = leb 11 exchanged} e).0 in
+      let q = leb-true exchanged 13 (both {a = leb 11 exchanged} e).1 in
       let z : code % 16 ≡ 0 = omega (arith, q) in
       let m : code ≡ 16 * (code / 16) = omega arith in
-      by-cases (eqb code 0xB0) (λ s. rw s)
-      (λ s. by-cases (eqb code 0xC0) (λ t. rw (s, t)) (λ t. rw (s, t) (eq-eqb code 0xD0 (omega (arith, p, q, eqb-false code 0xB0 s, eqb-false code 0xC0 t)))))
+      by_cases (eqb code 0xB0) (λ s. rw s)
+      (λ s. by_cases (eqb code 0xC0) (λ t. rw (s, t)) (λ t. rw (s, t) (eq-eqb code 0xD0 (omega (arith, p, q, eqb-false code 0xB0 s, eqb-false code 0xC0 t)))))
 
   among : (n : ℕ) → code ≡ 16 * n → 11 ≤ n → n ≤ 13 → (leb 11 exchanged && leb exchanged 13) ≡ true
   among n e p q = rw (le-leb 11 exchanged (omega arith), le-leb exchanged 13 (omega arith))
 
-  pub exchanged-code : (leb 11 exchanged && leb exchanged 13) ≡ (eqb code 0xB0 || (eqb code 0xC0 || eqb code 0xD0))
-  exchanged-code =
-      same-test (leb 11 exchanged && leb exchanged 13) (eqb code 0xB0 || (eqb code 0xC0 || eqb code 0xD0)) named
+  pub exchanged_code : (leb 11 exchanged && leb exchanged 13) ≡ (eqb code 0xB0 || (eqb code 0xC0 || eqb code 0xD0))
+  exchanged_code =
+      same_test (leb 11 exchanged && leb exchanged 13) (eqb code 0xB0 || (eqb code 0xC0 || eqb code 0xD0)) named
       (λ e.
-      by-cases (eqb code 0xB0) (λ s. among 11 (eqb-true code 0xB0 s) (omega arith) (omega arith))
-      (λ s. by-cases (eqb code 0xC0) (λ t. among 12 (eqb-true code 0xC0 t) (omega arith) (omega arith))
+      by_cases (eqb code 0xB0) (λ s. among 11 (eqb-true code 0xB0 s) (omega arith) (omega arith))
+      (λ s. by_cases (eqb code 0xC0) (λ t. among 12 (eqb-true code 0xC0 t) (omega arith) (omega arith))
       (λ t. among 13 (eqb-true code 0xD0 (rw (s, t) at e)) (omega arith) (omega arith))))
 
 -- a slice of another length
-pub unfit : (b : List ℕ) (room : ℕ) → (length b ≡ stateSize → ⊥) → false ≡ fits (stateOf b) room
-unfit b room h = rw (state-none b h) (fits-overopen unfitState room (omega arith) (omega arith))
+pub unfit : (b : List ℕ) (room : ℕ) → (length b ≡ state_size → ⊥) → false ≡ fits (state_of b) room
+unfit b room h = rw (state_none b h) (fits_overopen unfit_state room (omega arith) (omega arith))
 
 -- what can be read has the right length
-pub readable-size : (b : List ℕ) → leb (stateOf b .depth) mostOpen ≡ true → length b ≡ stateSize
-readable-size b e =
-    by-cases (eqb (length b) stateSize) (λ p. eqb-true (length b) stateSize p)
-    (λ p. absurd (false≢true (rw (state-none b (eqb-false (length b) stateSize p)) at e)))
+pub readable_size : (b : List ℕ) → leb (state_of b).depth most_open ≡ true → length b ≡ state_size
+readable_size b e =
+    by_cases (eqb (length b) state_size) (λ p. eqb-true (length b) state_size p)
+    (λ p. absurd (false≢true (rw (state_none b (eqb-false (length b) state_size p)) at e)))
 
 -- and so has what was tested, of a depth that is allowed
-pub readable-depth : (b : List ℕ) (r : Bool) (d : ℕ) → r ≡ leb (stateOf b .depth) mostOpen → not r ≡ false → d ≡ stateOf b .depth
-    → (d ≤ mostOpen) × (length b ≡ stateSize)
-readable-depth b r d p n q = let h = sym p ∙ not-false r n in (rw q (leb-true (stateOf b .depth) mostOpen h), readable-size b h)
+pub readable_depth : (b : List ℕ) (r : Bool) (d : ℕ) → r ≡ leb (state_of b).depth most_open → not r ≡ false → d ≡ (state_of b).depth
+    → (d ≤ most_open) × (length b ≡ state_size)
+readable_depth b r d p n q = let h = sym p ∙ not-false r n in (rw q (leb-true (state_of b).depth most_open h), readable_size b h)
 
 -- members within what is left of the limit
 pub within : (end members limit : ℕ) → (leb end limit && leb members (limit - end)) ≡ leb (end + members) limit
 within end members limit =
-    by-cases (leb end limit)
-    (λ p. let h = leb-true end limit p in rw p (leb-iff members (limit - end) (end + members) limit (λ k. omega arith) (λ k. omega arith)))
+    by_cases (leb end limit)
+    (λ p. let h = leb-true end limit p in rw p (leb_iff members (limit - end) (end + members) limit (λ k. omega arith) (λ k. omega arith)))
     (λ p. rw (p, lt-leb (end + members) limit (omega (arith, leb-false end limit p))))
 
 -- a header that is the start or lies four beyond it
 pub apart : (header start : ℕ) → (not (eqb header start) && ltb header (start + 4)) ≡ false → (eqb header start || leb (start + 4) header) ≡ true
 apart header start e =
-    by-cases (eqb header start) (λ p. rw p)
+    by_cases (eqb header start) (λ p. rw p)
     (λ p. let q : ltb header (start + 4) ≡ false = rw p at e in rw (p, le-leb (start + 4) header (ltb-false header (start + 4) q)))
 
 pub between : (header start : ℕ) → (not (eqb header start) && ltb header (start + 4)) ≡ true → (eqb header start || leb (start + 4) header) ≡ false
 between header start e =
-    by-cases (eqb header start) (λ p. let q : false ≡ true = rw p at e in absurd (false≢true q))
+    by_cases (eqb header start) (λ p. let q : false ≡ true = rw p at e in absurd (false≢true q))
     (λ p. let q : ltb header (start + 4) ≡ true = rw p at e in rw (p, lt-leb (start + 4) header (ltb-true header (start + 4) q)))
 
 -- ---- the containers, one by one
 
 -- c is the container below i
-module _ (b : List ℕ) (i limit : ℕ) (c : Container) (h : length b ≡ stateSize) (some : 0 < i) (most : i ≤ mostOpen)
-    (e : c ≡ containerAt b (placeOf (i - 1))) where
-  chain-by : containersFit limit (innermostFirst (stateOf b .containers) i)
-      ≡ (containerFits limit c && containersFit (c .start) (innermostFirst (stateOf b .containers) (i - 1)))
-  chain-by = chain-step (stateOf b .containers) i limit some ∙ rw (← (container-at b i c h some most e))
+module _ (b : List ℕ) (i limit : ℕ) (c : Container) (h : length b ≡ state_size) (some : 0 < i) (most : i ≤ most_open)
+    (e : c ≡ container_at b (place_of (i - 1))) where
+  chain_by : containers_fit limit (innermost_first (state_of b).containers i)
+      ≡ (container_fits limit c && containers_fit c.start (innermost_first (state_of b).containers (i - 1)))
+  chain_by = chain_step (state_of b).containers i limit some ∙ rw (← (container-at b i c h some most e))
 
-  pub chain-unfit : containerFits limit c ≡ false → containersFit limit (innermostFirst (stateOf b .containers) i) ≡ false
-  chain-unfit n = chain-by ∙ rw n
+  pub chain_unfit : container_fits limit c ≡ false → containers_fit limit (innermost_first (state_of b).containers i) ≡ false
+  chain_unfit n = chain_by ∙ rw n
 
-  pub chain-fit : containerFits limit c ≡ true
-      → containersFit limit (innermostFirst (stateOf b .containers) i)
-      ≡ containersFit (c .start) (innermostFirst (stateOf b .containers) (i - 1))
-  chain-fit n = chain-by ∙ rw n
+  pub chain_fit : container_fits limit c ≡ true
+      → containers_fit limit (innermost_first (state_of b).containers i)
+      ≡ containers_fit c.start (innermost_first (state_of b).containers (i - 1))
+  chain_fit n = chain_by ∙ rw n
 
 -- ---- stores
 
-pub flag-is : (w : Bool) → boolByte w ≡ flag w
-flag-is true = refl
-flag-is false = refl
+pub flag_is : (w : Bool) → bool_byte w ≡ flag w
+flag_is true = refl
+flag_is false = refl
 
 -- four stores in a row
 pub laid-four : (b : List ℕ) (at v w x y : ℕ) → at + 4 ≤ length b
     → set (set (set (set b at v) (at + 1) w) (at + 2) x) (at + 3) y ≡ laid b at (v ∷ w ∷ x ∷ y ∷ [])
 laid-four b at v w x y h =
     rw (
-      laid-one b at v (omega arith),
-      laid-snoc b at (v ∷ []) (at + 1) w refl (omega arith),
-      laid-snoc b at (v ∷ w ∷ []) (at + 2) x refl (omega arith),
-      laid-snoc b at (v ∷ w ∷ x ∷ []) (at + 3) y refl (omega arith),
+      laid_one b at v (omega arith),
+      laid_snoc b at (v ∷ []) (at + 1) w refl (omega arith),
+      laid_snoc b at (v ∷ w ∷ []) (at + 2) x refl (omega arith),
+      laid_snoc b at (v ∷ w ∷ x ∷ []) (at + 3) y refl (omega arith),
     )
 
-pub stored-head : (b l m n : List ℕ) (used depth f : ℕ) (waiting : Bool) → length b ≡ stateSize → l ≡ laid b 0 (fourBytes used)
-    → m ≡ laid l 4 (depth % 256 ∷ []) → n ≡ laid m 5 (f ∷ []) → f ≡ flag waiting → n ≡ storedHead used depth waiting b
-unfolding storedHead
+pub stored-head : (b l m n : List ℕ) (used depth f : ℕ) (waiting : Bool) → length b ≡ state_size → l ≡ laid b 0 (four_bytes used)
+    → m ≡ laid l 4 (depth % 256 ∷ []) → n ≡ laid m 5 (f ∷ []) → f ≡ flag waiting → n ≡ stored_head used depth waiting b
+unfolding stored_head
 stored-head b l m n used depth f waiting h p q r e =
-    let a : m ≡ laid b 0 (fourBytes used ++ (depth % 256 ∷ [])) =
-    q ∙ ap (λ (x : List ℕ). laid x 4 (depth % 256 ∷ [])) p ∙ laid-more b 0 (fourBytes used) (omega arith) (depth % 256 ∷ []) in
-    rw (eq-eqb (length b) stateSize h, storedHead, ← e)
-    (r ∙ ap (λ (x : List ℕ). laid x 5 (f ∷ [])) a ∙ laid-more b 0 (fourBytes used ++ (depth % 256 ∷ [])) (omega arith) (f ∷ []))
+    let a : m ≡ laid b 0 (four_bytes used ++ (depth % 256 ∷ [])) =
+    q ∙ ap (λ (x : List ℕ). laid x 4 (depth % 256 ∷ [])) p ∙ laid_more b 0 (four_bytes used) (omega arith) (depth % 256 ∷ []) in
+    rw (eq-eqb (length b) state_size h, stored_head, ← e)
+    (r ∙ ap (λ (x : List ℕ). laid x 5 (f ∷ [])) a ∙ laid_more b 0 (four_bytes used ++ (depth % 256 ∷ [])) (omega arith) (f ∷ []))
 
-pub stored-container : (b l m n o : List ℕ) (i : ℕ) (c : Container) → length b ≡ stateSize → i < mostOpen
-    → l ≡ laid b (placeOf i) (fourBytes (c .start)) → m ≡ laid l (placeOf i + 4) (fourBytes (c .header))
-    → n ≡ laid m (placeOf i + 8) (c .code ∷ []) → o ≡ laid n (placeOf i + 9) (fourBytes (c .members)) → o ≡ storedContainer i c b
-unfolding storedContainer
+pub stored-container : (b l m n o : List ℕ) (i : ℕ) (c : Container) → length b ≡ state_size → i < most_open
+    → l ≡ laid b (place_of i) (four_bytes c.start) → m ≡ laid l (place_of i + 4) (four_bytes c.header)
+    → n ≡ laid m (place_of i + 8) (c.code ∷ []) → o ≡ laid n (place_of i + 9) (four_bytes c.members) → o ≡ stored_container i c b
+unfolding stored_container
 stored-container b l m n o i c h k p q r s =
-    let a : m ≡ laid b (placeOf i) (fourBytes (c .start) ++ fourBytes (c .header)) =
-    q ∙ ap (λ (x : List ℕ). laid x (placeOf i + 4) (fourBytes (c .header))) p
-    ∙ laid-more b (placeOf i) (fourBytes (c .start)) (omega arith) (fourBytes (c .header)) in
-    let e : n ≡ laid b (placeOf i) (fourBytes (c .start) ++ (fourBytes (c .header) ++ (c .code ∷ []))) =
-    r ∙ ap (λ (x : List ℕ). laid x (placeOf i + 8) (c .code ∷ [])) a
-    ∙ laid-more b (placeOf i) (fourBytes (c .start) ++ fourBytes (c .header)) (omega arith) (c .code ∷ []) in
-    rw (eq-eqb (length b) stateSize h, lt-ltb i mostOpen k, storedContainer)
-    (s ∙ ap (λ (x : List ℕ). laid x (placeOf i + 9) (fourBytes (c .members))) e
-    ∙ laid-more b (placeOf i) (fourBytes (c .start) ++ (fourBytes (c .header) ++ (c .code ∷ []))) (omega arith)
-    (fourBytes (c .members)))
+    let a : m ≡ laid b (place_of i) (four_bytes c.start ++ four_bytes c.header) =
+    q ∙ ap (λ (x : List ℕ). laid x (place_of i + 4) (four_bytes c.header)) p
+    ∙ laid_more b (place_of i) (four_bytes c.start) (omega arith) (four_bytes c.header) in
+    let e : n ≡ laid b (place_of i) (four_bytes c.start ++ (four_bytes c.header ++ (c.code ∷ []))) =
+    r ∙ ap (λ (x : List ℕ). laid x (place_of i + 8) (c.code ∷ [])) a
+    ∙ laid_more b (place_of i) (four_bytes c.start ++ four_bytes c.header) (omega arith) (c.code ∷ []) in
+    rw (eq-eqb (length b) state_size h, lt-ltb i most_open k, stored_container)
+    (s ∙ ap (λ (x : List ℕ). laid x (place_of i + 9) (four_bytes c.members)) e
+    ∙ laid_more b (place_of i) (four_bytes c.start ++ (four_bytes c.header ++ (c.code ∷ []))) (omega arith)
+    (four_bytes c.members))
 
 -- a count lies behind the head
 module _ (b : List ℕ) (i n : ℕ) where
-  head-byte : (p : ℕ) → length b ≡ stateSize → i < mostOpen → p < headSize → getD (laid b (placeOf i + 9) (fourBytes n)) p 0 ≡ getD b p 0
+  head_byte : (p : ℕ) → length b ≡ state_size → i < most_open → p < head_size → get_or (laid b (place_of i + 9) (four_bytes n)) p 0 ≡ get_or b p 0
   unfolding laid
-  head-byte p h k q =
-      List·getD-append (take (placeOf i + 9) b) _ 0 p (rw (length-take-le (placeOf i + 9) b (omega arith)) (omega arith))
-      ∙ getD-take (placeOf i + 9) b p 0 (omega arith)
+  head_byte p h k q =
+      get_or-append (take (place_of i + 9) b) _ 0 p (rw (length-take-le (place_of i + 9) b (omega arith)) (omega arith))
+      ∙ get_or-take (place_of i + 9) b p 0 (omega arith)
 
-  length-members : length (storedMembers i n b) ≡ length b
-  unfolding storedMembers
+  length-members : length (stored_members i n b) ≡ length b
+  unfolding stored_members
   length-members =
-      by-cases (eqb (length b) stateSize)
-      (λ p. by-cases (ltb i mostOpen)
-      (λ q. rw (p, q, storedMembers) (length-laid b (placeOf i + 9) (fourBytes n) (omega (arith, eqb-true (length b) stateSize p, ltb-true i mostOpen q))))
-      (λ q. rw (p, q, storedMembers)))
-      (λ p. rw (p, storedMembers))
+      by_cases (eqb (length b) state_size)
+      (λ p. by_cases (ltb i most_open)
+      (λ q. rw (p, q, stored_members) (length-laid b (place_of i + 9) (four_bytes n) (omega (arith, eqb-true (length b) state_size p, ltb-true i most_open q))))
+      (λ q. rw (p, q, stored_members)))
+      (λ p. rw (p, stored_members))
 
-  members-byte : (p : ℕ) → length b ≡ stateSize → p < headSize → getD (storedMembers i n b) p 0 ≡ getD b p 0
-  unfolding storedMembers
-  members-byte p h q =
-      by-cases (ltb i mostOpen)
-      (λ t. rw (eq-eqb (length b) stateSize h, t, storedMembers) (head-byte p h (ltb-true i mostOpen t) q))
-      (λ t. rw (eq-eqb (length b) stateSize h, t, storedMembers))
+  members_byte : (p : ℕ) → length b ≡ state_size → p < head_size → get_or (stored_members i n b) p 0 ≡ get_or b p 0
+  unfolding stored_members
+  members_byte p h q =
+      by_cases (ltb i most_open)
+      (λ t. rw (eq-eqb (length b) state_size h, t, stored_members) (head_byte p h (ltb-true i most_open t) q))
+      (λ t. rw (eq-eqb (length b) state_size h, t, stored_members))
 
-  members-used : stateOf (storedMembers i n b) .used ≡ stateOf b .used
-  members-used =
-      by-cases (eqb (length b) stateSize)
+  members_used : (state_of (stored_members i n b)).used ≡ (state_of b).used
+  members_used =
+      by_cases (eqb (length b) state_size)
       (λ p.
-      let h = eqb-true (length b) stateSize p in
+      let h = eqb-true (length b) state_size p in
       rw (
-        state-is (storedMembers i n b) (length-members ∙ h),
-        state-is b h,
-        members-byte 0 h (omega arith),
-        members-byte 1 h (omega arith),
-        members-byte 2 h (omega arith),
-        members-byte 3 h (omega arith),
+        state_is (stored_members i n b) (length-members ∙ h),
+        state_is b h,
+        members_byte 0 h (omega arith),
+        members_byte 1 h (omega arith),
+        members_byte 2 h (omega arith),
+        members_byte 3 h (omega arith),
       ))
-      (λ p. let k = eqb-false (length b) stateSize p in rw (state-none (storedMembers i n b) (λ q. k (sym length-members ∙ q)), state-none b k))
+      (λ p. let k = eqb-false (length b) state_size p in rw (state_none (stored_members i n b) (λ q. k (sym length-members ∙ q)), state_none b k))
 
-  members-depth : stateOf (storedMembers i n b) .depth ≡ stateOf b .depth
+  members-depth : (state_of (stored_members i n b)).depth ≡ (state_of b).depth
   members-depth =
-      by-cases (eqb (length b) stateSize)
-      (λ p. let h = eqb-true (length b) stateSize p in rw (state-is (storedMembers i n b) (length-members ∙ h), state-is b h) (members-byte 4 h (omega arith)))
-      (λ p. let k = eqb-false (length b) stateSize p in rw (state-none (storedMembers i n b) (λ q. k (sym length-members ∙ q)), state-none b k))
+      by_cases (eqb (length b) state_size)
+      (λ p. let h = eqb-true (length b) state_size p in rw (state_is (stored_members i n b) (length-members ∙ h), state_is b h) (members_byte 4 h (omega arith)))
+      (λ p. let k = eqb-false (length b) state_size p in rw (state_none (stored_members i n b) (λ q. k (sym length-members ∙ q)), state_none b k))
 
-pub counted-used : (b : List ℕ) (d : ℕ) (cs : List Container) → stateOf (storedCount d cs b) .used ≡ stateOf b .used
-counted-used b zero cs = refl
-counted-used b (suc i) cs = members-used b i (getD cs i noContainer .members)
+pub counted_used : (b : List ℕ) (d : ℕ) (cs : List Container) → (state_of (stored_count d cs b)).used ≡ (state_of b).used
+counted_used b zero cs = refl
+counted_used b (suc i) cs = members_used b i (get_or cs i no_container).members
 
-pub counted-depth : (b : List ℕ) (d : ℕ) (cs : List Container) → stateOf (storedCount d cs b) .depth ≡ stateOf b .depth
-counted-depth b zero cs = refl
-counted-depth b (suc i) cs = members-depth b i (getD cs i noContainer .members)
+pub counted_depth : (b : List ℕ) (d : ℕ) (cs : List Container) → (state_of (stored_count d cs b)).depth ≡ (state_of b).depth
+counted_depth b zero cs = refl
+counted_depth b (suc i) cs = members-depth b i (get_or cs i no_container).members
 
 -- the count of the innermost of d containers
 module _ (b : List ℕ) (cs : List Container) where
-  pub uncounted-short : (d : ℕ) → (length b ≡ stateSize → ⊥) → b ≡ storedCount d cs b
-  unfolding storedMembers
-  uncounted-short zero h = refl
-  uncounted-short (suc i) h = rw (ne-eqb (length b) stateSize h, storedMembers)
+  pub uncounted_short : (d : ℕ) → (length b ≡ state_size → ⊥) → b ≡ stored_count d cs b
+  unfolding stored_members
+  uncounted_short zero h = refl
+  uncounted_short (suc i) h = rw (ne_eqb (length b) state_size h, stored_members)
 
-  pub uncounted : (d : ℕ) → (eqb d 0 || ltb mostOpen d) ≡ true → b ≡ storedCount d cs b
-  unfolding storedMembers
+  pub uncounted : (d : ℕ) → (eqb d 0 || ltb most_open d) ≡ true → b ≡ stored_count d cs b
+  unfolding stored_members
   uncounted zero e = refl
   uncounted (suc i) e =
-      let q : ltb mostOpen (suc i) ≡ true = rw (eqb·suc-zero i) at e in
-      rw (le-ltb i mostOpen (omega (arith, ltb-true mostOpen (suc i) q)), and-false (eqb (length b) stateSize), storedMembers)
+      let q : ltb most_open (suc i) ≡ true = rw (eqb-suc-zero i) at e in
+      rw (le-ltb i most_open (omega (arith, ltb-true most_open (suc i) q)), and-false (eqb (length b) state_size), stored_members)
 
-pub some-counted : (d : ℕ) → (eqb d 0 || ltb mostOpen d) ≡ false → (0 < d) × (d ≤ mostOpen)
+pub some-counted : (d : ℕ) → (eqb d 0 || ltb most_open d) ≡ false → (0 < d) × (d ≤ most_open)
 some-counted zero e = absurd (false≢true (sym e))
-some-counted (suc i) e = (omega arith, ltb-false mostOpen (suc i) (rw (eqb·suc-zero i) at e))
+some-counted (suc i) e = (omega arith, ltb-false most_open (suc i) (rw (eqb-suc-zero i) at e))
 
-pub stored-count : (b l : List ℕ) (d n : ℕ) → length b ≡ stateSize → (0 < d) × (d ≤ mostOpen)
-    → n ≡ four b (headSize + recordSize * (d - 1) + 9) → l ≡ laid b (headSize + recordSize * (d - 1) + 9) (fourBytes (n + 1))
-    → l ≡ storedCount d (counted (stateOf b .containers) d) b
-unfolding storedMembers
-stored-count b l zero n h k e q = absurd (omega (arith, k .0))
+pub stored-count : (b l : List ℕ) (d n : ℕ) → length b ≡ state_size → (0 < d) × (d ≤ most_open)
+    → n ≡ four b (head_size + record_size * (d - 1) + 9) → l ≡ laid b (head_size + record_size * (d - 1) + 9) (four_bytes (n + 1))
+    → l ≡ stored_count d (counted (state_of b).containers d) b
+unfolding stored_members
+stored-count b l zero n h k e q = absurd (omega (arith, k.0))
 stored-count b l (suc i) n h k e q =
-    let j : i < mostOpen = omega (arith, k .1) in
-    let p : headSize + recordSize * (suc i - 1) + 9 ≡ placeOf i + 9 = omega arith in
-    let c : Container = containerAt b (placeOf i) in
-    let r : getD (stateOf b .containers) i noContainer ≡ c = ap (λ (s : State). getD (s .containers) i noContainer) (state-is b h) ∙ container-is b i j in
-    let g : getD (counted (stateOf b .containers) (suc i)) i noContainer ≡ withMember c =
-    getD-set-same (stateOf b .containers) i (withMember (getD (stateOf b .containers) i noContainer)) noContainer
-    (rw (state-is b h) (omega (arith, length-containers b 0 mostOpen)))
-    ∙ ap withMember r in
-    rw (eq-eqb (length b) stateSize h, lt-ltb i mostOpen j, storedMembers, g) (rw (e, p) at q)
+    let j : i < most_open = omega (arith, k.1) in
+    let p : head_size + record_size * (suc i - 1) + 9 ≡ place_of i + 9 = omega arith in
+    let c : Container = container_at b (place_of i) in
+    let r : get_or (state_of b).containers i no_container ≡ c = ap (λ (s : State). get_or s.containers i no_container) (state_is b h) ∙ container_is b i j in
+    let g : get_or (counted (state_of b).containers (suc i)) i no_container ≡ with_member c =
+    get_or-set_same (state_of b).containers i (with_member (get_or (state_of b).containers i no_container)) no_container
+    (rw (state_is b h) (omega (arith, length_containers b 0 most_open)))
+    ∙ ap with_member r in
+    rw (eq-eqb (length b) state_size h, lt-ltb i most_open j, stored_members, g) (rw (e, p) at q)
 
 -- the numbers that a closing answers, by how many of them the slice holds
-pub numbers-three : (b : List ℕ) (n m k : ℕ) {x y z : List ℕ} → x ≡ placed b 0 (fourBytes n) .1 → y ≡ placed x 4 (fourBytes m) .1
-    → z ≡ placed y 8 (fourBytes k) .1
-    → z ≡ numbersLaid 0 (n ∷ m ∷ k ∷ []) b
-unfolding numbersLaid
-numbers-three b n m k p q r = rw (r, q, p) refl
+pub numbers_three : (b : List ℕ) (n m k : ℕ) {x y z : List ℕ} → x ≡ (placed b 0 (four_bytes n)).1 → y ≡ (placed x 4 (four_bytes m)).1
+    → z ≡ (placed y 8 (four_bytes k)).1
+    → z ≡ numbers_laid 0 (n ∷ m ∷ k ∷ []) b
+unfolding numbers_laid
+numbers_three b n m k p q r = rw (r, q, p) refl
 
 -- a multiple of 256 d leaves the byte behind d as it is
-byte-kept : (d x k : ℕ) → 0 < d → (x + d * (256 * k)) / d % 256 ≡ x / d % 256
-byte-kept d x k h = ap (λ (n : ℕ). n % 256) (add-mul-div-left x (256 * k) h) ∙ add-mul-mod-self-left (x / d) 256 k
+byte_kept : (d x k : ℕ) → 0 < d → (x + d * (256 * k)) / d % 256 ≡ x / d % 256
+byte_kept d x k h = ap (λ (n : ℕ). n % 256) (add-mul-div_left x (256 * k) h) ∙ add-mul-mod_self_left (x / d) 256 k
 
 -- four bytes of a sum are those of its parts' four bytes
-fourBytes-sum : (a b : ℕ) → fourBytes (a % 4294967296 + b % 4294967296) ≡ fourBytes (a + b)
-fourBytes-sum a b =
+four_bytes_sum : (a b : ℕ) → four_bytes (a % 4294967296 + b % 4294967296) ≡ four_bytes (a + b)
+four_bytes_sum a b =
     let x = a % 4294967296 + b % 4294967296 in
     let k = a / 4294967296 + b / 4294967296 in
     let e : a + b ≡ x + 256 * (16777216 * k) = omega arith in
     let f : a + b ≡ x + 256 * (256 * (65536 * k)) = omega arith in
     let g : a + b ≡ x + 65536 * (256 * (256 * k)) = omega arith in
     let h : a + b ≡ x + 16777216 * (256 * k) = omega arith in
-    let p : x % 256 ≡ (a + b) % 256 = sym (ap (λ (n : ℕ). n % 256) e ∙ add-mul-mod-self-left x 256 (16777216 * k)) in
-    let q : x / 256 % 256 ≡ (a + b) / 256 % 256 = sym (ap (λ (n : ℕ). n / 256 % 256) f ∙ byte-kept 256 x (65536 * k) (omega arith)) in
-    let r : x / 65536 % 256 ≡ (a + b) / 65536 % 256 = sym (ap (λ (n : ℕ). n / 65536 % 256) g ∙ byte-kept 65536 x (256 * k) (omega arith)) in
-    let s : x / 16777216 % 256 ≡ (a + b) / 16777216 % 256 = sym (ap (λ (n : ℕ). n / 16777216 % 256) h ∙ byte-kept 16777216 x k (omega arith)) in
+    let p : x % 256 ≡ (a + b) % 256 = sym (ap (λ (n : ℕ). n % 256) e ∙ add-mul-mod_self_left x 256 (16777216 * k)) in
+    let q : x / 256 % 256 ≡ (a + b) / 256 % 256 = sym (ap (λ (n : ℕ). n / 256 % 256) f ∙ byte_kept 256 x (65536 * k) (omega arith)) in
+    let r : x / 65536 % 256 ≡ (a + b) / 65536 % 256 = sym (ap (λ (n : ℕ). n / 65536 % 256) g ∙ byte_kept 65536 x (256 * k) (omega arith)) in
+    let s : x / 16777216 % 256 ≡ (a + b) / 16777216 % 256 = sym (ap (λ (n : ℕ). n / 16777216 % 256) h ∙ byte_kept 16777216 x k (omega arith)) in
     cc (p, q, r, s)
 
-pub stored-sum : (a b depth : ℕ) (waiting : Bool) (st : List ℕ)
-    → storedHead (a % 4294967296 + b % 4294967296) depth waiting st ≡ storedHead (a + b) depth waiting st
-unfolding storedHead
-stored-sum a b depth waiting st =
-    by-cases (eqb (length st) stateSize)
-    (λ p. rw (p, storedHead) (ap (λ (l : List ℕ). laid st 0 (l ++ (depth % 256 ∷ flag waiting ∷ []))) (fourBytes-sum a b)))
-    (λ p. rw (p, storedHead))
+pub stored_sum : (a b depth : ℕ) (waiting : Bool) (st : List ℕ)
+    → stored_head (a % 4294967296 + b % 4294967296) depth waiting st ≡ stored_head (a + b) depth waiting st
+unfolding stored_head
+stored_sum a b depth waiting st =
+    by_cases (eqb (length st) state_size)
+    (λ p. rw (p, stored_head) (ap (λ (l : List ℕ). laid st 0 (l ++ (depth % 256 ∷ flag waiting ∷ []))) (four_bytes_sum a b)))
+    (λ p. rw (p, stored_head))
 
-pub unstored-head : (b : List ℕ) (used depth : ℕ) (waiting : Bool) → (length b ≡ stateSize → ⊥) → b ≡ storedHead used depth waiting b
-unfolding storedHead
-unstored-head b used depth waiting h = rw (ne-eqb (length b) stateSize h, storedHead)
+pub unstored_head : (b : List ℕ) (used depth : ℕ) (waiting : Bool) → (length b ≡ state_size → ⊥) → b ≡ stored_head used depth waiting b
+unfolding stored_head
+unstored_head b used depth waiting h = rw (ne_eqb (length b) state_size h, stored_head)
 
-pub unstored-short : (b : List ℕ) (i : ℕ) (c : Container) → (length b ≡ stateSize → ⊥) → b ≡ storedContainer i c b
-unfolding storedContainer
-unstored-short b i c h = rw (ne-eqb (length b) stateSize h, storedContainer)
+pub unstored_short : (b : List ℕ) (i : ℕ) (c : Container) → (length b ≡ state_size → ⊥) → b ≡ stored_container i c b
+unfolding stored_container
+unstored_short b i c h = rw (ne_eqb (length b) state_size h, stored_container)
 
-pub unstored-past : (b : List ℕ) (i : ℕ) (c : Container) → length b ≡ stateSize → mostOpen ≤ i → b ≡ storedContainer i c b
-unfolding storedContainer
-unstored-past b i c h k = rw (eq-eqb (length b) stateSize h, le-ltb i mostOpen k, storedContainer)
+pub unstored_past : (b : List ℕ) (i : ℕ) (c : Container) → length b ≡ state_size → most_open ≤ i → b ≡ stored_container i c b
+unfolding stored_container
+unstored_past b i c h k = rw (eq-eqb (length b) state_size h, le-ltb i most_open k, stored_container)
 
 -- ---- whether no line fails
 
@@ -363,45 +363,45 @@ tests true true true m = sym (and-true (not m))
 tests true true false m = refl
 
 module _ (s : State) (room : ℕ) (m : Bool) where
-  accepted-is : isAccepted (placeVerdict s room m) ≡ (leb room longestBuffer && (fits s room && not m))
-  unfolding placeVerdict
-  accepted-is =
-      by-cases (leb room longestBuffer)
-      (λ p. rw (p, le-ltb longestBuffer room (leb-true room longestBuffer p))
-      (by-cases (fits s room) (λ f. rw f (by-cases m (λ q. rw q) (λ q. rw q))) (λ f. rw f)))
-      (λ p. rw (p, lt-ltb longestBuffer room (leb-false room longestBuffer p)))
+  accepted_is : is_accepted (place_verdict s room m) ≡ (leb room longest_buffer && (fits s room && not m))
+  unfolding place_verdict
+  accepted_is =
+      by_cases (leb room longest_buffer)
+      (λ p. rw (p, le-ltb longest_buffer room (leb-true room longest_buffer p))
+      (by_cases (fits s room) (λ f. rw f (by_cases m (λ q. rw q) (λ q. rw q))) (λ f. rw f)))
+      (λ p. rw (p, lt-ltb longest_buffer room (leb-false room longest_buffer p)))
 
-  pub unreadable : leb (s .depth) mostOpen ≡ false → false ≡ isAccepted (placeVerdict s room m)
-  unreadable d = sym (accepted-is ∙ rw (overopen, and-false (leb room longestBuffer)))
+  pub unreadable : leb s.depth most_open ≡ false → false ≡ is_accepted (place_verdict s room m)
+  unreadable d = sym (accepted_is ∙ rw (overopen, and-false (leb room longest_buffer)))
     where
       overopen : fits s room ≡ false
       overopen =
-          by-cases (leb (s .used) room)
-          (λ u. sym (fits-overopen s room (leb-true (s .used) room u) (leb-false (s .depth) mostOpen d)))
-          (λ u. sym (fits-overused s room (leb-false (s .used) room u)))
+          by_cases (leb s.used room)
+          (λ u. sym (fits_overopen s room (leb-true s.used room u) (leb-false s.depth most_open d)))
+          (λ u. sym (fits_overused s room (leb-false s.used room u)))
 
   -- of a state with no more containers than fit: the lines in the order in which they are asked
-  passes-is : leb (s .depth) mostOpen ≡ true
-      → isAccepted (placeVerdict s room m)
-      ≡ (leb room longestBuffer
-      && (leb (s .used) room
-      && (not ((s .waiting && not (inStruct (openContainers s))) || m) && containersFit (s .used) (openContainers s))))
+  passes_is : leb s.depth most_open ≡ true
+      → is_accepted (place_verdict s room m)
+      ≡ (leb room longest_buffer
+      && (leb s.used room
+      && (not ((s.waiting && not (in_struct (open_containers s))) || m) && containers_fit s.used (open_containers s))))
   unfolding fits
-  passes-is h =
-      accepted-is
+  passes_is h =
+      accepted_is
       ∙ rw h
-      (ap (λ (x : Bool). leb room longestBuffer && x)
-      (by-cases (leb (s .used) room)
-      (λ u. rw u (tests (containersFit (s .used) (openContainers s)) (s .waiting) (inStruct (openContainers s)) m))
+      (ap (λ (x : Bool). leb room longest_buffer && x)
+      (by_cases (leb s.used room)
+      (λ u. rw u (tests (containers_fit s.used (open_containers s)) s.waiting (in_struct (open_containers s)) m))
       (λ u. rw u)))
 
   -- what is behind the used length counts only where that is not too long
-  pub passes-by : (x : Bool) → leb (s .depth) mostOpen ≡ true
-      → (s .used ≤ longestBuffer → x ≡ (not ((s .waiting && not (inStruct (openContainers s))) || m) && containersFit (s .used) (openContainers s)))
-      → (leb room longestBuffer && (leb (s .used) room && x)) ≡ isAccepted (placeVerdict s room m)
-  passes-by x h e =
-      by-cases (leb room longestBuffer)
-      (λ p. by-cases (leb (s .used) room)
-      (λ q. rw (p, q, e (omega (arith, leb-true room longestBuffer p, leb-true (s .used) room q))) (sym (passes-is h ∙ rw (p, q))))
-      (λ q. rw (p, q) (sym (passes-is h ∙ rw (p, q)))))
-      (λ p. rw p (sym (passes-is h ∙ rw p)))
+  pub passes_by : (x : Bool) → leb s.depth most_open ≡ true
+      → (s.used ≤ longest_buffer → x ≡ (not ((s.waiting && not (in_struct (open_containers s))) || m) && containers_fit s.used (open_containers s)))
+      → (leb room longest_buffer && (leb s.used room && x)) ≡ is_accepted (place_verdict s room m)
+  passes_by x h e =
+      by_cases (leb room longest_buffer)
+      (λ p. by_cases (leb s.used room)
+      (λ q. rw (p, q, e (omega (arith, leb-true room longest_buffer p, leb-true s.used room q))) (sym (passes_is h ∙ rw (p, q))))
+      (λ q. rw (p, q) (sym (passes_is h ∙ rw (p, q)))))
+      (λ p. rw p (sym (passes_is h ∙ rw p)))

@@ -1,24 +1,15 @@
 // A writer's state as lent bytes, and the checks by place on them. No State is made: what lies in an array at a computed place would be copied at every call.
-ghost use mathlib.Core.Path.{_≡_};
-ghost use mathlib.Core.Bool.{false, not, _&&_, _||_};
-ghost use mathlib.Core.List.{[], _∷_};
-ghost use Prim.Native.Nat.{_+_, _-_, _*_, _^_, _≤_, _<_};
-ghost use lib.Dec.{eqb, leb};
-ghost use lib.ListN.{length, getD};
-ghost use Rattle·buffer.specs.Laid.{laid, placed};
-ghost use Rattle·ion.specs.Value.{listCode, sexpCode, structCode};
-ghost use Rattle·encoding.specs.Headers.{typeByte};
-ghost use Rattle·machine.specs.Machine.{mostOpen, noContainer, innermostFirst, openContainers, isOpen, inStruct, outer, containerFits, containersFit};
-ghost use Rattle·machine.specs.Machine.{counted, longestBuffer, fits, lacksName, placeVerdict, isAccepted, finishedLength};
-ghost use Rattle·machine.specs.Numbers.{verdictOf};
-ghost use Rattle·state_bytes·specs.specs.StateBytes.{stateSize, four, placeOf, containerAt, stateOf, fourBytes, storedHead, storedContainer};
-ghost use Rattle·state_bytes·specs.specs.StateBytes.{storedCount, numbersLaid};
-use machine::Answer;
-use machine::Container;
-use machine::LIST;
-use machine::LONGEST_BUFFER;
-use machine::MOST_OPEN;
-use machine::STRUCT;
+ghost use Rattle.std.specs.Prelude.{◌≡◌, false, not, ◌&&◌, ◌||◌, [], ◌∷◌, ◌+◌, ◌-◌, ◌*◌, ◌^◌, ◌≤◌, ◌<◌, eqb, leb, length, get_or};
+ghost use Rattle.buffer.specs.Laid.{laid, placed};
+ghost use Rattle.ion.specs.Value.{list_code, sexp_code, struct_code};
+ghost use Rattle.encoding.specs.Headers.{type_byte};
+ghost use Rattle.machine.specs.Machine.{most_open, no_container, innermost_first, open_containers, is_open, in_struct, outer, container_fits, containers_fit};
+ghost use Rattle.machine.specs.Machine.{counted, longest_buffer, fits, lacks_name, place_verdict, is_accepted, finished_length};
+ghost use Rattle.machine.specs.Numbers.{verdict_of};
+ghost use Rattle.state_bytes.specs.StateBytes.{state_size, four, place_of, container_at, state_of, four_bytes, stored_head, stored_container};
+ghost use Rattle.state_bytes.specs.StateBytes.{stored_count, numbers_laid};
+
+use machine::{Answer, Container, LIST, LONGEST_BUFFER, MOST_OPEN, STRUCT};
 
 // The head, the record of a container, and the state whole.
 const HEAD_SIZE: usize = 8;
@@ -51,21 +42,21 @@ const FOUR_BYTES: usize = 0x1_0000_0000;
 const NUMBER_SIZE: usize = 4;
 
 fn wide(x: u8) -> usize
-    ensures { λ r. ⌜ (r ≡ x) × (r < 256) ⌝ }
+    ensures { (result ≡ x) × (result < 256) }
 {
     x as usize
 }
 
 fn get_four(st: &[u8], at: usize) -> usize
-    requires { ⌜ at + 4 ≤ length (now st) ⌝ }
-    ensures { λ r. ⌜ (r ≡ four (now (st .entry)) at) × (r < 2 ^ 32) ⌝ }
+    requires { at + 4 ≤ length st.now }
+    ensures { (result ≡ four st.now at) × (result < 2 ^ 32) }
 {
     wide(st[at]) + 256 * wide(st[at + 1]) + 65536 * wide(st[at + 2]) + 16777216 * wide(st[at + 3])
 }
 
 fn get_container(st: &[u8], i: usize) -> Container
-    requires { ⌜ (i < mostOpen) × (length (now st) ≡ stateSize) ⌝ }
-    ensures { λ r. ⌜ (r ≡ containerAt (now (st .entry)) (placeOf i)) × (r .start < 2 ^ 32) × (r .header < 2 ^ 32) × (r .members < 2 ^ 32) ⌝ }
+    requires { (i < most_open) × (length st.now ≡ state_size) }
+    ensures { (result ≡ container_at st.now (place_of i)) × (result.start < 2 ^ 32) × (result.header < 2 ^ 32) × (result.members < 2 ^ 32) }
 {
     let at = HEAD_SIZE + RECORD_SIZE * i;
     Container {
@@ -78,7 +69,7 @@ fn get_container(st: &[u8], i: usize) -> Container
 
 // The used length.
 pub fn used(st: &[u8]) -> usize
-    ensures { λ r. ⌜ r ≡ stateOf (now (st .entry)) .used ⌝ }
+    ensures { result ≡ (state_of st.now).used }
 {
     if st.len() != STATE_SIZE {
         return 0;
@@ -88,7 +79,7 @@ pub fn used(st: &[u8]) -> usize
 
 // How many containers are open; of a slice of another length, more than a state that fits can have.
 pub fn depth(st: &[u8]) -> usize
-    ensures { λ r. ⌜ r ≡ stateOf (now (st .entry)) .depth ⌝ }
+    ensures { result ≡ (state_of st.now).depth }
 {
     if st.len() != STATE_SIZE {
         return UNFIT_DEPTH;
@@ -98,7 +89,7 @@ pub fn depth(st: &[u8]) -> usize
 
 // Whether a name waits.
 pub fn waiting(st: &[u8]) -> bool
-    ensures { λ r. ⌜ r ≡ stateOf (now (st .entry)) .waiting ⌝ }
+    ensures { result ≡ (state_of st.now).waiting }
 {
     if st.len() != STATE_SIZE {
         return false;
@@ -108,7 +99,7 @@ pub fn waiting(st: &[u8]) -> bool
 
 // The container i of the array; one of zeros past its end.
 pub fn container(st: &[u8], i: usize) -> Container
-    ensures { λ r. ⌜ r ≡ getD (stateOf (now (st .entry)) .containers) i noContainer ⌝ }
+    ensures { result ≡ get_or (state_of st.now).containers i no_container }
 {
     if st.len() != STATE_SIZE {
         return Container {
@@ -131,7 +122,7 @@ pub fn container(st: &[u8], i: usize) -> Container
 
 // Whether the container below `depth` is a struct.
 fn in_struct(st: &[u8], depth: usize) -> bool
-    ensures { λ r. ⌜ r ≡ inStruct (innermostFirst (stateOf (now (st .entry)) .containers) depth) ⌝ }
+    ensures { result ≡ in_struct (innermost_first (state_of st.now).containers depth) }
 {
     if depth == 0 {
         return false;
@@ -142,7 +133,7 @@ fn in_struct(st: &[u8], depth: usize) -> bool
 
 // Whether the innermost container lies in a struct.
 pub fn outer_is_struct(st: &[u8]) -> bool
-    ensures { λ r. ⌜ r ≡ inStruct (outer (openContainers (stateOf (now (st .entry))))) ⌝ }
+    ensures { result ≡ in_struct (outer (open_containers (state_of st.now))) }
 {
     let depth = depth(st);
     if depth == 0 {
@@ -153,7 +144,7 @@ pub fn outer_is_struct(st: &[u8]) -> bool
 
 // Whether it is a container's type code. With the high and the low four bits exchanged these are neighbours, so that one comparison does for three.
 fn is_code(code: u8) -> bool
-    ensures { λ r. ⌜ r ≡ (eqb code (typeByte listCode) || (eqb code (typeByte sexpCode) || eqb code (typeByte structCode))) ⌝ }
+    ensures { result ≡ (eqb code (type_byte list_code) || (eqb code (type_byte sexp_code) || eqb code (type_byte struct_code))) }
 {
     let exchanged = code / 16 + code % 16 * 16;
     (LIST / 16 <= exchanged) & (exchanged <= STRUCT / 16)
@@ -161,8 +152,8 @@ fn is_code(code: u8) -> bool
 
 // A container by itself, with what follows it starting at `limit`. Its numbers come from four bytes each, so that no sum wraps.
 fn container_fits(c: Container, limit: usize) -> bool
-    requires { ⌜ (c .start < 2 ^ 32) × (c .header < 2 ^ 32) × (c .members < 2 ^ 32) ⌝ }
-    ensures { λ r. ⌜ r ≡ containerFits limit c ⌝ }
+    requires { (c.start < 2 ^ 32) × (c.header < 2 ^ 32) × (c.members < 2 ^ 32) }
+    ensures { result ≡ container_fits limit c }
 {
     let code = c.code;
     let start = c.start;
@@ -178,8 +169,8 @@ fn container_fits(c: Container, limit: usize) -> bool
 
 // From the innermost container outwards: each has to end before the next begins.
 fn containers_fit(st: &[u8], used: usize, depth: usize) -> bool
-    requires { ⌜ (depth ≤ mostOpen) × (length (now st) ≡ stateSize) ⌝ }
-    ensures { λ r. ⌜ r ≡ containersFit used (innermostFirst (stateOf (now (st .entry)) .containers) depth) ⌝ }
+    requires { (depth ≤ most_open) × (length st.now ≡ state_size) }
+    ensures { result ≡ containers_fit used (innermost_first (state_of st.now).containers depth) }
 {
     if depth == 0 {
         return true;
@@ -201,8 +192,8 @@ fn containers_fit(st: &[u8], used: usize, depth: usize) -> bool
 
 // The same for a call that is refused: by other code, which the compiler leaves apart from the code of the calls that pass.
 fn each_fits(st: &[u8], used: usize, depth: usize) -> bool
-    requires { ⌜ (depth ≤ mostOpen) × (length (now st) ≡ stateSize) ⌝ }
-    ensures { λ r. ⌜ r ≡ containersFit used (innermostFirst (stateOf (now (st .entry)) .containers) depth) ⌝ }
+    requires { (depth ≤ most_open) × (length st.now ≡ state_size) }
+    ensures { result ≡ containers_fit used (innermost_first (state_of st.now).containers depth) }
 {
     let mut i = depth;
     let mut limit = used;
@@ -219,7 +210,7 @@ fn each_fits(st: &[u8], used: usize, depth: usize) -> bool
 
 // Whether the state that the slice spells fits.
 pub fn fits(st: &[u8], room: usize) -> bool
-    ensures { λ r. ⌜ r ≡ fits (stateOf (now (st .entry))) room ⌝ }
+    ensures { result ≡ fits (state_of st.now) room }
 {
     if st.len() != STATE_SIZE {
         return false;
@@ -240,14 +231,14 @@ pub fn fits(st: &[u8], room: usize) -> bool
 
 // The first of the lines 1 to 3 that fails.
 fn judged(st: &[u8], room: usize, misplaced: bool) -> Answer
-    ensures { λ r. ⌜ verdictOf r ≡ placeVerdict (stateOf (now (st .entry))) room misplaced ⌝ }
+    ensures { verdict_of result ≡ place_verdict (state_of st.now) room misplaced }
 {
     place::judged(room, fits(st, room), misplaced)
 }
 
 // Where a scalar or an opening may stand: in a struct only behind a name.
 pub fn value_place(st: &[u8], room: usize) -> Answer
-    ensures { λ r. ⌜ verdictOf r ≡ placeVerdict (stateOf (now (st .entry))) room (lacksName (stateOf (now (st .entry)))) ⌝ }
+    ensures { verdict_of result ≡ place_verdict (state_of st.now) room (lacks_name (state_of st.now)) }
 {
     let depth = depth(st);
     let misplaced = in_struct(st, depth) & !waiting(st);
@@ -256,8 +247,8 @@ pub fn value_place(st: &[u8], room: usize) -> Answer
 
 // Where a field name may stand: in a struct, with none waiting.
 pub fn name_place(st: &[u8], room: usize) -> Answer
-    ensures { λ r. ⌜ verdictOf r ≡ placeVerdict (stateOf (now (st .entry))) room
-        (not (inStruct (openContainers (stateOf (now (st .entry))))) || stateOf (now (st .entry)) .waiting) ⌝ }
+    ensures { verdict_of result ≡ place_verdict (state_of st.now) room
+        (not (in_struct (open_containers (state_of st.now))) || (state_of st.now).waiting) }
 {
     let depth = depth(st);
     let misplaced = !in_struct(st, depth) | waiting(st);
@@ -266,8 +257,8 @@ pub fn name_place(st: &[u8], room: usize) -> Answer
 
 // Where a closing may stand: in a container, with no name waiting.
 pub fn close_place(st: &[u8], room: usize) -> Answer
-    ensures { λ r. ⌜ verdictOf r ≡ placeVerdict (stateOf (now (st .entry))) room
-        (not (isOpen (openContainers (stateOf (now (st .entry))))) || stateOf (now (st .entry)) .waiting) ⌝ }
+    ensures { verdict_of result ≡ place_verdict (state_of st.now) room
+        (not (is_open (open_containers (state_of st.now))) || (state_of st.now).waiting) }
 {
     let depth = depth(st);
     let misplaced = (depth == 0) | waiting(st);
@@ -276,7 +267,7 @@ pub fn close_place(st: &[u8], room: usize) -> Answer
 
 // Where an abandonment may stand: in a container.
 pub fn abandon_place(st: &[u8], room: usize) -> Answer
-    ensures { λ r. ⌜ verdictOf r ≡ placeVerdict (stateOf (now (st .entry))) room (not (isOpen (openContainers (stateOf (now (st .entry)))))) ⌝ }
+    ensures { verdict_of result ≡ place_verdict (state_of st.now) room (not (is_open (open_containers (state_of st.now)))) }
 {
     let depth = depth(st);
     judged(st, room, depth == 0)
@@ -284,7 +275,7 @@ pub fn abandon_place(st: &[u8], room: usize) -> Answer
 
 // Where a version marker or an emptying may stand: outside all containers.
 pub fn top_place(st: &[u8], room: usize) -> Answer
-    ensures { λ r. ⌜ verdictOf r ≡ placeVerdict (stateOf (now (st .entry))) room (isOpen (openContainers (stateOf (now (st .entry))))) ⌝ }
+    ensures { verdict_of result ≡ place_verdict (state_of st.now) room (is_open (open_containers (state_of st.now))) }
 {
     let depth = depth(st);
     judged(st, room, depth != 0)
@@ -294,7 +285,7 @@ pub fn top_place(st: &[u8], room: usize) -> Answer
 
 // Whether the slice has the length of a state, and its depth is one that fits.
 fn readable(st: &[u8]) -> bool
-    ensures { λ r. ⌜ r ≡ leb (stateOf (now (st .entry)) .depth) mostOpen ⌝ }
+    ensures { result ≡ leb (state_of st.now).depth most_open }
 {
     if st.len() != STATE_SIZE {
         return false;
@@ -305,17 +296,17 @@ fn readable(st: &[u8]) -> bool
 // Whether the container below `depth` is a struct. At depth 0 the byte that is read is the highest of the used length, which is 0 in a buffer that is
 // not too long; of another state it says nothing.
 fn innermost_is_struct(st: &[u8], depth: usize) -> bool
-    requires { ⌜ (depth ≤ mostOpen) × (length (now st) ≡ stateSize) ⌝ }
-    ensures { λ r. let s = stateOf (now (st .entry)) in ⌜ (s .used ≤ longestBuffer → r ≡ inStruct (innermostFirst (s .containers) depth)) ⌝ }
+    requires { (depth ≤ most_open) × (length st.now ≡ state_size) }
+    ensures { let s = state_of st.now in (s.used ≤ longest_buffer → result ≡ in_struct (innermost_first s.containers depth)) }
 {
     st[HEAD_SIZE + RECORD_SIZE * depth - CODE_AND_AFTER] == STRUCT
 }
 
 // Whether no line fails; `barred` says that a name waits outside a struct or that line 3 fails.
 fn passes(st: &[u8], room: usize, depth: usize, barred: bool) -> bool
-    requires { ⌜ (depth ≤ mostOpen) × (length (now st) ≡ stateSize) ⌝ }
-    ensures { λ r. ⌜ r ≡ (leb room longestBuffer && (leb (stateOf (now (st .entry)) .used) room
-        && (not barred && containersFit (stateOf (now (st .entry)) .used) (innermostFirst (stateOf (now (st .entry)) .containers) depth)))) ⌝ }
+    requires { (depth ≤ most_open) × (length st.now ≡ state_size) }
+    ensures { result ≡ (leb room longest_buffer && (leb (state_of st.now).used room
+        && (not barred && containers_fit (state_of st.now).used (innermost_first (state_of st.now).containers depth)))) }
 {
     let used = get_four(st, 0);
     if LONGEST_BUFFER < room {
@@ -332,7 +323,7 @@ fn passes(st: &[u8], room: usize, depth: usize, barred: bool) -> bool
 
 // Whether a scalar or an opening may stand here.
 pub fn value_passes(st: &[u8], room: usize) -> bool
-    ensures { λ r. ⌜ r ≡ isAccepted (placeVerdict (stateOf (now (st .entry))) room (lacksName (stateOf (now (st .entry))))) ⌝ }
+    ensures { result ≡ is_accepted (place_verdict (state_of st.now) room (lacks_name (state_of st.now))) }
 {
     if !readable(st) {
         return false;
@@ -345,8 +336,8 @@ pub fn value_passes(st: &[u8], room: usize) -> bool
 
 // Whether a field name may stand here.
 pub fn name_passes(st: &[u8], room: usize) -> bool
-    ensures { λ r. ⌜ r ≡ isAccepted (placeVerdict (stateOf (now (st .entry))) room
-        (not (inStruct (openContainers (stateOf (now (st .entry))))) || (stateOf (now (st .entry))) .waiting)) ⌝ }
+    ensures { result ≡ is_accepted (place_verdict (state_of st.now) room
+        (not (in_struct (open_containers (state_of st.now))) || (state_of st.now).waiting)) }
 {
     if !readable(st) {
         return false;
@@ -359,8 +350,8 @@ pub fn name_passes(st: &[u8], room: usize) -> bool
 
 // Whether a closing may stand here.
 pub fn close_passes(st: &[u8], room: usize) -> bool
-    ensures { λ r. ⌜ r ≡ isAccepted (placeVerdict (stateOf (now (st .entry))) room
-        (not (isOpen (openContainers (stateOf (now (st .entry))))) || (stateOf (now (st .entry))) .waiting)) ⌝ }
+    ensures { result ≡ is_accepted (place_verdict (state_of st.now) room
+        (not (is_open (open_containers (state_of st.now))) || (state_of st.now).waiting)) }
 {
     if !readable(st) {
         return false;
@@ -373,7 +364,7 @@ pub fn close_passes(st: &[u8], room: usize) -> bool
 
 // Whether an abandonment may stand here.
 pub fn abandon_passes(st: &[u8], room: usize) -> bool
-    ensures { λ r. ⌜ r ≡ isAccepted (placeVerdict (stateOf (now (st .entry))) room (not (isOpen (openContainers (stateOf (now (st .entry))))))) ⌝ }
+    ensures { result ≡ is_accepted (place_verdict (state_of st.now) room (not (is_open (open_containers (state_of st.now))))) }
 {
     if !readable(st) {
         return false;
@@ -386,7 +377,7 @@ pub fn abandon_passes(st: &[u8], room: usize) -> bool
 
 // Whether a version marker or an emptying may stand here.
 pub fn top_passes(st: &[u8], room: usize) -> bool
-    ensures { λ r. ⌜ r ≡ isAccepted (placeVerdict (stateOf (now (st .entry))) room (isOpen (openContainers (stateOf (now (st .entry)))))) ⌝ }
+    ensures { result ≡ is_accepted (place_verdict (state_of st.now) room (is_open (open_containers (state_of st.now)))) }
 {
     if !readable(st) {
         return false;
@@ -399,7 +390,7 @@ pub fn top_passes(st: &[u8], room: usize) -> bool
 
 // How many bytes from the buffer's front are finished.
 pub fn finished_length(st: &[u8], room: usize) -> usize
-    ensures { λ r. ⌜ r ≡ finishedLength (stateOf (now (st .entry))) room ⌝ }
+    ensures { result ≡ finished_length (state_of st.now) room }
 {
     if LONGEST_BUFFER < room {
         return 0;
@@ -415,8 +406,8 @@ pub fn finished_length(st: &[u8], room: usize) -> usize
 }
 
 fn put_four(st: &mut [u8], at: usize, n: usize)
-    requires { ⌜ at + 4 ≤ length (now st) ⌝ }
-    ensures { λ r. ⌜ now (st .exit) ≡ laid (now (st .entry)) at (fourBytes n) ⌝ }
+    requires { at + 4 ≤ length st.old }
+    ensures { st.new ≡ laid st.old at (four_bytes n) }
 {
     st[at] = (n % 256) as u8;
     st[at + 1] = (n / 256 % 256) as u8;
@@ -425,15 +416,15 @@ fn put_four(st: &mut [u8], at: usize, n: usize)
 }
 
 fn put_one(st: &mut [u8], at: usize, byte: u8)
-    requires { ⌜ at < length (now st) ⌝ }
-    ensures { λ r. ⌜ now (st .exit) ≡ laid (now (st .entry)) at (byte ∷ []) ⌝ }
+    requires { at < length st.old }
+    ensures { st.new ≡ laid st.old at (byte ∷ []) }
 {
     st[at] = byte;
 }
 
 // Used, depth and waiting are stored.
 pub fn store(st: &mut [u8], used: usize, depth: usize, waiting: bool)
-    ensures { λ r. ⌜ now (st .exit) ≡ storedHead used depth waiting (now (st .entry)) ⌝ }
+    ensures { st.new ≡ stored_head used depth waiting st.old }
 {
     if st.len() != STATE_SIZE {
         return;
@@ -445,7 +436,7 @@ pub fn store(st: &mut [u8], used: usize, depth: usize, waiting: bool)
 
 // `put` more bytes are used, and whether a name waits is stored. Four bytes hold the used length, so that nothing is lost by cutting both numbers to them.
 pub fn grow(st: &mut [u8], put: usize, waiting: bool)
-    ensures { λ r. let b = now (st .entry) in ⌜ now (st .exit) ≡ storedHead (stateOf b .used + put) (stateOf b .depth) waiting b ⌝ }
+    ensures { let b = st.old in st.new ≡ stored_head ((state_of b).used + put) (state_of b).depth waiting b }
 {
     let used = used(st);
     let depth = depth(st);
@@ -454,7 +445,7 @@ pub fn grow(st: &mut [u8], put: usize, waiting: bool)
 
 // The container i is stored.
 pub fn store_container(st: &mut [u8], i: usize, c: Container)
-    ensures { λ r. ⌜ now (st .exit) ≡ storedContainer i c (now (st .entry)) ⌝ }
+    ensures { st.new ≡ stored_container i c st.old }
 {
     if st.len() != STATE_SIZE {
         return;
@@ -471,7 +462,7 @@ pub fn store_container(st: &mut [u8], i: usize, c: Container)
 
 // The innermost of `depth` containers has one member more; with none open nothing alters.
 pub fn count(st: &mut [u8], depth: usize)
-    ensures { λ r. let b = now (st .entry) in ⌜ now (st .exit) ≡ storedCount depth (counted (stateOf b .containers) depth) b ⌝ }
+    ensures { let b = st.old in st.new ≡ stored_count depth (counted (state_of b).containers depth) b }
 {
     if st.len() != STATE_SIZE {
         return;
@@ -486,9 +477,9 @@ pub fn count(st: &mut [u8], depth: usize)
 
 // `put` more bytes are used, by a scalar: no name waits, and the innermost container has one member more.
 pub fn grow_by_scalar(st: &mut [u8], put: usize)
-    ensures { λ r. let b = now (st .entry) in ⌜ now (st .exit)
-        ≡ storedHead (stateOf b .used + put) (stateOf b .depth) false
-        (storedCount (stateOf b .depth) (counted (stateOf b .containers) (stateOf b .depth)) b) ⌝ }
+    ensures { let b = st.old in st.new
+        ≡ stored_head ((state_of b).used + put) (state_of b).depth false
+        (stored_count (state_of b).depth (counted (state_of b).containers (state_of b).depth) b) }
 {
     let depth = depth(st);
     count(st, depth);
@@ -497,8 +488,8 @@ pub fn grow_by_scalar(st: &mut [u8], put: usize)
 
 // A number of four bytes, where the slice holds it whole.
 fn put_number(lent: &mut [u8], at: usize, n: usize)
-    requires { ⌜ at ≤ 8 ⌝ }
-    ensures { λ r. ⌜ now (lent .exit) ≡ placed (now (lent .entry)) at (fourBytes n) .1 ⌝ }
+    requires { at ≤ 8 }
+    ensures { lent.new ≡ (placed lent.old at (four_bytes n)).1 }
 {
     if lent.len() < at + NUMBER_SIZE {
         return;
@@ -508,7 +499,7 @@ fn put_number(lent: &mut [u8], at: usize, n: usize)
 
 // The numbers that a closing answers, in a slice that is lent for them.
 pub fn answer(lent: &mut [u8], size: usize, members: usize, moved: usize)
-    ensures { λ r. ⌜ now (lent .exit) ≡ numbersLaid 0 (size ∷ members ∷ moved ∷ []) (now (lent .entry)) ⌝ }
+    ensures { lent.new ≡ numbers_laid 0 (size ∷ members ∷ moved ∷ []) lent.old }
 {
     put_number(lent, 0, size);
     put_number(lent, NUMBER_SIZE, members);

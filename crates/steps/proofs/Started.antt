@@ -1,48 +1,42 @@
 -- A start by how far it gets, and the part that a taking hands back.
 -- Assumes nothing.
-use Prim.Native.Nat.{ℕ, _<_, _≤_}
-use native.Mathlib.Omega.{arith}
-use mathlib.Core.Path.{_≡_}
-use mathlib.Core.Bool.{not, _&&_, and-false}
-use mathlib.Core.List.{List}
-use lib.Dec.{leb}
-use lib.ListN.{length}
-use borrow.Author.Tests.{le-ltb, lt-ltb}
-use Rattle·ion.proofs.Tests.{by-cases}
-use Rattle·encoding.specs.Headers.{markerBytes}
-use Rattle·buffer.specs.Laid.{placed}
-use Rattle·machine.specs.declared.State.{State}
-use Rattle·machine.specs.Machine.{longestBuffer, accepted, refused, emptyState, startVerdict, fits, isOpen, openContainers, finishedLength}
-use Rattle·place.proofs.Laws.{fits-used}
-use Rattle·steps·specs.specs.Start.{startRun}
-use Rattle·containers.proofs.Splice.{splice-end}
-use Rattle·steps·proofs.proofs.Run.{outcome, placed-none, placed-some}
+use Rattle.std.proofs.Common.{◌≡◌, ℕ, ◌<◌, ◌≤◌, not, ◌&&◌, leb, List, length, arith, le-ltb, lt-ltb}
+use mathlib.Core.Bool.{and-false}
+use Rattle.ion.proofs.Tests.{by_cases}
+use Rattle.encoding.specs.Headers.{marker_bytes}
+use Rattle.buffer.specs.Laid.{placed}
+use Rattle.machine.specs.declared.State.{State}
+use Rattle.machine.specs.Machine.{longest_buffer, accepted, refused, empty_state, start_verdict, fits, is_open, open_containers, finished_length}
+use Rattle.place.proofs.Laws.{fits_used}
+use Rattle.steps.specs.Start.{start_run}
+use Rattle.containers.proofs.Splice.{splice_end}
+use Rattle.steps.proofs.Run.{outcome, placed-none, placed-some}
 
-pub start-long : (b : List ℕ) → longestBuffer < length b → outcome (refused 1) (emptyState 0) b ≡ startRun b
-unfolding startRun startVerdict
-start-long b h = rw (lt-ltb longestBuffer (length b) h, startRun)
+pub start_long : (b : List ℕ) → longest_buffer < length b → outcome (refused 1) (empty_state 0) b ≡ start_run b
+unfolding start_run start_verdict
+start_long b h = rw (lt-ltb longest_buffer (length b) h, start_run)
 
-module _ (b : List ℕ) (h : length b ≤ longestBuffer) (n : ℕ) (l : List ℕ) (e : _≡_ {A = ℕ × List ℕ} (n, l) (placed b 0 markerBytes)) where
-  pub start-full : n ≡ 0 → outcome (refused 10) (emptyState 0) l ≡ startRun b
-  unfolding startRun startVerdict
-  start-full z =
-      let w = placed-none b 0 markerBytes n l e z (omega arith) in
-      let g : length b < 4 = omega (arith, w .0) in
-      rw (w .1, le-ltb longestBuffer (length b) h, lt-ltb (length b) 4 g, startRun)
+module _ (b : List ℕ) (h : length b ≤ longest_buffer) (n : ℕ) (l : List ℕ) (e : ◌≡◌ {A = ℕ × List ℕ} (n, l) (placed b 0 marker_bytes)) where
+  pub start_full : n ≡ 0 → outcome (refused 10) (empty_state 0) l ≡ start_run b
+  unfolding start_run start_verdict
+  start_full z =
+      let w = placed-none b 0 marker_bytes n l e z (omega arith) in
+      let g : length b < 4 = omega (arith, w.0) in
+      rw (w.1, le-ltb longest_buffer (length b) h, lt-ltb (length b) 4 g, start_run)
 
-  pub start-put : (n ≡ 0 → ⊥) → outcome accepted (emptyState 4) l ≡ startRun b
-  unfolding startRun startVerdict
-  start-put z =
-      let w = placed-some b 0 markerBytes n l e z in
-      let g : 4 ≤ length b = omega (arith, w .0) in
-      rw (w .2, ← (splice-end 0 markerBytes b), le-ltb longestBuffer (length b) h, le-ltb (length b) 4 g, startRun)
+  pub start_put : (n ≡ 0 → ⊥) → outcome accepted (empty_state 4) l ≡ start_run b
+  unfolding start_run start_verdict
+  start_put z =
+      let w = placed-some b 0 marker_bytes n l e z in
+      let g : 4 ≤ length b = omega (arith, w.0) in
+      rw (w.2, ← (splice_end 0 marker_bytes b), le-ltb longest_buffer (length b) h, le-ltb (length b) 4 g, start_run)
 
 -- what is finished lies in the buffer
-pub finished-within : (s : State) (room : ℕ) → finishedLength s room ≤ room
-unfolding finishedLength
-finished-within s room = by-cases (fits s room) (λ f. fitting (fits-used s room f)) (λ f. rw (f, and-false) (omega arith))
+pub finished_within : (s : State) (room : ℕ) → finished_length s room ≤ room
+unfolding finished_length
+finished_within s room = by_cases (fits s room) (λ f. fitting (fits_used s room f)) (λ f. rw (f, and-false) (omega arith))
   where
-    fitting : s .used ≤ room → finishedLength s room ≤ room
+    fitting : s.used ≤ room → finished_length s room ≤ room
     fitting u =
-        by-cases (leb room longestBuffer && (fits s room && (not (isOpen (openContainers s)) && not (s .waiting)))) (λ p. rw p u)
+        by_cases (leb room longest_buffer && (fits s room && (not (is_open (open_containers s)) && not s.waiting))) (λ p. rw p u)
         (λ p. rw p (omega arith))

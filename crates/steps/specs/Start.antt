@@ -1,12 +1,11 @@
 -- What a start answers and leaves, and what a taking hands back.
 -- Assumes nothing.
-use Prim.Native.Nat.{ℕ}
-use mathlib.Core.List.{List}
-use Rattle·machine.specs.Machine.{config, noFigures, startVerdict, started, taken, Outcome}
-use Rattle·machine.specs.declared.State.{State}
+use Rattle.std.specs.Prelude.{ℕ, List}
+use Rattle.machine.specs.Machine.{config, no_figures, start_verdict, started, taken, Outcome}
+use Rattle.machine.specs.declared.State.{State}
 
-unfoldable pub startRun : List ℕ → Outcome
-startRun b = record { verdict = startVerdict b; config = started b; figures = noFigures }
+unfoldable pub start_run : List ℕ → Outcome
+start_run b = record { verdict = start_verdict b; config = started b; figures = no_figures }
 
-abbrev pub takenFrom : State → List ℕ → List ℕ
-takenFrom s b = taken (config s b)
+abbrev pub taken_from : State → List ℕ → List ℕ
+taken_from s b = taken (config s b)

@@ -1,28 +1,20 @@
 // What the calls share: the kinds of containers, why a value that may stand where it stands was not put, and the answer of a call that puts bytes.
 // The laws in proofs/ say what the machine answers and leaves, by how far a call gets.
-ghost use mathlib.Core.Path.{_≡_};
-ghost use mathlib.Core.Bool.{false};
-ghost use Prim.Native.Nat.{_+_, _%_, _^_};
-ghost use Rattle·encoding.specs.Argument.{writeInt, writeDecimal, writeString};
-ghost use Rattle·machine.specs.Machine.{containerCode, refused};
-ghost use Rattle·machine.specs.Numbers.{number};
-ghost use Rattle·machine.specs.declared.Answer.the-variants.{Accepted, Refused};
-ghost use Rattle·timestamp.specs.Arguments.{argumentOf};
-ghost use Rattle·steps·specs.specs.Counted.{countedCut};
-ghost use Rattle·steps·specs.specs.Kinds.{kindOf};
-ghost use Rattle·steps·specs.specs.Refused.{ownRefusal};
+ghost use Rattle.std.specs.Prelude.{◌≡◌, ◌+◌, ◌%◌, ◌^◌, false, ◌≢◌};
+ghost use Rattle.encoding.specs.Argument.{write_int, write_decimal, write_string};
+ghost use Rattle.machine.specs.Machine.{container_code, refused};
+ghost use Rattle.machine.specs.Numbers.{number};
+ghost use Rattle.machine.specs.declared.Answer.TheVariants.{Accepted, Refused};
+ghost use Rattle.timestamp.specs.Arguments.{argument_of};
+ghost use Rattle.steps.specs.Counted.{counted_cut};
+ghost use Rattle.steps.specs.Kinds.{kind_of};
+ghost use Rattle.steps.specs.Refused.{own_refusal};
+
 use decimal::MAX_BODY;
-use machine::Answer;
-use machine::Container;
-use machine::LIST;
-use machine::MOST_OPEN;
-use machine::Refusal;
-use machine::SEXP;
-use machine::STRUCT;
-use machine::State;
-use machine::Written;
+use machine::{Answer, Container, LIST, MOST_OPEN, Refusal, SEXP, STRUCT, State, Written};
 use timestamp::Timestamp;
 
+#[derive(Drop)]
 pub enum ContainerType {
     List,
     Sexp,
@@ -31,7 +23,7 @@ pub enum ContainerType {
 
 // The type byte of a container.
 pub fn type_code(kind: ContainerType) -> u8
-    ensures { λ r. ⌜ r ≡ containerCode (kindOf kind) ⌝ }
+    ensures { result ≡ container_code (kind_of kind) }
 {
     match kind {
         ContainerType::List => LIST,
@@ -42,7 +34,7 @@ pub fn type_code(kind: ContainerType) -> u8
 
 // Why an int that may stand where it stands was not put: the first of its own checks that fails, or 10.
 pub fn int_refusal(negative: bool, magnitude: &[u8]) -> Refusal
-    ensures { λ r. ⌜ refused (number r) ≡ ownRefusal (writeInt negative (now (magnitude .entry))) ⌝ }
+    ensures { refused (number result) ≡ own_refusal (write_int negative magnitude.now) }
 {
     if scalars::is_negative_zero(negative, magnitude) {
         return Refusal::NegativeZero;
@@ -52,7 +44,7 @@ pub fn int_refusal(negative: bool, magnitude: &[u8]) -> Refusal
 
 // The same of a decimal.
 pub fn decimal_refusal(negative: bool, coefficient: &[u8], exponent: i64) -> Refusal
-    ensures { λ r. ⌜ refused (number r) ≡ ownRefusal (writeDecimal negative (now (coefficient .entry)) exponent) ⌝ }
+    ensures { refused (number result) ≡ own_refusal (write_decimal negative coefficient.now exponent) }
 {
     if MAX_BODY < decimal::body_size(negative, coefficient, exponent) {
         return Refusal::DecimalTooLong;
@@ -62,7 +54,7 @@ pub fn decimal_refusal(negative: bool, coefficient: &[u8], exponent: i64) -> Ref
 
 // The same of a timestamp.
 pub fn timestamp_refusal(value: Timestamp) -> Refusal
-    ensures { λ r. ⌜ refused (number r) ≡ ownRefusal (argumentOf value) ⌝ }
+    ensures { refused (number result) ≡ own_refusal (argument_of value) }
 {
     if timestamp::is_valid(value) {
         return Refusal::NoRoom;
@@ -72,7 +64,7 @@ pub fn timestamp_refusal(value: Timestamp) -> Refusal
 
 // The same of a string.
 pub fn string_refusal(bytes: &[u8]) -> Refusal
-    ensures { λ r. ⌜ refused (number r) ≡ ownRefusal (writeString (now (bytes .entry))) ⌝ }
+    ensures { refused (number result) ≡ own_refusal (write_string bytes.now) }
 {
     if text::is_utf8(bytes) {
         return Refusal::NoRoom;
@@ -82,11 +74,11 @@ pub fn string_refusal(bytes: &[u8]) -> Refusal
 
 // The answer of a call that has put `put` bytes at the end of the used ones, or none for the reason `why`.
 pub fn ended(s: State, put: usize, waiting: bool, why: Refusal) -> Written
-    ensures { λ r. ⌜ (put ≡ 0 → r ≡ record { answer = Refused why; state = s })
-        × ((put ≡ 0 → ⊥) → r ≡ record {
+    ensures { (put ≡ 0 → result ≡ record { answer = Refused why; state = s })
+        × ((put ≢ 0) → result ≡ record {
           answer = Accepted;
-          state = record { used = (s .used + put) % 2 ^ 64; depth = s .depth; waiting = waiting; containers = s .containers };
-        }) ⌝ }
+          state = record { used = (s.used + put) % 2 ^ 64; depth = s.depth; waiting = waiting; containers = s.containers };
+        }) }
 {
     if put == 0 {
         return Written {
@@ -105,7 +97,7 @@ pub fn ended(s: State, put: usize, waiting: bool, why: Refusal) -> Written
 
 // The innermost container with one member more; with none open the state is as it was.
 pub fn counted(s: State) -> State
-    ensures { λ r. ⌜ r ≡ record { used = s .used; depth = s .depth; waiting = s .waiting; containers = countedCut (s .containers) (s .depth) } ⌝ }
+    ensures { result ≡ record { used = s.used; depth = s.depth; waiting = s.waiting; containers = counted_cut s.containers s.depth } }
 {
     let depth = s.depth;
     if depth == 0 {
@@ -127,11 +119,11 @@ pub fn counted(s: State) -> State
 
 // The answer of a call that has put a scalar of `put` bytes, which is a member of the innermost container, or none for the reason `why`.
 pub fn scalar_ended(s: State, put: usize, why: Refusal) -> Written
-    ensures { λ r. ⌜ (put ≡ 0 → r ≡ record { answer = Refused why; state = s })
-        × ((put ≡ 0 → ⊥) → r ≡ record {
+    ensures { (put ≡ 0 → result ≡ record { answer = Refused why; state = s })
+        × ((put ≢ 0) → result ≡ record {
           answer = Accepted;
-          state = record { used = (s .used + put) % 2 ^ 64; depth = s .depth; waiting = false; containers = countedCut (s .containers) (s .depth) };
-        }) ⌝ }
+          state = record { used = (s.used + put) % 2 ^ 64; depth = s.depth; waiting = false; containers = counted_cut s.containers s.depth };
+        }) }
 {
     if put == 0 {
         return Written {

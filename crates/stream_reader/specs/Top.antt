@@ -1,14 +1,13 @@
 -- A stream at top level: nothing is open, and names have no order.
 -- Assumes nothing.
-use Prim.Native.Nat.{ℕ}
-use mathlib.Core.List.{List}
-use Rattle·reading.specs.declared.Item.{Item}
-use Rattle·reading.specs.declared.Reading.{Reading}
-use Rattle·reading.specs.Items.{itemAt}
-use Rattle·reading.specs.Walk.{walk}
+use Rattle.std.specs.Prelude.{ℕ, List}
+use Rattle.reading.specs.declared.Item.{Item}
+use Rattle.reading.specs.declared.Reading.{Reading}
+use Rattle.reading.specs.Items.{item_at}
+use Rattle.reading.specs.Walk.{walk}
 
-abbrev pub topItem : List ℕ → ℕ → Item
-topItem s at = itemAt s 0 0 0 at
+abbrev pub top_item : List ℕ → ℕ → Item
+top_item s at = item_at s 0 0 0 at
 
-abbrev pub topReading : List ℕ → ℕ → Reading
-topReading s at = walk s at .1
+abbrev pub top_reading : List ℕ → ℕ → Reading
+top_reading s at = (walk s at).1

@@ -1,9 +1,10 @@
 // A reader holds the stream that is lent to it and a position in it. The work is done by functions over a plain slice and a number.
-use reading::Item;
-use reading::Reading;
-ghost use mathlib.Core.Path.{_≡_};
-ghost use Rattle·stream_reader·specs.specs.Top.{topItem, topReading};
+ghost use Rattle.std.specs.Prelude.{◌≡◌};
+ghost use Rattle.stream_reader.specs.Top.{top_item, top_reading};
 
+use reading::{Item, Reading};
+
+#[derive(Drop)]
 pub struct Reader<'a> {
     pub stream: &'a [u8],
     pub position: usize,
@@ -11,20 +12,20 @@ pub struct Reader<'a> {
 
 // The item at a position of a stream.
 pub fn item_in(stream: &[u8], position: usize) -> Item
-    ensures { λ r. ⌜ r ≡ topItem (now (stream .entry)) position ⌝ }
+    ensures { result ≡ top_item stream.now position }
 {
     read_items::item(stream, 0, 0, 0, position)
 }
 
 // How the walk over a stream ends, from a position on.
 pub fn reading_from(stream: &[u8], position: usize) -> Reading
-    ensures { λ r. ⌜ r ≡ topReading (now (stream .entry)) position ⌝ }
+    ensures { result ≡ top_reading stream.now position }
 {
     reader::read(stream, stream.len(), 0, 0, 0, position)
 }
 
 pub fn new<'a>(stream: &'a [u8]) -> Reader<'a>
-    ensures { λ r. ⌜ (r .stream ≡ stream .entry) × (r .position ≡ 0) ⌝ }
+    ensures { (result.stream ≡ stream.entry) × (result.position ≡ 0) }
 {
     Reader {
         stream,
@@ -33,19 +34,19 @@ pub fn new<'a>(stream: &'a [u8]) -> Reader<'a>
 }
 
 pub fn next_item<'a>(r: Reader<'a>) -> Item
-    ensures { λ i. ⌜ i ≡ topItem (now (r .entry .stream)) (r .entry .position) ⌝ }
+    ensures { result ≡ top_item r.entry.stream.now r.entry.position }
 {
     item_in(r.stream, r.position)
 }
 
 pub fn read_rest<'a>(r: Reader<'a>) -> Reading
-    ensures { λ x. ⌜ x ≡ topReading (now (r .entry .stream)) (r .entry .position) ⌝ }
+    ensures { result ≡ top_reading r.entry.stream.now r.entry.position }
 {
     reading_from(r.stream, r.position)
 }
 
 pub fn moved<'a>(r: Reader<'a>, position: usize) -> Reader<'a>
-    ensures { λ q. ⌜ (q .stream ≡ r .entry .stream) × (q .position ≡ position) ⌝ }
+    ensures { (result.stream ≡ r.entry.stream) × (result.position ≡ position) }
 {
     Reader {
         stream: r.stream,

@@ -1,13 +1,9 @@
 -- What the functions on UTF-8 hold: the ranges that bytes are due from, as three numbers; and ASCII.
 -- Assumes nothing.
-use Prim.Native.Nat.{ℕ, zero, suc}
-use mathlib.Core.Bool.{Bool, true, _&&_}
-use mathlib.Core.List.{List, [], _∷_}
-use mathlib.Core.Option.{Option, none, some}
-use lib.Dec.{ltb}
-use lib.ListN.{replicate}
-use Rattle·ion.specs.Text.{tail}
-use Rattle·text·specs.specs.declared.Due.{Due}
+use Rattle.std.specs.Prelude.{ℕ, zero, suc, Bool, true, ◌&&◌, List, [], ◌∷◌, ltb, replicate}
+use Rattle.std.proofs.Math.Option.{Option, none, some}
+use Rattle.ion.specs.Text.{tail}
+use Rattle.text.specs.declared.Due.{Due}
 
 -- `count` bytes: the next from its own range, the others from that of UTF8-tail
 abbrev pub ranges : ℕ → ℕ → ℕ → List (ℕ × ℕ)
@@ -15,7 +11,7 @@ ranges zero low high = []
 ranges (suc n) low high = (low, high) ∷ replicate n tail
 
 abbrev pub due : Due → List (ℕ × ℕ)
-due d = ranges (d .0) (d .1) (d .2)
+due d = ranges d.0 d.1 d.2
 
 -- Where no character begins, a byte of an empty range is due.
 abbrev pub asked : Option (List (ℕ × ℕ)) → List (ℕ × ℕ)

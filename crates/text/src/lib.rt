@@ -1,15 +1,14 @@
 // UTF-8 by RFC 3629, section 4: what `write_string` asks of its bytes.
-ghost use mathlib.Core.Path.{_≡_};
-ghost use Prim.Native.Nat.{ℕ};
-ghost use mathlib.Core.List.{List, _∷_};
-ghost use Rattle·ion.specs.Text.{characters, begun, utf8, utf8From};
-ghost use Rattle·text·specs.specs.Due.{due, asked, ascii};
+ghost use Rattle.std.specs.Prelude.{◌≡◌, ℕ, List, ◌∷◌};
+ghost use Rattle.ion.specs.Text.{characters, begun, utf8, utf8_from};
+ghost use Rattle.text.specs.Due.{due, asked, ascii};
 
 const TAIL_LOW: u8 = 0x80;
 
 const TAIL_HIGH: u8 = 0xBF;
 
 // How many bytes a character still asks for, and the least and the greatest that the next may be.
+#[derive(Drop)]
 struct Due(u8, u8, u8);
 
 // A byte is due, and no byte is right.
@@ -17,7 +16,7 @@ const NEVER: Due = Due(1, 0xFF, 0x00);
 
 // C0, C1 and F5 to FF begin nothing. After E0 and F0 comes no overlong form, after ED no surrogate, after F4 nothing past 10FFFF.
 fn first_byte(b: u8) -> Due
-    ensures { λ r. ⌜ due r ≡ asked (begun characters b) ⌝ }
+    ensures { due result ≡ asked (begun characters b) }
 {
     if b < 0x80 {
         return Due(0, TAIL_LOW, TAIL_HIGH);
@@ -54,7 +53,7 @@ fn first_byte(b: u8) -> Due
 
 // What is due after b, whatever follows.
 fn next_byte(d: Due, b: u8) -> Due
-    ensures { λ r. ⌜ ((bs : List ℕ) → utf8From (due r) bs ≡ utf8From (due d) (b ∷ bs)) ⌝ }
+    ensures { (bs : List ℕ) → utf8_from (due result) bs ≡ utf8_from (due d) (b ∷ bs) }
 {
     let Due(count, low, high) = d;
     if count == 0 {
@@ -68,7 +67,7 @@ fn next_byte(d: Due, b: u8) -> Due
 
 // One pass, with no exit before the end.
 fn is_utf8_by_bytes(s: &[u8]) -> bool
-    ensures { λ r. ⌜ r ≡ utf8 (now (s .entry)) ⌝ }
+    ensures { result ≡ utf8 s.now }
 {
     let mut d = Due(0, TAIL_LOW, TAIL_HIGH);
     let mut i = 0;
@@ -81,7 +80,7 @@ fn is_utf8_by_bytes(s: &[u8]) -> bool
 
 // The OR of all bytes has no bit 80. No exit from the loop, so that it runs on wide registers.
 fn is_ascii(s: &[u8]) -> bool
-    ensures { λ r. ⌜ r ≡ ascii (now (s .entry)) ⌝ }
+    ensures { result ≡ ascii s.now }
 {
     let mut all: u8 = 0;
     let mut i = 0;
@@ -94,7 +93,7 @@ fn is_ascii(s: &[u8]) -> bool
 
 // Whether the bytes are UTF-8, whole. ASCII, the common case, is settled by the faster loop.
 pub fn is_utf8(s: &[u8]) -> bool
-    ensures { λ r. ⌜ r ≡ utf8 (now (s .entry)) ⌝ }
+    ensures { result ≡ utf8 s.now }
 {
     if is_ascii(s) {
         return true;

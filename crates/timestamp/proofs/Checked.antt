@@ -1,68 +1,68 @@
 -- What check 7 leaves of a timestamp: the bytes of its UTC fields, or nothing. How many they are is told by the UTC year.
 -- Assumes nothing.
-use Prim.Native.Nat.{ℕ, _+_}
+use Prim.Native.Nat.{ℕ, ◌+◌}
 use native.Mathlib.Omega.{arith}
-use mathlib.Core.Path.{_≡_, refl, sym, _∙_, ap}
+use mathlib.Core.Path.{◌≡◌, refl, sym, ◌∙◌, ap}
 use mathlib.Core.Bool.{Bool, true, false}
-use mathlib.Core.List.{[], _∷_}
+use mathlib.Core.List.{[], ◌∷◌}
 use mir.Syntax.{w64}
 use mir.Val.{Fits}
 use lib.ListN.{length}
-use Rattle·ion.specs.Value.{timestampCode}
-use Rattle·encoding.specs.Headers.{typeByte, headerBytes, framedBytes}
-use Rattle·encoding.specs.Timestamp.{utc, isLocalTimestamp, isTimestamp}
-use Rattle·encoding.specs.Argument.{argumentBytes, checkedBytes}
-use Rattle·encoding.proofs.Headers.{header-most, length-framed}
-use Rattle·encoding.proofs.Rules.{isTimestamp-parts}
-use Rattle·decimal.proofs.Values.{checkedBytes-refused, checkedBytes-accepted}
-use Rattle·timestamp·specs.specs.declared.Timestamp.{Timestamp}
-use Rattle·timestamp·specs.specs.Arguments.{offsetMinutes, fractionDigits, fieldsOf, argumentOf}
-use Rattle·timestamp·specs.specs.Utc.{withFields}
-use Rattle·timestamp·specs.specs.Small.{Small, bodyOf, valueOf}
-use Rattle·timestamp·proofs.proofs.Small.{utc-small, utc-year-small, utc-body}
-use Rattle·timestamp·proofs.proofs.Body.{body-length, body-most}
+use Rattle.ion.specs.Value.{timestamp_code}
+use Rattle.encoding.specs.Headers.{type_byte, header_bytes, framed_bytes}
+use Rattle.encoding.specs.Timestamp.{utc, is_local_timestamp, is_timestamp}
+use Rattle.encoding.specs.Argument.{argument_bytes, checked_bytes}
+use Rattle.encoding.proofs.Headers.{header_most, length-framed}
+use Rattle.encoding.proofs.Rules.{is_timestamp_parts}
+use Rattle.decimal.proofs.Values.{checked_bytes_refused, checked_bytes_accepted}
+use Rattle.timestamp.specs.declared.Timestamp.{Timestamp}
+use Rattle.timestamp.specs.Arguments.{offset_minutes, fraction_digits, fields_of, argument_of}
+use Rattle.timestamp.specs.Utc.{with_fields}
+use Rattle.timestamp.specs.Small.{Small, body_of, value_of}
+use Rattle.timestamp.proofs.Small.{utc_small, utc_year_small, utc_body}
+use Rattle.timestamp.proofs.Body.{body-length, body-most}
 
 -- header and body
-module _ (t : Timestamp) (h : Small t) (body : ℕ) (q : body ≡ length (bodyOf t)) (header : ℕ) (k : header ≡ length (headerBytes 0 body)) where
-  pub value-size : header + body ≡ length (valueOf t)
-  unfolding valueOf
-  value-size = rw (k, q) (sym (length-framed (typeByte timestampCode) (bodyOf t)))
+module _ (t : Timestamp) (h : Small t) (body : ℕ) (q : body ≡ length (body_of t)) (header : ℕ) (k : header ≡ length (header_bytes 0 body)) where
+  pub value-size : header + body ≡ length (value_of t)
+  unfolding value_of
+  value-size = rw (k, q) (sym (length-framed (type_byte timestamp_code) (body_of t)))
 
-  pub value-fits : Fits w64 (header + body)
-  value-fits = record { fits = omega (arith, body-most t h, header-most 0 body (omega (arith, body-most t h))) }
+  pub value_fits : Fits w64 (header + body)
+  value_fits = record { fits = omega (arith, body-most t h, header_most 0 body (omega (arith, body-most t h))) }
 
 module _ (t : Timestamp) where
-  abbrev isValid : Bool
-  isValid = isTimestamp (offsetMinutes (t .offset)) (fieldsOf t) (fractionDigits (t .fraction))
+  abbrev is_valid : Bool
+  is_valid = is_timestamp (offset_minutes t.offset) (fields_of t) (fraction_digits t.fraction)
 
   -- with its UTC fields, and with its UTC year alone
-  abbrev inUtc : Timestamp
-  inUtc = withFields t (utc (offsetMinutes (t .offset)) (fieldsOf t))
+  abbrev in_utc : Timestamp
+  in_utc = with_fields t (utc (offset_minutes t.offset) (fields_of t))
 
-  abbrev byYear : Timestamp
-  byYear = withFields t (inUtc .year ∷ [])
+  abbrev by_year : Timestamp
+  by_year = with_fields t (in_utc.year ∷ [])
 
-  pub refused : isValid ≡ false → checkedBytes (argumentOf t) ≡ []
-  refused v = checkedBytes-refused (argumentOf t) (rw v)
+  pub refused : is_valid ≡ false → checked_bytes (argument_of t) ≡ []
+  refused v = checked_bytes_refused (argument_of t) (rw v)
 
-  module _ (v : isValid ≡ true) where
-    keeps : isLocalTimestamp (offsetMinutes (t .offset)) (fieldsOf t) (fractionDigits (t .fraction)) ≡ true
-    keeps = isTimestamp-parts (offsetMinutes (t .offset)) (fieldsOf t) (fractionDigits (t .fraction)) v .0
+  module _ (v : is_valid ≡ true) where
+    keeps : is_local_timestamp (offset_minutes t.offset) (fields_of t) (fraction_digits t.fraction) ≡ true
+    keeps = (is_timestamp_parts (offset_minutes t.offset) (fields_of t) (fraction_digits t.fraction) v).0
 
-    pub accepted : (u : Timestamp) → u ≡ inUtc → valueOf u ≡ checkedBytes (argumentOf t)
-    unfolding argumentBytes valueOf
+    pub accepted : (u : Timestamp) → u ≡ in_utc → value_of u ≡ checked_bytes (argument_of t)
+    unfolding argument_bytes value_of
     accepted u e =
-        ap valueOf e
-        ∙ (ap (framedBytes (typeByte timestampCode)) (utc-body t)
-        ∙ sym (checkedBytes-accepted (argumentOf t) (rw v)))
+        ap value_of e
+        ∙ (ap (framed_bytes (type_byte timestamp_code)) (utc_body t)
+        ∙ sym (checked_bytes_accepted (argument_of t) (rw v)))
 
     -- the fields below the year take one byte each, whether local or UTC
-    byYear-body : length (bodyOf byYear) ≡ length (bodyOf inUtc)
-    unfolding withFields
-    byYear-body = body-length byYear (utc-year-small t keeps) ∙ sym (body-length inUtc (utc-small t keeps))
+    by_year-body : length (body_of by_year) ≡ length (body_of in_utc)
+    unfolding with_fields
+    by_year-body = body-length by_year (utc_year_small t keeps) ∙ sym (body-length in_utc (utc_small t keeps))
 
-    pub accepted-size : length (valueOf byYear) ≡ length (checkedBytes (argumentOf t))
-    unfolding valueOf
-    accepted-size =
-        length-framed (typeByte timestampCode) (bodyOf byYear)
-        ∙ (rw byYear-body (sym (length-framed (typeByte timestampCode) (bodyOf inUtc))) ∙ ap length (accepted inUtc refl))
+    pub accepted_size : length (value_of by_year) ≡ length (checked_bytes (argument_of t))
+    unfolding value_of
+    accepted_size =
+        length-framed (type_byte timestamp_code) (body_of by_year)
+        ∙ (rw by_year-body (sym (length-framed (type_byte timestamp_code) (body_of in_utc))) ∙ ap length (accepted in_utc refl))

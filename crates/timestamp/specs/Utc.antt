@@ -1,27 +1,25 @@
 -- A Timestamp with its UTC fields.
 -- Assumes nothing.
-use mathlib.Core.List.{List}
-use Prim.Native.Nat.{ℕ}
-use lib.ListN.{getD}
-use Rattle·encoding.specs.Timestamp.{date}
-use Rattle·encoding.specs.Timestamp.{Date as CalendarDate}
-use Rattle·timestamp·specs.specs.declared.Date.{Date}
-use Rattle·timestamp·specs.specs.declared.Timestamp.{Timestamp}
+use Rattle.std.specs.Prelude.{List, ℕ, get_or}
+use Rattle.encoding.specs.Timestamp.{date}
+use Rattle.encoding.specs.Timestamp.{Date as CalendarDate}
+use Rattle.timestamp.specs.declared.Date.{Date}
+use Rattle.timestamp.specs.declared.Timestamp.{Timestamp}
 
-abbrev pub dateOf : Date → CalendarDate
-dateOf x = date (x .0) (x .1) (x .2)
+abbrev pub date_of : Date → CalendarDate
+date_of x = date x.0 x.1 x.2
 
 -- these fields, from the year down, in the place of its own
-unfoldable pub withFields : Timestamp → List ℕ → Timestamp
-withFields t fs =
+unfoldable pub with_fields : Timestamp → List ℕ → Timestamp
+with_fields t fs =
     record {
-      precision = t .precision;
-      year = getD fs 0 (t .year);
-      month = getD fs 1 (t .month);
-      day = getD fs 2 (t .day);
-      hour = getD fs 3 (t .hour);
-      minute = getD fs 4 (t .minute);
-      second = getD fs 5 (t .second);
-      offset = t .offset;
-      fraction = t .fraction;
+      precision = t.precision;
+      year = get_or fs 0 t.year;
+      month = get_or fs 1 t.month;
+      day = get_or fs 2 t.day;
+      hour = get_or fs 3 t.hour;
+      minute = get_or fs 4 t.minute;
+      second = get_or fs 5 t.second;
+      offset = t.offset;
+      fraction = t.fraction;
     }

@@ -1,22 +1,17 @@
 // Timestamps: document 01's modules types/timestamp and binary/timestamp.
 // A field is 32 bits wide and never cut: a year of 70000 is a bad year.
-ghost use mathlib.Core.Path.{_≡_};
-ghost use mathlib.Core.Bool.{true, cond, _&&_};
-ghost use mathlib.Core.List.{List, []};
-ghost use Prim.Native.Nat.{ℕ, _+_, _%_, _^_, _≤_, _<_};
-ghost use lib.Dec.{ltb, leb};
-ghost use lib.ListN.{length};
-ghost use lib.IntN.{natAbs};
-ghost use Rattle·buffer.specs.Laid.{placed};
-ghost use Rattle·encoding.specs.Fields.{varUIntBytes, varUIntsBytes};
-ghost use Rattle·encoding.specs.Argument.{checkedBytes};
-ghost use Rattle·encoding.specs.Timestamp.{offsetBytes, fractionBytes, dayBefore, dayAfter, utcMinutes, utcDay, utcFields, utc};
-ghost use Rattle·encoding.specs.Timestamp.{yearRule, monthRule, dayRule, offsetRules, fractionRules, firstBad, isNone, isLocalTimestamp, isTimestamp};
-ghost use Rattle·timestamp·specs.specs.Arguments.{offsetMinutes, fractionDigits, fieldsBy, fieldsOf, argumentOf};
-ghost use Rattle·timestamp·specs.specs.Utc.{dateOf, withFields};
-ghost use Rattle·timestamp·specs.specs.Small.{SmallOffset, SmallFields, SmallFraction, Small, bodyOf, valueOf};
+ghost use Rattle.std.specs.Prelude.{◌≡◌, true, cond, ◌&&◌, List, [], ℕ, ◌+◌, ◌%◌, ◌^◌, ◌≤◌, ◌<◌, ltb, leb, length, nat_abs};
+ghost use Rattle.buffer.specs.Laid.{placed};
+ghost use Rattle.encoding.specs.Fields.{var_uint_bytes, var_uints_bytes};
+ghost use Rattle.encoding.specs.Argument.{checked_bytes};
+ghost use Rattle.encoding.specs.Timestamp.{offset_bytes, fraction_bytes, day_before, day_after, utc_minutes, utc_day, utc_fields, utc};
+ghost use Rattle.encoding.specs.Timestamp.{year_rule, month_rule, day_rule, offset_rules, fraction_rules, first_bad, is_none, is_local_timestamp, is_timestamp};
+ghost use Rattle.timestamp.specs.Arguments.{offset_minutes, fraction_digits, fields_by, fields_of, argument_of};
+ghost use Rattle.timestamp.specs.Utc.{date_of, with_fields};
+ghost use Rattle.timestamp.specs.Small.{SmallOffset, SmallFields, SmallFraction, Small, body_of, value_of};
 
 // The last field that counts; those below it mean nothing. With a minute there is an hour.
+#[derive(Drop)]
 pub enum Precision {
     Year,
     Month,
@@ -26,18 +21,21 @@ pub enum Precision {
 }
 
 // Local time minus UTC.
+#[derive(Drop)]
 pub enum Offset {
     Unknown,
     Minutes(i32),
 }
 
 // Behind the seconds: how many digits there are, and the number that they make.
+#[derive(Drop)]
 pub enum Fraction {
     None,
     Digits(u32, u64),
 }
 
 // The fields are local.
+#[derive(Drop)]
 pub struct Timestamp {
     pub precision: Precision,
     pub year: u32,
@@ -53,27 +51,27 @@ pub struct Timestamp {
 // ---- check 7
 
 fn is_year(year: u32) -> bool
-    ensures { λ r. ⌜ r ≡ yearRule year .holds ⌝ }
+    ensures { result ≡ (year_rule year).holds }
 {
     (1 <= year) & (year <= 9999)
 }
 
 fn is_month(month: u32) -> bool
-    ensures { λ r. ⌜ r ≡ monthRule month .holds ⌝ }
+    ensures { result ≡ (month_rule month).holds }
 {
     (1 <= month) & (month <= 12)
 }
 
 // No day is one of a month that is not.
 fn is_day(year: u32, month: u32, day: u32) -> bool
-    ensures { λ r. ⌜ r ≡ dayRule year month day .holds ⌝ }
+    ensures { result ≡ (day_rule year month day).holds }
 {
     (1 <= day) & (day <= calendar::days_in_month(year, month))
 }
 
 // How many fields count, from the year down.
 fn field_count(precision: Precision) -> u32
-    ensures { λ r. ⌜ ((y m d h i s : ℕ) → r ≡ length (fieldsBy precision y m d h i s)) ⌝ }
+    ensures { (y m d h i s : ℕ) → result ≡ length (fields_by precision y m d h i s) }
 {
     match precision {
         Precision::Year => 1,
@@ -86,14 +84,14 @@ fn field_count(precision: Precision) -> u32
 
 // That of the least i32 is 2 to the 31.
 fn offset_magnitude(minutes: i32) -> u32
-    ensures { λ r. ⌜ r ≡ natAbs minutes ⌝ }
+    ensures { result ≡ nat_abs minutes }
 {
     sign::magnitude(minutes as i64) as u32
 }
 
 // Unknown, or -1439 to 1439 minutes at minute or second precision.
 fn offset_fits(offset: Offset, fields: u32) -> bool
-    ensures { λ r. ⌜ ((fs : List ℕ) → length fs ≡ fields → r ≡ isNone (firstBad (offsetRules (offsetMinutes offset) fs))) ⌝ }
+    ensures { (fs : List ℕ) → length fs ≡ fields → result ≡ is_none (first_bad (offset_rules (offset_minutes offset) fs)) }
 {
     match offset {
         Offset::Unknown => true,
@@ -103,7 +101,7 @@ fn offset_fits(offset: Offset, fields: u32) -> bool
 
 // Ten to a count of digits that a fraction may have; 0 for a larger count, so that no coefficient is below it.
 fn power_of_ten(digits: u32) -> u64
-    ensures { λ r. ⌜ r ≡ cond (leb digits 18) (10 ^ digits) 0 ⌝ }
+    ensures { result ≡ cond (leb digits 18) (10 ^ digits) 0 }
 {
     match digits {
         0 => 1,
@@ -131,14 +129,14 @@ fn power_of_ten(digits: u32) -> u64
 
 // At most 18 digits, and a coefficient below ten to their count.
 fn digits_hold(digits: u32, coefficient: u64) -> bool
-    ensures { λ r. ⌜ r ≡ (leb digits 18 && ltb coefficient (10 ^ digits)) ⌝ }
+    ensures { result ≡ (leb digits 18 && ltb coefficient (10 ^ digits)) }
 {
     coefficient < power_of_ten(digits)
 }
 
 // None, or 1 to 18 digits at second precision.
 fn fraction_fits(fraction: Fraction, fields: u32) -> bool
-    ensures { λ r. ⌜ ((fs : List ℕ) → length fs ≡ fields → r ≡ isNone (firstBad (fractionRules (fractionDigits fraction) fs))) ⌝ }
+    ensures { (fs : List ℕ) → length fs ≡ fields → result ≡ is_none (first_bad (fraction_rules (fraction_digits fraction) fs)) }
 {
     match fraction {
         Fraction::None => true,
@@ -150,7 +148,7 @@ fn fraction_fits(fraction: Fraction, fields: u32) -> bool
 
 // The local fields, year 1 to 9999, a day of the calendar, hour 0 to 23, minute and second 0 to 59, as far as the precision goes; then offset and fraction.
 fn is_local(t: Timestamp) -> bool
-    ensures { λ r. ⌜ r ≡ isLocalTimestamp (offsetMinutes (t .offset)) (fieldsOf t) (fractionDigits (t .fraction)) ⌝ }
+    ensures { result ≡ is_local_timestamp (offset_minutes t.offset) (fields_of t) (fraction_digits t.fraction) }
 {
     let precision = t.precision;
     let offset = t.offset;
@@ -167,14 +165,15 @@ fn is_local(t: Timestamp) -> bool
 // ---- UTC: local minus offset
 
 // Year, month, day.
+#[derive(Drop)]
 struct Date(u32, u32, u32);
 
 // The minutes of a day.
 const DAY: u32 = 1440;
 
 fn day_before(year: u32, month: u32, day: u32) -> Date
-    requires { ⌜ 1 ≤ year ⌝ }
-    ensures { λ r. ⌜ dateOf r ≡ dayBefore year month day ⌝ }
+    requires { 1 ≤ year }
+    ensures { date_of result ≡ day_before year month day }
 {
     if 1 < day {
         return Date(year, month, day - 1);
@@ -186,8 +185,8 @@ fn day_before(year: u32, month: u32, day: u32) -> Date
 }
 
 fn day_after(year: u32, month: u32, day: u32) -> Date
-    requires { ⌜ year ≤ 9999 ⌝ }
-    ensures { λ r. ⌜ dateOf r ≡ dayAfter year month day ⌝ }
+    requires { year ≤ 9999 }
+    ensures { date_of result ≡ day_after year month day }
 {
     if day < calendar::days_in_month(year, month) {
         return Date(year, month, day + 1);
@@ -200,8 +199,8 @@ fn day_after(year: u32, month: u32, day: u32) -> Date
 
 // In minutes from the start of the day before.
 fn utc_minutes(offset: i32, hour: u32, minute: u32) -> u32
-    requires { ⌜ (natAbs offset ≤ 1439) × (hour < 24) × (minute < 60) ⌝ }
-    ensures { λ r. ⌜ r ≡ utcMinutes offset hour minute ⌝ }
+    requires { (nat_abs offset ≤ 1439) × (hour < 24) × (minute < 60) }
+    ensures { result ≡ utc_minutes offset hour minute }
 {
     let local = DAY + (hour * 60 + minute);
     let distance = offset_magnitude(offset);
@@ -213,8 +212,8 @@ fn utc_minutes(offset: i32, hour: u32, minute: u32) -> u32
 
 // The day of the minute that is so many minutes behind the start of the day before.
 fn utc_day(minutes: u32, year: u32, month: u32, day: u32) -> Date
-    requires { ⌜ (1 ≤ year) × (year ≤ 9999) ⌝ }
-    ensures { λ r. ⌜ dateOf r ≡ utcDay minutes year month day ⌝ }
+    requires { (1 ≤ year) × (year ≤ 9999) }
+    ensures { date_of result ≡ utc_day minutes year month day }
 {
     if minutes < DAY {
         return day_before(year, month, day);
@@ -227,8 +226,8 @@ fn utc_day(minutes: u32, year: u32, month: u32, day: u32) -> Date
 
 // The fields of that minute.
 fn at_minute(t: Timestamp, minutes: u32) -> Timestamp
-    requires { ⌜ (1 ≤ t .year) × (t .year ≤ 9999) ⌝ }
-    ensures { λ r. ⌜ r ≡ withFields t (utcFields minutes (t .year) (t .month) (t .day) []) ⌝ }
+    requires { (1 ≤ t.year) × (t.year ≤ 9999) }
+    ensures { result ≡ with_fields t (utc_fields minutes t.year t.month t.day []) }
 {
     let day = utc_day(minutes, t.year, t.month, t.day);
     let precision = t.precision;
@@ -249,8 +248,8 @@ fn at_minute(t: Timestamp, minutes: u32) -> Timestamp
 
 // Given that the local rules are kept. With no offset known the fields stay.
 fn utc_of_local(t: Timestamp) -> Timestamp
-    requires { ⌜ isLocalTimestamp (offsetMinutes (t .offset)) (fieldsOf t) (fractionDigits (t .fraction)) ≡ true ⌝ }
-    ensures { λ r. ⌜ r ≡ withFields t (utc (offsetMinutes (t .offset)) (fieldsOf t)) ⌝ }
+    requires { is_local_timestamp (offset_minutes t.offset) (fields_of t) (fraction_digits t.fraction) ≡ true }
+    ensures { result ≡ with_fields t (utc (offset_minutes t.offset) (fields_of t)) }
 {
     let offset = t.offset;
     match offset {
@@ -261,8 +260,8 @@ fn utc_of_local(t: Timestamp) -> Timestamp
 
 // The year of `utc_of_local`.
 fn utc_year(t: Timestamp) -> u32
-    requires { ⌜ isLocalTimestamp (offsetMinutes (t .offset)) (fieldsOf t) (fractionDigits (t .fraction)) ≡ true ⌝ }
-    ensures { λ r. ⌜ r ≡ withFields t (utc (offsetMinutes (t .offset)) (fieldsOf t)) .year ⌝ }
+    requires { is_local_timestamp (offset_minutes t.offset) (fields_of t) (fraction_digits t.fraction) ≡ true }
+    ensures { result ≡ (with_fields t (utc (offset_minutes t.offset) (fields_of t))).year }
 {
     let offset = t.offset;
     match offset {
@@ -281,7 +280,7 @@ fn utc_year(t: Timestamp) -> u32
 
 // Check 7: the local rules, then the UTC year, which is 1 to 9999 too.
 pub fn is_valid(t: Timestamp) -> bool
-    ensures { λ r. ⌜ r ≡ isTimestamp (offsetMinutes (t .offset)) (fieldsOf t) (fractionDigits (t .fraction)) ⌝ }
+    ensures { result ≡ is_timestamp (offset_minutes t.offset) (fields_of t) (fraction_digits t.fraction) }
 {
     if !is_local(t) {
         return false;
@@ -295,24 +294,24 @@ const TYPE_CODE: u8 = 0x60;
 
 // Of an offset that two bytes hold. The remainder lets the compiler see that they do.
 fn small_magnitude(minutes: i32) -> u64
-    requires { ⌜ natAbs minutes < 8192 ⌝ }
-    ensures { λ r. ⌜ r ≡ natAbs minutes ⌝ }
+    requires { nat_abs minutes < 8192 }
+    ensures { result ≡ nat_abs minutes }
 {
     (offset_magnitude(minutes) % 8192) as u64
 }
 
 // Of a year that two bytes hold, likewise.
 fn small_year(year: u32) -> u64
-    requires { ⌜ year < 16384 ⌝ }
-    ensures { λ r. ⌜ r ≡ year ⌝ }
+    requires { year < 16384 }
+    ensures { result ≡ year }
 {
     (year % 16384) as u64
 }
 
 // The offset as a VarInt. Unknown is negative zero.
 fn put_offset(buf: &mut [u8], at: usize, offset: Offset) -> usize
-    requires { ⌜ SmallOffset (offsetMinutes offset) ⌝ }
-    ensures { λ r. ⌜ _≡_ {A = ℕ × List ℕ} (r, now (buf .exit)) (placed (now (buf .entry)) at (offsetBytes (offsetMinutes offset))) ⌝ }
+    requires { SmallOffset (offset_minutes offset) }
+    ensures { ◌≡◌ {A = ℕ × List ℕ} (result, buf.new) (placed buf.old at (offset_bytes (offset_minutes offset))) }
 {
     match offset {
         Offset::Unknown => var_int::write(buf, at, true, 0),
@@ -324,15 +323,15 @@ fn put_offset(buf: &mut [u8], at: usize, offset: Offset) -> usize
 
 // One byte holds each field below the year; the remainder lets the compiler see that it does.
 fn put_small(buf: &mut [u8], at: usize, value: u32) -> usize
-    ensures { λ r. ⌜ _≡_ {A = ℕ × List ℕ} (r, now (buf .exit)) (placed (now (buf .entry)) at (varUIntBytes (value % 128))) ⌝ }
+    ensures { ◌≡◌ {A = ℕ × List ℕ} (result, buf.new) (placed buf.old at (var_uint_bytes (value % 128))) }
 {
     var_uint::write(buf, at, (value % 128) as u64)
 }
 
 // The fields as VarUInts, as far as the precision goes. Those below the year take one byte each, and there is room for them.
 fn put_fields(buf: &mut [u8], at: usize, t: Timestamp) -> usize
-    requires { ⌜ SmallFields (fieldsOf t) × (at + length (varUIntsBytes (fieldsOf t)) ≤ length (now buf)) ⌝ }
-    ensures { λ r. ⌜ _≡_ {A = ℕ × List ℕ} (r, now (buf .exit)) (placed (now (buf .entry)) at (varUIntsBytes (fieldsOf t))) ⌝ }
+    requires { SmallFields (fields_of t) × (at + length (var_uints_bytes (fields_of t)) ≤ length buf.old) }
+    ensures { ◌≡◌ {A = ℕ × List ℕ} (result, buf.new) (placed buf.old at (var_uints_bytes (fields_of t))) }
 {
     let precision = t.precision;
     let year = var_uint::write(buf, at, small_year(t.year));
@@ -359,8 +358,8 @@ fn put_fields(buf: &mut [u8], at: usize, t: Timestamp) -> usize
 
 // A decimal's body: the exponent, below zero, which one byte holds, then the coefficient as an Int.
 fn put_fraction(buf: &mut [u8], at: usize, fraction: Fraction) -> usize
-    requires { ⌜ SmallFraction (fractionDigits fraction) × (at + length (fractionBytes (fractionDigits fraction)) ≤ length (now buf)) ⌝ }
-    ensures { λ r. ⌜ _≡_ {A = ℕ × List ℕ} (r, now (buf .exit)) (placed (now (buf .entry)) at (fractionBytes (fractionDigits fraction))) ⌝ }
+    requires { SmallFraction (fraction_digits fraction) × (at + length (fraction_bytes (fraction_digits fraction)) ≤ length buf.old) }
+    ensures { ◌≡◌ {A = ℕ × List ℕ} (result, buf.new) (placed buf.old at (fraction_bytes (fraction_digits fraction))) }
 {
     match fraction {
         Fraction::None => 0,
@@ -372,8 +371,8 @@ fn put_fraction(buf: &mut [u8], at: usize, fraction: Fraction) -> usize
 }
 
 fn offset_size(offset: Offset) -> usize
-    requires { ⌜ SmallOffset (offsetMinutes offset) ⌝ }
-    ensures { λ r. ⌜ r ≡ length (offsetBytes (offsetMinutes offset)) ⌝ }
+    requires { SmallOffset (offset_minutes offset) }
+    ensures { result ≡ length (offset_bytes (offset_minutes offset)) }
 {
     match offset {
         Offset::Unknown => var_int::encoded_size_of(0),
@@ -382,8 +381,8 @@ fn offset_size(offset: Offset) -> usize
 }
 
 fn fraction_size(fraction: Fraction) -> usize
-    requires { ⌜ SmallFraction (fractionDigits fraction) ⌝ }
-    ensures { λ r. ⌜ r ≡ length (fractionBytes (fractionDigits fraction)) ⌝ }
+    requires { SmallFraction (fraction_digits fraction) }
+    ensures { result ≡ length (fraction_bytes (fraction_digits fraction)) }
 {
     match fraction {
         Fraction::None => 0,
@@ -393,8 +392,8 @@ fn fraction_size(fraction: Fraction) -> usize
 
 // The fields below the year count by their number alone.
 fn body_size(t: Timestamp) -> usize
-    requires { ⌜ Small t ⌝ }
-    ensures { λ r. ⌜ r ≡ length (bodyOf t) ⌝ }
+    requires { Small t }
+    ensures { result ≡ length (body_of t) }
 {
     let precision = t.precision;
     let offset = t.offset;
@@ -407,8 +406,8 @@ fn body_size(t: Timestamp) -> usize
 
 // Offset, UTC fields, fraction.
 fn put_body(buf: &mut [u8], at: usize, t: Timestamp) -> usize
-    requires { ⌜ Small t × (at + length (bodyOf t) ≤ length (now buf)) ⌝ }
-    ensures { λ r. ⌜ _≡_ {A = ℕ × List ℕ} (r, now (buf .exit)) (placed (now (buf .entry)) at (bodyOf t)) ⌝ }
+    requires { Small t × (at + length (body_of t) ≤ length buf.old) }
+    ensures { ◌≡◌ {A = ℕ × List ℕ} (result, buf.new) (placed buf.old at (body_of t)) }
 {
     let offset = t.offset;
     let fraction = t.fraction;
@@ -419,16 +418,16 @@ fn put_body(buf: &mut [u8], at: usize, t: Timestamp) -> usize
 
 // Header and body.
 fn value_size(t: Timestamp) -> usize
-    requires { ⌜ Small t ⌝ }
-    ensures { λ r. ⌜ r ≡ length (valueOf t) ⌝ }
+    requires { Small t }
+    ensures { result ≡ length (value_of t) }
 {
     let body = body_size(t);
     header::encoded_size_of(body) + body
 }
 
 fn put_value(buf: &mut [u8], at: usize, t: Timestamp) -> usize
-    requires { ⌜ Small t ⌝ }
-    ensures { λ r. ⌜ _≡_ {A = ℕ × List ℕ} (r, now (buf .exit)) (placed (now (buf .entry)) at (valueOf t)) ⌝ }
+    requires { Small t }
+    ensures { ◌≡◌ {A = ℕ × List ℕ} (result, buf.new) (placed buf.old at (value_of t)) }
 {
     let body = body_size(t);
     let size = header::encoded_size_of(body) + body;
@@ -442,7 +441,7 @@ fn put_value(buf: &mut [u8], at: usize, t: Timestamp) -> usize
 // The bytes that `t` takes, header and body; none where it does not pass check 7.
 // Of the UTC fields only the year can take another count of bytes than the local one.
 pub fn size(t: Timestamp) -> usize
-    ensures { λ r. ⌜ r ≡ length (checkedBytes (argumentOf t)) ⌝ }
+    ensures { result ≡ length (checked_bytes (argument_of t)) }
 {
     if !is_local(t) {
         return 0;
@@ -459,7 +458,7 @@ pub fn size(t: Timestamp) -> usize
 // Header and body: the offset as a VarInt, the UTC fields as VarUInts, then any fraction as a decimal's body.
 // Nothing is put where `t` does not pass check 7.
 pub fn write(buf: &mut [u8], at: usize, t: Timestamp) -> usize
-    ensures { λ r. ⌜ _≡_ {A = ℕ × List ℕ} (r, now (buf .exit)) (placed (now (buf .entry)) at (checkedBytes (argumentOf t))) ⌝ }
+    ensures { ◌≡◌ {A = ℕ × List ℕ} (result, buf.new) (placed buf.old at (checked_bytes (argument_of t))) }
 {
     if !is_local(t) {
         return 0;

@@ -1,14 +1,10 @@
 // Whether a line has the form of document 01, which is refusal 12 where it has not: words, brackets, and the limits of numbers.
-ghost use Prim.Native.Nat.{_≤_};
-ghost use lib.ListN.{length};
-use crate::names::MOST_U64;
-use crate::names::are_names;
-use crate::names::is_name;
+ghost use Rattle.std.specs.Prelude.{◌≤◌, length};
+
+use crate::names::{MOST_U64, are_names, is_name};
 use crate::walk;
-use words::count;
 use words::hex::is_hex;
-use words::numbers;
-use words::word;
+use words::{count, numbers, word};
 
 const MOST_I32: u64 = 2147483647;
 
@@ -89,7 +85,7 @@ fn is_right_word(scalar: usize, word: &[u8]) -> bool {
 
 // Whether the words of a part are of the form.
 fn is_right(part: usize, text: &[u8]) -> bool
-    requires { ⌜ length (now text) ≤ 4096 ⌝ }
+    requires { length text.now ≤ 4096 }
 {
     match part {
         walk::DECIMAL => is_decimal(text),
@@ -104,7 +100,7 @@ fn is_right(part: usize, text: &[u8]) -> bool
 
 // Whether a line is a value and nothing else.
 pub(crate) fn is_value(line: &[u8], stack: &mut [u8; 4096]) -> bool
-    requires { ⌜ length (now line) ≤ 4096 ⌝ }
+    requires { length line.now ≤ 4096 }
 {
     let mut at: usize = 0;
     let mut depth: usize = 0;

@@ -5,13 +5,10 @@ mod names;
 mod run;
 mod walk;
 
-ghost use mathlib.Core.Path.{_≡_};
-ghost use Prim.Native.Nat.{_+_, _≤_};
-ghost use lib.ListN.{length};
+ghost use Rattle.std.specs.Prelude.{◌≡◌, ◌+◌, ◌≤◌, length};
+
 use goatminute::STATE_SIZE;
-use libc::STDERR_FILENO;
-use libc::STDIN_FILENO;
-use libc::STDOUT_FILENO;
+use libc::{STDERR_FILENO, STDIN_FILENO, STDOUT_FILENO};
 
 const ROOM: usize = 16384;
 
@@ -20,7 +17,7 @@ const MOST_WAITING: usize = 32767;
 
 // Puts `!` and the number of a refusal, of one digit or two, and answers how many bytes these are.
 fn put_refusal(out: &mut [u8], at: usize, number: u8) -> usize
-    ensures { λ r. ⌜ r ≤ 3 ⌝ }
+    ensures { result ≤ 3 }
 {
     let ones = b'0' + number % 10;
     if number < 10 {
@@ -34,7 +31,7 @@ fn put_refusal(out: &mut [u8], at: usize, number: u8) -> usize
 
 // Puts the finished bytes in hex, and answers how many digits these are.
 fn put_finished(out: &mut [u8], at: usize, state: &[u8; STATE_SIZE], buf: &[u8; 16384]) -> usize
-    ensures { λ r. ⌜ r ≤ 32768 ⌝ }
+    ensures { result ≤ 32768 }
 {
     let bytes: &[u8] = buf;
     let n = words::least(goatminute::gm_finished(state, bytes), ROOM);
@@ -52,8 +49,8 @@ fn put_answer(
     bytes: &mut [u8],
     stack: &mut [u8; 4096],
 ) -> usize
-    requires { ⌜ length (now sids) ≡ 32768 ⌝ }
-    ensures { λ r. ⌜ r ≤ 32768 ⌝ }
+    requires { length sids.old ≡ 32768 }
+    ensures { result ≤ 32768 }
 {
     let mut state = [0u8; STATE_SIZE];
     let refusal = run::run(line, &mut state, buf, sids, bytes, stack);
@@ -73,8 +70,8 @@ fn answer(
     bytes: &mut [u8],
     stack: &mut [u8; 4096],
 ) -> usize
-    requires { ⌜ (used ≤ 32767) × (65536 ≤ length (now out)) × (length (now sids) ≡ 32768) ⌝ }
-    ensures { λ r. ⌜ r ≤ 65536 ⌝ }
+    requires { (used ≤ 32767) × (65536 ≤ length out.old) × (length sids.old ≡ 32768) }
+    ensures { result ≤ 65536 }
 {
     let end = used + put_answer(line, out, used, buf, sids, bytes, stack);
     out[end] = b'\n';
@@ -94,6 +91,7 @@ fn print(text: &[u8]) -> bool {
 }
 
 // Whether bytes could be printed, and how many wait now.
+#[derive(Drop)]
 struct Printed {
     all: bool,
     waiting: usize,
@@ -101,7 +99,7 @@ struct Printed {
 
 // Prints the bytes that wait, if they are too many.
 fn print_waiting(waiting: &[u8]) -> Printed
-    ensures { λ r. ⌜ r .waiting ≤ 32767 ⌝ }
+    ensures { result.waiting ≤ 32767 }
 {
     if waiting.len() <= MOST_WAITING {
         return Printed {
@@ -116,6 +114,7 @@ fn print_waiting(waiting: &[u8]) -> Printed
 }
 
 // Whether answers could be printed, and how many bytes of the text have theirs.
+#[derive(Drop)]
 struct Answered {
     all: bool,
     end: usize,
@@ -124,7 +123,7 @@ struct Answered {
 // Prints the answers to the lines that end in a text, or stops where they can't be printed. The arrays are made once, since to clear them takes longer
 // than a short line.
 fn answer_lines(text: &[u8]) -> Answered
-    ensures { λ r. ⌜ r .end ≤ length (now (text .entry)) ⌝ }
+    ensures { result.end ≤ length text.now }
 {
     let mut out = io::large_buffer();
     let mut buf = [0u8; ROOM];
@@ -162,7 +161,7 @@ fn answer_lines(text: &[u8]) -> Answered
 
 // Moves `count` bytes from `from` on to the front.
 fn keep(text: &mut [u8], from: usize, count: usize)
-    requires { ⌜ from + count ≤ length (now text) ⌝ }
+    requires { from + count ≤ length text.old }
 {
     let mut i: usize = 0;
     while i < count {
@@ -172,6 +171,7 @@ fn keep(text: &mut [u8], from: usize, count: usize)
 }
 
 // How many bytes stand at the front of a text, and whether the input is to be read on behind them.
+#[derive(Drop)]
 struct Input {
     goes_on: bool,
     end: usize,
@@ -186,8 +186,8 @@ const STOPPED: Input = Input {
 // Prints the answers to the lines that end in the first `end` bytes, and moves the rest to the front, of which one byte more than a line may have is
 // kept.
 fn take_lines(text: &mut [u8], end: usize) -> Input
-    requires { ⌜ end ≤ length (now text) ⌝ }
-    ensures { λ r. ⌜ r .end ≤ 4097 ⌝ }
+    requires { end ≤ length text.old }
+    ensures { result.end ≤ 4097 }
 {
     let answered = answer_lines(&text[0..end]);
     if !answered.all {
@@ -204,8 +204,8 @@ fn take_lines(text: &mut [u8], end: usize) -> Input
 
 // Reads on behind the first `kept` bytes, and prints the answers to the lines that end there; or says that the input can't be read.
 fn take_block(text: &mut [u8], kept: usize) -> Input
-    requires { ⌜ (kept ≤ 4097) × (4097 ≤ length (now text)) ⌝ }
-    ensures { λ r. ⌜ r .end ≤ 4097 ⌝ }
+    requires { (kept ≤ 4097) × (4097 ≤ length text.old) }
+    ensures { result.end ≤ 4097 }
 {
     let got = libc::read(STDIN_FILENO, &mut text[kept..]);
     if got < 0 {
@@ -228,8 +228,8 @@ fn take_block(text: &mut [u8], kept: usize) -> Input
 // Prints the answers to the lines that end in the input. The result is how many bytes stand behind the last line feed, up to 4,097, or 0 where the
 // input can't be read or the answers can't be printed.
 fn take_input(text: &mut [u8]) -> usize
-    requires { ⌜ 4097 ≤ length (now text) ⌝ }
-    ensures { λ r. ⌜ r ≤ 4097 ⌝ }
+    requires { 4097 ≤ length text.old }
+    ensures { result ≤ 4097 }
 {
     let mut kept: usize = 0;
     // A loop has to end, and no input takes so many turns.

@@ -1,9 +1,8 @@
 // The names and annotations of a line: sids, and quoted text.
-ghost use Prim.Native.Nat.{_+_, _*_, _≤_};
-ghost use lib.ListN.{length};
+ghost use Rattle.std.specs.Prelude.{◌+◌, ◌*◌, ◌≤◌, length};
+
 use words::find;
-use words::numbers::is_natural;
-use words::numbers::natural;
+use words::numbers::{is_natural, natural};
 
 const SPACE: u8 = b' ';
 
@@ -42,7 +41,7 @@ pub(crate) fn is_name(word: &[u8]) -> bool {
 
 // Whether each word of a text is a name. An empty text has no word.
 pub(crate) fn are_names(text: &[u8]) -> bool
-    requires { ⌜ length (now text) ≤ 4096 ⌝ }
+    requires { length text.now ≤ 4096 }
 {
     if text.len() == 0 {
         return true;
@@ -64,7 +63,7 @@ pub(crate) fn has_quoted(text: &[u8]) -> bool {
 }
 
 fn put_sid(out: &mut [u8], at: usize, sid: u64)
-    requires { ⌜ at + 8 ≤ length (now out) ⌝ }
+    requires { at + 8 ≤ length out.old }
 {
     let mut rest = sid;
     let mut i: usize = 0;
@@ -77,8 +76,8 @@ fn put_sid(out: &mut [u8], at: usize, sid: u64)
 
 // Puts the sids of a text, eight bytes each from the lowest on, and answers the number of bytes.
 pub(crate) fn put_sids(text: &[u8], out: &mut [u8]) -> usize
-    requires { ⌜ (length (now text) ≤ 4096) × (8 * length (now text) ≤ length (now out)) ⌝ }
-    ensures { λ r. ⌜ r ≤ length (now (out .exit)) ⌝ }
+    requires { (length text.now ≤ 4096) × (8 * length text.now ≤ length out.old) }
+    ensures { result ≤ length out.new }
 {
     let mut put: usize = 0;
     let mut at: usize = 0;

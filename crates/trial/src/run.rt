@@ -1,14 +1,9 @@
 // The calls of a line that has the form. Each answers 0, or the number of its refusal.
-ghost use mathlib.Core.Path.{_≡_};
-ghost use Prim.Native.Nat.{_*_, _≤_};
-ghost use lib.ListN.{length};
-use crate::form;
-use crate::names;
-use crate::walk;
+ghost use Rattle.std.specs.Prelude.{◌≡◌, ◌*◌, ◌≤◌, length};
+
+use crate::{form, names, walk};
 use goatminute::STATE_SIZE;
-use words::hex;
-use words::numbers;
-use words::word;
+use words::{hex, numbers, word};
 
 // Document 01: a text symbol, name or annotation; a line not of the form.
 const TEXT: u8 = 11;
@@ -135,7 +130,7 @@ fn call(
 
 // Puts the bytes that a part is given in hex, and answers their number.
 fn put_bytes(part: usize, text: &[u8], bytes: &mut [u8]) -> usize
-    ensures { λ r. ⌜ r ≤ length (now (bytes .exit)) ⌝ }
+    ensures { result ≤ length bytes.new }
 {
     match part {
         walk::INT | walk::DECIMAL | walk::STRING | walk::CLOB | walk::BLOB => hex::bytes(
@@ -148,8 +143,8 @@ fn put_bytes(part: usize, text: &[u8], bytes: &mut [u8]) -> usize
 
 // Puts the annotations of the value that comes next, and answers how many bytes they are.
 fn put_annotations(part: usize, text: &[u8], sids: &mut [u8]) -> usize
-    requires { ⌜ (length (now text) ≤ 4096) × (8 * length (now text) ≤ length (now sids)) ⌝ }
-    ensures { λ r. ⌜ r ≤ length (now (sids .exit)) ⌝ }
+    requires { (length text.now ≤ 4096) × (8 * length text.now ≤ length sids.old) }
+    ensures { result ≤ length sids.new }
 {
     match part {
         walk::ANNOTATIONS => names::put_sids(text, sids),
@@ -182,7 +177,7 @@ fn run_value(
     bytes: &mut [u8],
     stack: &mut [u8; 4096],
 ) -> u8
-    requires { ⌜ (length (now line) ≤ 4096) × (length (now sids) ≡ 32768) ⌝ }
+    requires { (length line.now ≤ 4096) × (length sids.old ≡ 32768) }
 {
     let mut annotated: usize = 0;
     let mut at: usize = 0;
@@ -207,14 +202,14 @@ fn run_value(
 
 // Room for an annotation of each byte of a line. The `ensures` gives the length, which lending the array as a slice needs.
 pub(crate) fn longest_sids() -> [u8; 32768]
-    ensures { λ r. ⌜ 32768 ≡ length r ⌝ }
+    ensures { 32768 ≡ length result }
 {
     [0; 8 * walk::LONGEST_LINE]
 }
 
 // Room for two hex digits of a line a byte.
 pub(crate) fn most_bytes() -> [u8; 2048]
-    ensures { λ r. ⌜ 2048 ≡ length r ⌝ }
+    ensures { 2048 ≡ length result }
 {
     [0; walk::LONGEST_LINE / 2]
 }
@@ -228,7 +223,7 @@ pub(crate) fn run(
     bytes: &mut [u8],
     stack: &mut [u8; 4096],
 ) -> u8
-    requires { ⌜ length (now sids) ≡ 32768 ⌝ }
+    requires { length sids.old ≡ 32768 }
 {
     if walk::LONGEST_LINE < line.len() {
         return NOT_OF_FORM;

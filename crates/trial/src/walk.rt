@@ -1,11 +1,9 @@
 // The walk along a line: its brackets, and the parts between them. What a bracket has to close is kept on a stack, so a line may be as deep as its
 // bytes allow.
-ghost use mathlib.Core.Path.{_≡_};
-ghost use Prim.Native.Nat.{_+_, _<_, _≤_};
-ghost use lib.ListN.{length};
-ghost use Rattle·trial·specs.specs.Steps.{Within};
-use words::byte_at;
-use words::find;
+ghost use Rattle.std.specs.Prelude.{◌≡◌, ◌+◌, ◌<◌, ◌≤◌, length};
+ghost use Rattle.trial.specs.Steps.{Within};
+
+use words::{byte_at, find};
 
 pub(crate) const LONGEST_LINE: usize = 4096;
 
@@ -74,6 +72,7 @@ pub(crate) const MARK: usize = 19;
 
 // A part, where its words stand, the place behind it and what is due there, or `NOTHING` where the stack says it. `pushed` is put on the stack, if it
 // is not `NOTHING`; `popped` counts what is taken from it.
+#[derive(Drop)]
 pub(crate) struct Step {
     pub(crate) part: usize,
     pub(crate) from: usize,
@@ -85,8 +84,8 @@ pub(crate) struct Step {
 }
 
 fn malformed(at: usize) -> Step
-    requires { ⌜ at ≤ 4096 ⌝ }
-    ensures { λ r. ⌜ Within at 0 r ⌝ }
+    requires { at ≤ 4096 }
+    ensures { Within at 0 result }
 {
     Step {
         part: MALFORMED,
@@ -101,8 +100,8 @@ fn malformed(at: usize) -> Step
 
 // A bracket that ends a list, s-expression or struct, a field or an `ann`.
 fn bracket(line: &[u8], at: usize, part: usize) -> Step
-    requires { ⌜ (at < length (now line)) × (length (now line) ≤ 4096) ⌝ }
-    ensures { λ r. ⌜ Within at (length (now (line .entry))) r ⌝ }
+    requires { (at < length line.now) × (length line.now ≤ 4096) }
+    ensures { Within at (length line.now) result }
 {
     if line[at] != b')' {
         return malformed(at);
@@ -120,8 +119,8 @@ fn bracket(line: &[u8], at: usize, part: usize) -> Step
 
 // A space before a member of a list or s-expression, or its bracket.
 fn member(line: &[u8], at: usize) -> Step
-    requires { ⌜ (at < length (now line)) × (length (now line) ≤ 4096) ⌝ }
-    ensures { λ r. ⌜ Within at (length (now (line .entry))) r ⌝ }
+    requires { (at < length line.now) × (length line.now ≤ 4096) }
+    ensures { Within at (length line.now) result }
 {
     if line[at] != b' ' {
         return bracket(line, at, CLOSE);
@@ -139,8 +138,8 @@ fn member(line: &[u8], at: usize) -> Step
 
 // A field of a struct, which is a space, a bracket, the name and a space, or the bracket of the struct.
 fn field(line: &[u8], at: usize) -> Step
-    requires { ⌜ (at < length (now line)) × (length (now line) ≤ 4096) ⌝ }
-    ensures { λ r. ⌜ Within at (length (now (line .entry))) r ⌝ }
+    requires { (at < length line.now) × (length line.now ≤ 4096) }
+    ensures { Within at (length line.now) result }
 {
     if line[at] != b' ' {
         return bracket(line, at, CLOSE);
@@ -166,8 +165,8 @@ fn field(line: &[u8], at: usize) -> Step
 
 // The annotations of an `ann`, a word that ends at `end`: a space, a bracket, the names up to `to`, the bracket and a space.
 fn annotations(line: &[u8], at: usize, end: usize, to: usize, due: u8) -> Step
-    requires { ⌜ (at < end) × (end ≤ to) × (to < length (now line)) × (length (now line) ≤ 4096) ⌝ }
-    ensures { λ r. ⌜ Within at (length (now (line .entry))) r ⌝ }
+    requires { (at < end) × (end ≤ to) × (to < length line.now) × (length line.now ≤ 4096) }
+    ensures { Within at (length line.now) result }
 {
     let from = end + 2;
     if to < from {
@@ -190,7 +189,7 @@ fn annotations(line: &[u8], at: usize, end: usize, to: usize, due: u8) -> Step
 }
 
 fn opened(part: usize, end: usize, pushed: u8) -> Step
-    ensures { λ r. ⌜ (r .from ≡ 0) × (r .to ≡ 0) × (r .at ≡ end) ⌝ }
+    ensures { (result.from ≡ 0) × (result.to ≡ 0) × (result.at ≡ end) }
 {
     Step {
         part,
@@ -205,8 +204,8 @@ fn opened(part: usize, end: usize, pushed: u8) -> Step
 
 // A value, of which a scalar ends at the next bracket that closes.
 fn value(line: &[u8], at: usize, due: u8) -> Step
-    requires { ⌜ (at < length (now line)) × (length (now line) ≤ 4096) ⌝ }
-    ensures { λ r. ⌜ Within at (length (now (line .entry))) r ⌝ }
+    requires { (at < length line.now) × (length line.now ≤ 4096) }
+    ensures { Within at (length line.now) result }
 {
     if line[at] != b'(' {
         return malformed(at);
@@ -241,8 +240,8 @@ fn value(line: &[u8], at: usize, due: u8) -> Step
 
 // The step from a place on.
 pub(crate) fn next(line: &[u8], at: usize, due: u8) -> Step
-    requires { ⌜ (at < length (now line)) × (length (now line) ≤ 4096) ⌝ }
-    ensures { λ r. ⌜ Within at (length (now (line .entry))) r ⌝ }
+    requires { (at < length line.now) × (length line.now ≤ 4096) }
+    ensures { Within at (length line.now) result }
 {
     match due {
         VALUE | BARE_VALUE => value(line, at, due),
@@ -255,8 +254,8 @@ pub(crate) fn next(line: &[u8], at: usize, due: u8) -> Step
 
 // How much of the stack is in use behind a step.
 pub(crate) fn depth_behind(stack: &mut [u8; 4096], depth: usize, step: Step) -> usize
-    requires { ⌜ depth < 4096 ⌝ }
-    ensures { λ r. ⌜ r ≤ depth + 1 ⌝ }
+    requires { depth < 4096 }
+    ensures { result ≤ depth + 1 }
 {
     let pushed = step.pushed;
     if pushed != NOTHING {
@@ -271,7 +270,7 @@ pub(crate) fn depth_behind(stack: &mut [u8; 4096], depth: usize, step: Step) -> 
 
 // What is due behind a step. Of the stack only what this line put there is read.
 pub(crate) fn due_behind(stack: &[u8; 4096], depth: usize, step: Step) -> u8
-    requires { ⌜ depth ≤ 4096 ⌝ }
+    requires { depth ≤ 4096 }
 {
     if step.due != NOTHING {
         return step.due;

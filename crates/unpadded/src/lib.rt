@@ -1,13 +1,11 @@
 // Whether bytes are one value without NOP pad and without out-of-calendar timestamp, by the items that the reader finds.
+ghost use Rattle.std.specs.Prelude.{◌≡◌, true, ℕ, ◌+◌, ◌-◌, ◌<◌, ◌≤◌, length};
+ghost use Rattle.reading.specs.Scalars.{scalar_in};
+ghost use Rattle.reading.specs.Bodies.{mark_in};
+ghost use Rattle.reading.specs.Items.{opens};
+ghost use Rattle.unpadded.specs.Rule.{content_by, is_whole, unpadded_from, is_one_value};
+
 use reading::Item;
-ghost use mathlib.Core.Path.{_≡_};
-ghost use mathlib.Core.Bool.{true};
-ghost use Prim.Native.Nat.{ℕ, _+_, _-_, _<_, _≤_};
-ghost use lib.ListN.{length};
-ghost use Rattle·reading.specs.Scalars.{scalarIn};
-ghost use Rattle·reading.specs.Bodies.{markIn};
-ghost use Rattle·reading.specs.Items.{opens};
-ghost use Rattle·unpadded·specs.specs.Rule.{contentBy, isWhole, unpaddedFrom, isOneValue};
 
 // A version marker's type byte, a timestamp's type code, and the low four bits of a null.
 const MARKER: u8 = 0xE0;
@@ -21,7 +19,7 @@ const STREAM: u8 = 0;
 
 // Only a timestamp has a mark, and a null is none.
 fn has_mark(kind: u8, body: &[u8]) -> bool
-    ensures { λ r. ⌜ r ≡ markIn (scalarIn kind (now (body .entry))) ⌝ }
+    ensures { result ≡ mark_in (scalar_in kind body.now) }
 {
     if (kind / 16 == TIMESTAMP) & (kind % 16 < NULL) {
         let shown = read_mark::timestamp(body);
@@ -31,9 +29,10 @@ fn has_mark(kind: u8, body: &[u8]) -> bool
 }
 
 // What an item holds: a container's items, or a scalar.
+#[cycle(are_unpadded_is_content)]
 fn is_content(s: &[u8], depth: u8, kind: u8, start: usize, stop: usize) -> bool
-    requires { ⌜ (start ≤ stop) × ((stop ≤ length (now s)) × (opens kind ≡ true → depth < 32)) ⌝ }
-    ensures { λ r. ⌜ ((f : ℕ) → stop - start + 1 ≤ f → r ≡ contentBy f (now (s .entry)) depth kind start stop) ⌝ }
+    requires { (start ≤ stop) × ((stop ≤ length s.now) × (opens kind ≡ true → depth < 32)) }
+    ensures { (f : ℕ) → stop - start + 1 ≤ f → result ≡ content_by f s.now depth kind start stop }
 {
     if read_items::is_container(kind) {
         return are_unpadded(&s[..stop], kind, 0, depth + 1, start);
@@ -42,9 +41,10 @@ fn is_content(s: &[u8], depth: u8, kind: u8, start: usize, stop: usize) -> bool
 }
 
 // The items from `at` to the end of the bytes. They are a loop: only containers inside containers take the stack.
+#[cycle(are_unpadded_is_content)]
 fn are_unpadded(s: &[u8], parent: u8, least: u64, depth: u8, at: usize) -> bool
-    requires { ⌜ at ≤ length (now s) ⌝ }
-    ensures { λ r. ⌜ ((f : ℕ) → length (now (s .entry)) - at + 1 ≤ f → r ≡ unpaddedFrom f (now (s .entry)) parent least depth at) ⌝ }
+    requires { at ≤ length s.now }
+    ensures { (f : ℕ) → length s.now - at + 1 ≤ f → result ≡ unpadded_from f s.now parent least depth at }
 {
     let mut i = at;
     let mut low = least;
@@ -75,7 +75,7 @@ fn are_unpadded(s: &[u8], parent: u8, least: u64, depth: u8, at: usize) -> bool
 
 // The first item is all of the bytes, and no version marker.
 fn is_whole(s: &[u8], found: Item) -> bool
-    ensures { λ r. ⌜ r ≡ isWhole (now (s .entry)) found ⌝ }
+    ensures { result ≡ is_whole s.now found }
 {
     match found {
         Item::Is {
@@ -93,7 +93,7 @@ fn is_whole(s: &[u8], found: Item) -> bool
 
 // Most strings are not one item, so that is asked first.
 pub fn is_one_value(s: &[u8]) -> bool
-    ensures { λ r. ⌜ r ≡ isOneValue (now (s .entry)) ⌝ }
+    ensures { result ≡ is_one_value s.now }
 {
     if !is_whole(s, read_items::item(s, STREAM, 0, 0, 0)) {
         return false;

@@ -1,59 +1,59 @@
 -- The rule of the crate unpadded, held to the grammar.
 -- Assumes nothing.
-use Prim.Native.Nat.{ℕ, suc, _+_, _≤_}
+use Prim.Native.Nat.{ℕ, suc, ◌+◌, ◌≤◌}
 use native.Mathlib.Omega.{arith}
-use mathlib.Core.Path.{_≡_, refl, sym, _∙_, ap, subst}
-use mathlib.Core.Bool.{Bool, true, false, not, _&&_, and-false}
-use mathlib.Core.Bool.{and-true as and-one}
+use mathlib.Core.Path.{◌≡◌, refl, sym, ◌∙◌, ap, subst}
+use mathlib.Core.Bool.{Bool, true, false, not, ◌&&◌, and-false}
+use mathlib.Core.Bool.{and-true as and_one}
 use mathlib.Core.Option.{Option}
-use mathlib.Core.List.{List, [], _∷_, _++_, append-nil}
+use mathlib.Core.List.{List, [], ◌∷◌, ◌++◌, append-nil}
 use lib.Dec.{eqb}
 use lib.ListN.{length}
 use borrow.Author.Tests.{eqb-true, eq-eqb, not-true}
-use Rattle·ion.specs.Value.{Scalar, Value, Item, value, leaves}
-use Rattle·ion.specs.Grammar.{padding, one, stream, _⟶_, Reads, stream-end, stream-pad, stream-marker, stream-next}
-use Rattle·ion.proofs.Tests.{both, and-true}
-use Rattle·mark.specs.OutOfCalendar.{noneMarked}
-use Rattle·reading.specs.declared.Item.{Item as Found}
-use Rattle·reading.specs.declared.Item.the-variants as I
-use Rattle·reading.specs.declared.Reading.the-variants as R
-use Rattle·reading.specs.Items.{isPad, isMarker, opens, raised, itemAt}
-use Rattle·reading.specs.Walk.{Event, treeDepth, streamDepth, itemWalk, stepWalk, walkFrom}
-use Rattle·unpadded.specs.Rule.{unpaddedFrom, isWhole, isOneValue}
-use Rattle·reading_grammar.proofs.Tests.{contrary}
-use Rattle·reading_grammar.proofs.Places.{Rest, rest-next}
-use Rattle·reading_grammar.proofs.One.{OneFound}
-use Rattle·reading_grammar.proofs.Steps.{item-placed, marker-item}
-use Rattle·reading_grammar.proofs.Walked.{higher-within, one-length, found}
-use Rattle·reading_grammar.proofs.Items.{item-judged}
-use Rattle·reading_grammar.proofs.Values.{then-whole, ItemRead, a-pad, a-value, a-marker, item-read}
-use Rattle·reading_grammar.proofs.Numbers.{number-injective}
-use Rattle·reading_grammar.proofs.Read.{rest-unique, nothing-left, bodies-sound}
-use Rattle·unpadded_grammar·specs.specs.Pads.{hasNoPad}
-use Rattle·unpadded_grammar·specs.specs.Exact.{FoundIsOne, OneIsFound, SamePads}
-use Rattle·unpadded_grammar·proofs.proofs.Tests.{noneBy-marked, noneBy-never}
-use Rattle·unpadded_grammar·proofs.proofs.Asked.{unpadded-steps, unpadded, padlessFrom, padless}
-use Rattle·unpadded_grammar·proofs.proofs.Pads.{one-size, ruled}
-use Rattle·unpadded_grammar·proofs.proofs.Whole.{rule-ends}
+use Rattle.ion.specs.Value.{Scalar, Value, Item, value, leaves}
+use Rattle.ion.specs.Grammar.{padding, one, stream, ◌⟶◌, Reads, stream_end, stream_pad, stream_marker, stream_next}
+use Rattle.ion.proofs.Tests.{both, and-true}
+use Rattle.mark.specs.OutOfCalendar.{none_marked}
+use Rattle.reading.specs.declared.Item.{Item as Found}
+use Rattle.reading.specs.declared.Item.TheVariants as I
+use Rattle.reading.specs.declared.Reading.TheVariants as R
+use Rattle.reading.specs.Items.{is_pad, is_marker, opens, raised, item_at}
+use Rattle.reading.specs.Walk.{Event, tree_depth, stream_depth, item_walk, step_walk, walk_from}
+use Rattle.unpadded.specs.Rule.{unpadded_from, is_whole, is_one_value}
+use Rattle.reading_grammar.proofs.Tests.{contrary}
+use Rattle.reading_grammar.proofs.Places.{Rest, rest-next}
+use Rattle.reading_grammar.proofs.One.{OneFound}
+use Rattle.reading_grammar.proofs.Steps.{item_placed, marker_item}
+use Rattle.reading_grammar.proofs.Walked.{higher_within, one_length, found}
+use Rattle.reading_grammar.proofs.Items.{item_judged}
+use Rattle.reading_grammar.proofs.Values.{then_whole, ItemRead, a_pad, a_value, a_marker, item_read}
+use Rattle.reading_grammar.proofs.Numbers.{number_injective}
+use Rattle.reading_grammar.proofs.Read.{rest_unique, nothing_left, bodies_sound}
+use Rattle.unpadded_grammar.specs.Pads.{has_no_pad}
+use Rattle.unpadded_grammar.specs.Exact.{FoundIsOne, OneIsFound, SamePads}
+use Rattle.unpadded_grammar.proofs.Tests.{none_by-marked, none_by-never}
+use Rattle.unpadded_grammar.proofs.Asked.{unpadded_steps, unpadded, padless_from, padless}
+use Rattle.unpadded_grammar.proofs.Pads.{one_size, ruled}
+use Rattle.unpadded_grammar.proofs.Whole.{rule_ends}
 
-from-first : (b : List ℕ) → Rest b 0 b
-from-first b = record { within = omega arith; is = refl }
+from_first : (b : List ℕ) → Rest b 0 b
+from_first b = record { within = omega arith; is = refl }
 
 -- Of a reading with at most 32 containers open at once the rule says whether it has no pad and no mark.
-pub rule-is : {b : List ℕ} {is : List (Item Scalar)} (d : Reads b is) → streamDepth is ≤ 32
-    → unpaddedFrom (suc (length b)) b 0 0 0 0 ≡ (hasNoPad d && noneMarked (leaves is))
+pub rule_is : {b : List ℕ} {is : List (Item Scalar)} (d : Reads b is) → stream_depth is ≤ 32
+    → unpadded_from (suc (length b)) b 0 0 0 0 ≡ (has_no_pad d && none_marked (leaves is))
 unfolding unpadded
-rule-is {b} {is} d h = rw (← noneBy-marked (leaves is)) (ruled unpadded d (suc (length b)) b 0 0 (from-first b) (omega arith) (omega arith))
+rule_is {b} {is} d h = rw (← none_by-marked (leaves is)) (ruled unpadded d (suc (length b)) b 0 0 (from_first b) (omega arith) (omega arith))
 
-padless-is : {b : List ℕ} {is : List (Item Scalar)} (d : Reads b is) → padlessFrom (suc (length b)) b 0 0 0 0 ≡ hasNoPad d
+padless_is : {b : List ℕ} {is : List (Item Scalar)} (d : Reads b is) → padless_from (suc (length b)) b 0 0 0 0 ≡ has_no_pad d
 unfolding padless
-padless-is {b} {is} d =
-    ruled padless d (suc (length b)) b 0 0 (from-first b) (omega arith) refl
-    ∙ ap (λ (u : Bool). hasNoPad d && u) (noneBy-never (leaves is)) ∙ and-one (hasNoPad d)
+padless_is {b} {is} d =
+    ruled padless d (suc (length b)) b 0 0 (from_first b) (omega arith) refl
+    ∙ ap (λ (u : Bool). has_no_pad d && u) (none_by-never (leaves is)) ∙ and_one (has_no_pad d)
 
 -- Whether a reading has a pad does not depend on the derivation.
-pub same-pads : SamePads
-same-pads b is js p q = sym (padless-is p) ∙ padless-is q
+pub same_pads : SamePads
+same_pads b is js p q = sym (padless_is p) ∙ padless_is q
 
 -- ---- what the rule finds
 
@@ -61,110 +61,110 @@ same-pads b is js p q = sym (padless-is p) ∙ padless-is q
 record Valued (b : List ℕ) : Type 0 where
   v : Value
   reading : Reads b (value v ∷ [])
-  low : streamDepth (value v ∷ []) ≤ 32
+  low : stream_depth (value v ∷ []) ≤ 32
 
-kind-same : {a c d e g h a′ c′ d′ e′ g′ h′ : ℕ} → I.Is a c d e g h ≡ I.Is a′ c′ d′ e′ g′ h′ → e ≡ e′
-kind-same q = cc
+kind_same : {a c d e g h a' c' d' e' g' h' : ℕ} → I.Is a c d e g h ≡ I.Is a' c' d' e' g' h' → e ≡ e'
+kind_same q = cc
 
-module _ (b : List ℕ) (name from to k start stop : ℕ) (q : itemAt b 0 0 0 0 ≡ I.Is name from to k start stop)
-    (end : stop ≡ length b) (content : isPad k ≡ false) (plain : isMarker k ≡ false) where
-  item-valued : {n : Option ℕ} {es : List Event} → ItemRead b 0 0 0 stop k n es → Valued b
-  unfolding streamDepth
-  item-valued (a-pad p r y e pos rd pd z) = contrary content pd
-  item-valued (a-value p r v y e pos rd pd sh z) =
-      let rest : r ≡ [] = nothing-left r (rest-next p r stop e y) end in
-      let tail : r ⟶ stream [] = rw rest stream-end in
+module _ (b : List ℕ) (name from to k start stop : ℕ) (q : item_at b 0 0 0 0 ≡ I.Is name from to k start stop)
+    (end : stop ≡ length b) (content : is_pad k ≡ false) (plain : is_marker k ≡ false) where
+  item_valued : {n : Option ℕ} {es : List Event} → ItemRead b 0 0 0 stop k n es → Valued b
+  unfolding stream_depth
+  item_valued (a_pad p r y e pos rd pd z) = contrary content pd
+  item_valued (a_value p r v y e pos rd pd sh z) =
+      let rest : r ≡ [] = nothing_left r (rest-next p r stop e y) end in
+      let tail : r ⟶ stream [] = rw rest stream_end in
       record {
         v = v;
-        reading = subst (λ (u : List ℕ). u ⟶ stream (value v ∷ [])) (sym (rest-unique (from-first b) y)) (stream-next rd tail);
-        low = higher-within (treeDepth v) 0 32 (omega arith) (omega arith);
+        reading = subst (λ (u : List ℕ). u ⟶ stream (value v ∷ [])) (sym (rest_unique (from_first b) y)) (stream_next rd tail);
+        low = higher_within (tree_depth v) 0 32 (omega arith) (omega arith);
       }
-  item-valued (a-marker r y e st pd z) = contrary plain (eq-eqb k 0xE0 (sym (kind-same (sym (marker-item 0 0 r y) ∙ q))))
+  item_valued (a_marker r y e st pd z) = contrary plain (eq-eqb k 0xE0 (sym (kind_same (sym (marker_item 0 0 r y) ∙ q))))
 
-  walked-valued : walkFrom (suc (length b)) b 0 0 0 0 .1 ≡ R.Whole → Valued b
-  unfolding walkFrom
-  walked-valued e =
+  walked_valued : (walk_from (suc (length b)) b 0 0 0 0).1 ≡ R.Whole → Valued b
+  unfolding walk_from
+  walked_valued e =
       let f : ℕ = length b in
-      let j = item-judged b 0 0 0 0 name from to k start stop q in
-      let w : stepWalk (λ t p l d m. walkFrom f t p l d m) b 0 0 0 0 (I.Is name from to k start stop) .1 ≡ R.Whole = rw q at e in
-      let t = then-whole (itemWalk (λ t p l d m. walkFrom f t p l d m) b 0 0 name from to k start stop) (walkFrom f b 0 (raised 0 k name) 0 stop) w in
-      let here : 0 ≡ j .next = number-injective (j .named) .1 in
-      let ih = bodies-sound f in
+      let j = item_judged b 0 0 0 0 name from to k start stop q in
+      let w : (step_walk (λ t p l d m. walk_from f t p l d m) b 0 0 0 0 (I.Is name from to k start stop)).1 ≡ R.Whole = rw q at e in
+      let t = then_whole (item_walk (λ t p l d m. walk_from f t p l d m) b 0 0 name from to k start stop) (walk_from f b 0 (raised 0 k name) 0 stop) w in
+      let here : 0 ≡ j.next = (number_injective j.named).1 in
+      let ih = bodies_sound f in
       let i =
-      item-read f (ih .0) (ih .1) b 0 0 0 0 name from to k start stop j (omega arith) (omega arith) (omega arith) (omega (arith, here)) (t .0) in
-      item-valued (rw (← here) at i)
+      item_read f ih.0 ih.1 b 0 0 0 0 name from to k start stop j (omega arith) (omega arith) (omega arith) (omega (arith, here)) t.0 in
+      item_valued (rw (← here) at i)
 
 -- an item that the rule passes is no pad
-rule-content : (b : List ℕ) (name from to k start stop : ℕ) → itemAt b 0 0 0 0 ≡ I.Is name from to k start stop
-    → unpaddedFrom (suc (length b)) b 0 0 0 0 ≡ true → isPad k ≡ false
-rule-content b name from to k start stop q e =
-    let j = item-judged b 0 0 0 0 name from to k start stop q in
-    not-true (isPad k) (both {a = not (isPad k)} (sym (unpadded-steps (length b) b 0 0 0 0 name from to k start stop (j .inside) q) ∙ e) .0)
+rule_content : (b : List ℕ) (name from to k start stop : ℕ) → item_at b 0 0 0 0 ≡ I.Is name from to k start stop
+    → unpadded_from (suc (length b)) b 0 0 0 0 ≡ true → is_pad k ≡ false
+rule_content b name from to k start stop q e =
+    let j = item_judged b 0 0 0 0 name from to k start stop q in
+    not-true (is_pad k) (both {a = not (is_pad k)} (sym (unpadded_steps (length b) b 0 0 0 0 name from to k start stop j.inside q) ∙ e)).0
 
-rule-valued : (b : List ℕ) (i : Found) → itemAt b 0 0 0 0 ≡ i → isWhole b i ≡ true → unpaddedFrom (suc (length b)) b 0 0 0 0 ≡ true → Valued b
-rule-valued b I.End q e r = contrary refl e
-rule-valued b (I.No x) q e r = contrary refl e
-rule-valued b (I.Is name from to k start stop) q e r =
+rule_valued : (b : List ℕ) (i : Found) → item_at b 0 0 0 0 ≡ i → is_whole b i ≡ true → unpadded_from (suc (length b)) b 0 0 0 0 ≡ true → Valued b
+rule_valued b I.End q e r = contrary refl e
+rule_valued b (I.No x) q e r = contrary refl e
+rule_valued b (I.Is name from to k start stop) q e r =
     let z = both {a = eqb stop (length b)} e in
-    walked-valued b name from to k start stop q (eqb-true stop (length b) (z .0)) (rule-content b name from to k start stop q r) (not-true (isMarker k) (z .1))
-    (rule-ends (suc (length b)) b 0 0 0 0 r)
+    walked_valued b name from to k start stop q (eqb-true stop (length b) z.0) (rule_content b name from to k start stop q r) (not-true (is_marker k) z.1)
+    (rule_ends (suc (length b)) b 0 0 0 0 r)
 
 -- The rule finds values without pad and mark.
-pub found-is-one : FoundIsOne
-unfolding isOneValue
-found-is-one b e =
-    let z = both {a = isWhole b (itemAt b 0 0 0 0)} e in
-    let w = rule-valued b (itemAt b 0 0 0 0) refl (z .0) (z .1) in
-    let p = both {a = hasNoPad (w .reading)} (sym (rule-is (w .reading) (w .low)) ∙ z .1) in
-    record { one = w .v; reading = w .reading; no-pad = p .0; no-mark = p .1 }
+pub found_is_one : FoundIsOne
+unfolding is_one_value
+found_is_one b e =
+    let z = both {a = is_whole b (item_at b 0 0 0 0)} e in
+    let w = rule_valued b (item_at b 0 0 0 0) refl z.0 z.1 in
+    let p = both {a = has_no_pad w.reading} (sym (rule_is w.reading w.low) ∙ z.1) in
+    record { one = w.v; reading = w.reading; no_pad = p.0; no_mark = p.1 }
 
 -- ---- what is found
 
-no-padding : {b : List ℕ} (d : b ⟶ padding) → hasNoPad d ≡ false
-no-padding d = ruled padless d .1
+no_padding : {b : List ℕ} (d : b ⟶ padding) → has_no_pad d ≡ false
+no_padding d = (ruled padless d).1
 
 -- without pads, nothing but no bytes is a stream of no items
-no-bytes : {b : List ℕ} {is : List (Item Scalar)} (d : b ⟶ stream is) → hasNoPad d ≡ true → is ≡ [] → b ≡ []
-unfolding hasNoPad
-no-bytes stream-end h e = refl
-no-bytes (stream-pad pd r) h e = contrary (no-padding pd) (both {a = hasNoPad pd} h .0)
-no-bytes (stream-marker r) h e = absurd (let z : _≡_ {A = ℕ} 0 1 = cc in omega arith)
-no-bytes (stream-next x r) h e = absurd (let z : _≡_ {A = ℕ} 0 1 = cc in omega arith)
+no_bytes : {b : List ℕ} {is : List (Item Scalar)} (d : b ⟶ stream is) → has_no_pad d ≡ true → is ≡ [] → b ≡ []
+unfolding has_no_pad
+no_bytes stream_end h e = refl
+no_bytes (stream_pad pd r) h e = contrary (no_padding pd) (both {a = has_no_pad pd} h).0
+no_bytes (stream_marker r) h e = absurd (let z : ◌≡◌ {A = ℕ} 0 1 = cc in omega arith)
+no_bytes (stream_next x r) h e = absurd (let z : ◌≡◌ {A = ℕ} 0 1 = cc in omega arith)
 
-item-same : {v w : Value} {is : List (Item Scalar)} → value w ∷ is ≡ value v ∷ [] → (w ≡ v) × (is ≡ [])
-item-same e = (cc, cc)
+item_same : {v w : Value} {is : List (Item Scalar)} → value w ∷ is ≡ value v ∷ [] → (w ≡ v) × (is ≡ [])
+item_same e = (cc, cc)
 
 -- without pads, a stream of one value is that value
-only-value : {b : List ℕ} {is : List (Item Scalar)} (d : b ⟶ stream is) → hasNoPad d ≡ true → (v : Value) → is ≡ value v ∷ [] → b ⟶ one v
-unfolding hasNoPad
-only-value stream-end h v e = absurd (let z : _≡_ {A = ℕ} 0 1 = cc in omega arith)
-only-value (stream-pad pd r) h v e = contrary (no-padding pd) (both {a = hasNoPad pd} h .0)
-only-value (stream-marker r) h v e = absurd (let z : _≡_ {A = ℕ} 0 1 = cc in omega arith)
-only-value (stream-next {p} {b} {v = w} {is} x r) h v e =
-    let q = item-same e in
-    let y : p ⟶ one v = subst (λ (u : Value). p ⟶ one u) (q .0) x in
-    let none : b ≡ [] = no-bytes r (both {a = hasNoPad x} {b = hasNoPad r} h .1) (q .1) in
+only_value : {b : List ℕ} {is : List (Item Scalar)} (d : b ⟶ stream is) → has_no_pad d ≡ true → (v : Value) → is ≡ value v ∷ [] → b ⟶ one v
+unfolding has_no_pad
+only_value stream_end h v e = absurd (let z : ◌≡◌ {A = ℕ} 0 1 = cc in omega arith)
+only_value (stream_pad pd r) h v e = contrary (no_padding pd) (both {a = has_no_pad pd} h).0
+only_value (stream_marker r) h v e = absurd (let z : ◌≡◌ {A = ℕ} 0 1 = cc in omega arith)
+only_value (stream_next {p} {b} {v = w} {is} x r) h v e =
+    let q = item_same e in
+    let y : p ⟶ one v = subst (λ (u : Value). p ⟶ one u) q.0 x in
+    let none : b ≡ [] = no_bytes r (both {a = has_no_pad x} {b = has_no_pad r} h).1 q.1 in
     subst (λ (u : List ℕ). u ⟶ one v) (sym (append-nil p) ∙ ap (λ (u : List ℕ). p ++ u) (sym none)) y
 
 -- the first item is all of a value
-value-whole : (b : List ℕ) (v : Value) → b ⟶ one v → isWhole b (itemAt b 0 0 0 0) ≡ true
-value-whole b v d =
+value_whole : (b : List ℕ) (v : Value) → b ⟶ one v → is_whole b (item_at b 0 0 0 0) ≡ true
+value_whole b v d =
     let o : OneFound b v = found d in
-    let from : ℕ = 0 + length (o .x) in
-    let to : ℕ = from + length (o .names) in
-    let start : ℕ = to + length (o .y) in
-    let x : Rest b 0 (b ++ []) = rw (append-nil b) (from-first b) in
+    let from : ℕ = 0 + length o.x in
+    let to : ℕ = from + length o.names in
+    let start : ℕ = to + length o.y in
+    let x : Rest b 0 (b ++ []) = rw (append-nil b) (from_first b) in
     rw (
-      item-placed b 0 0 0 0 0 0 b v [] o (one-length o) refl x refl from to start (length b) refl refl refl (omega (arith, one-size o))
-          (and-false (opens (o .kind))),
+      item_placed b 0 0 0 0 0 0 b v [] o (one_length o) refl x refl from to start (length b) refl refl refl (omega (arith, one_size o))
+          (and-false (opens o.kind)),
       eq-eqb (length b) (length b) refl,
-      o .marker,
+      o.marker,
     )
 
 -- It finds all with at most 32 containers open at once.
-pub one-is-found : OneIsFound
-unfolding isOneValue streamDepth
-one-is-found b w le =
-    let d = only-value (w .reading) (w .no-pad) (w .one) refl in
-    and-true (value-whole b (w .one) d)
-    (rule-is (w .reading) (higher-within (treeDepth (w .one)) 0 32 le (omega arith)) ∙ and-true (w .no-pad) (w .no-mark))
+pub one_is_found : OneIsFound
+unfolding is_one_value stream_depth
+one_is_found b w le =
+    let d = only_value w.reading w.no_pad w.one refl in
+    and-true (value_whole b w.one d)
+    (rule_is w.reading (higher_within (tree_depth w.one) 0 32 le (omega arith)) ∙ and-true w.no_pad w.no_mark)

@@ -2,34 +2,34 @@
 -- Assumes nothing.
 use Prim.Native.Nat.{ℕ}
 use native.Mathlib.Omega.{arith}
-use mathlib.Core.Path.{_≡_, refl, _∙_}
+use mathlib.Core.Path.{◌≡◌, refl, ◌∙◌}
 use mathlib.Core.Bool.{Bool, true, false}
 use mathlib.Core.Option.{Option}
-use mathlib.Core.List.{List, [], _∷_, map}
-use Rattle·ion.specs.Value.{ionNull, nullCode, list, Scalar, null, scalar, sequence, noMembers, member, Item, value}
-use Rattle·ion.specs.Fields.{bigEndian, groups, varUInt, varUInts, varInt}
-use Rattle·ion.specs.Text.{begun, utf8From, utf8}
-use Rattle·ion.specs.Scalars.{decimalOf, areFields, fractionAt, timestampOf, scalarOf}
-use Rattle·ion.specs.Grammar.{short, Reads, pad, is-null, is-sequence, is-bare, members-end, members-pad, members-next, stream-end, stream-next}
-use Rattle·mark.specs.OutOfCalendar.{outOfCalendar}
-use Rattle·reading.specs.Headers.{varUIntFrom, varUIntAt, headerAt, marked, markerAt, topHeaderAt}
-use Rattle·reading.specs.Scalars.{codeFrom, bodyOf, scalarIn, sidsOf}
-use Rattle·reading.specs.Items.{wrappedAt, itemAt}
-use Rattle·unpadded.specs.Rule.{unpaddedFrom, isOneValue}
-use Rattle·reading_grammar.proofs.Tests.{contrary}
-use Rattle·unpadded_grammar·specs.specs.Pads.{hasNoPad}
-use Rattle·unpadded_grammar·specs.specs.Exact.{OneValue}
-use Rattle·unpadded_grammar·proofs.proofs.Depth.{shallow}
-use Rattle·unpadded_grammar·proofs.proofs.Exact.{found-is-one, one-is-found, same-pads}
+use mathlib.Core.List.{List, [], ◌∷◌, map}
+use Rattle.ion.specs.Value.{ion_null, null_code, list, Scalar, null, scalar, sequence, no_members, member, Item, value}
+use Rattle.ion.specs.Fields.{big_endian, groups, var_uint, var_uints, var_int}
+use Rattle.ion.specs.Text.{begun, utf8_from, utf8}
+use Rattle.ion.specs.Scalars.{decimal_of, are_fields, fraction_at, timestamp_of, scalar_of}
+use Rattle.ion.specs.Grammar.{short, Reads, pad, is-null, is-sequence, is_bare, members_end, members_pad, members-next, stream_end, stream_next}
+use Rattle.mark.specs.OutOfCalendar.{out_of_calendar}
+use Rattle.reading.specs.Headers.{var_uint_from, var_uint_at, header_at, marked, marker_at, top_header_at}
+use Rattle.reading.specs.Scalars.{code_from, body_of, scalar_in, sids_of}
+use Rattle.reading.specs.Items.{wrapped_at, item_at}
+use Rattle.unpadded.specs.Rule.{unpadded_from, is_one_value}
+use Rattle.reading_grammar.proofs.Tests.{contrary}
+use Rattle.unpadded_grammar.specs.Pads.{has_no_pad}
+use Rattle.unpadded_grammar.specs.Exact.{OneValue}
+use Rattle.unpadded_grammar.proofs.Depth.{shallow}
+use Rattle.unpadded_grammar.proofs.Exact.{found_is_one, one_is_found, same_pads}
 
 -- the whole of the definition, to be unfolded by two names
-unfoldable pub scalarWhole : ℕ → List ℕ → Option Scalar
-unfolding scalarIn bodyOf codeFrom scalarOf bigEndian decimalOf timestampOf areFields fractionAt varInt varUInts varUInt groups utf8 utf8From begun
-scalarWhole k b = scalarIn k b
+unfoldable pub scalar_whole : ℕ → List ℕ → Option Scalar
+unfolding scalar_in body_of code_from scalar_of big_endian decimal_of timestamp_of are_fields fraction_at var_int var_uints var_uint groups utf8 utf8_from begun
+scalar_whole k b = scalar_in k b
 
-unfoldable pub ruleWhole : List ℕ → Bool
-unfolding isOneValue unpaddedFrom itemAt wrappedAt sidsOf headerAt topHeaderAt markerAt marked varUIntAt varUIntFrom outOfCalendar
-ruleWhole s = isOneValue s
+unfoldable pub rule_whole : List ℕ → Bool
+unfolding is_one_value unpadded_from item_at wrapped_at sids_of header_at top_header_at marker_at marked var_uint_at var_uint_from out_of_calendar
+rule_whole s = is_one_value s
 
 abbrev ones : List (List ℕ)
 ones =
@@ -76,53 +76,53 @@ others =
     ∷ (0xB2 ∷ 0x0F ∷ [])
     ∷ []
 
-ones-found : map (λ (b : List ℕ). isOneValue b) ones ≡ map (λ (b : List ℕ). true) ones
-unfolding ruleWhole scalarWhole
+ones-found : map (λ (b : List ℕ). is_one_value b) ones ≡ map (λ (b : List ℕ). true) ones
+unfolding rule_whole scalar_whole
 ones-found = refl
 
-others-refused : map (λ (b : List ℕ). isOneValue b) others ≡ map (λ (b : List ℕ). false) others
-unfolding ruleWhole scalarWhole
-others-refused = refl
+others_refused : map (λ (b : List ℕ). is_one_value b) others ≡ map (λ (b : List ℕ). false) others
+unfolding rule_whole scalar_whole
+others_refused = refl
 
 -- ---- a list of a null, and a list of a pad
 
-abbrev nullList : List ℕ
-nullList = 0xB1 ∷ 0x0F ∷ []
+abbrev null_list : List ℕ
+null_list = 0xB1 ∷ 0x0F ∷ []
 
-abbrev padList : List ℕ
-padList = 0xB1 ∷ 0x00 ∷ []
+abbrev pad_list : List ℕ
+pad_list = 0xB1 ∷ 0x00 ∷ []
 
-null-list-reads : Reads nullList (value (sequence [] list (member (scalar [] (null ionNull)) noMembers)) ∷ [])
-null-list-reads =
-    stream-next {p = nullList} {b = []}
-    (is-bare (is-sequence list {h = 0xB1 ∷ []} {body = 0x0F ∷ []} (short (omega arith))
-    (members-next {p = 0x0F ∷ []} {b = []} (is-bare (is-null nullCode refl)) members-end)))
-    stream-end
+null_list_reads : Reads null_list (value (sequence [] list (member (scalar [] (null ion_null)) no_members)) ∷ [])
+null_list_reads =
+    stream_next {p = null_list} {b = []}
+    (is_bare (is-sequence list {h = 0xB1 ∷ []} {body = 0x0F ∷ []} (short (omega arith))
+    (members-next {p = 0x0F ∷ []} {b = []} (is_bare (is-null null_code refl)) members_end)))
+    stream_end
 
-pad-list-reads : Reads padList (value (sequence [] list noMembers) ∷ [])
-pad-list-reads =
-    stream-next {p = padList} {b = []}
-    (is-bare (is-sequence list {h = 0xB1 ∷ []} {body = 0x00 ∷ []} (short (omega arith))
-    (members-pad {p = 0x00 ∷ []} {b = []} (pad {h = 0x00 ∷ []} [] (short (omega arith))) members-end)))
-    stream-end
+pad_list_reads : Reads pad_list (value (sequence [] list no_members) ∷ [])
+pad_list_reads =
+    stream_next {p = pad_list} {b = []}
+    (is_bare (is-sequence list {h = 0xB1 ∷ []} {body = 0x00 ∷ []} (short (omega arith))
+    (members_pad {p = 0x00 ∷ []} {b = []} (pad {h = 0x00 ∷ []} [] (short (omega arith))) members_end)))
+    stream_end
 
-null-list-no-pad : hasNoPad null-list-reads ≡ true
-unfolding hasNoPad null-list-reads
-null-list-no-pad = refl
+null_list_no_pad : has_no_pad null_list_reads ≡ true
+unfolding has_no_pad null_list_reads
+null_list_no_pad = refl
 
-pad-list-pad : hasNoPad pad-list-reads ≡ false
-unfolding hasNoPad pad-list-reads
-pad-list-pad = refl
+pad_list_pad : has_no_pad pad_list_reads ≡ false
+unfolding has_no_pad pad_list_reads
+pad_list_pad = refl
 
 -- any reading of the list of a pad has it
-pad-list-always : (is : List (Item Scalar)) (q : Reads padList is) → hasNoPad q ≡ false
-pad-list-always is q = same-pads padList is (value (sequence [] list noMembers) ∷ []) q pad-list-reads ∙ pad-list-pad
+pad_list_always : (is : List (Item Scalar)) (q : Reads pad_list is) → has_no_pad q ≡ false
+pad_list_always is q = same_pads pad_list is (value (sequence [] list no_members) ∷ []) q pad_list_reads ∙ pad_list_pad
 
 -- the first is one value, the other is none
-null-list-one : OneValue nullList
-unfolding ruleWhole scalarWhole
-null-list-one = found-is-one nullList refl
+null_list_one : OneValue null_list
+unfolding rule_whole scalar_whole
+null_list_one = found_is_one null_list refl
 
-pad-list-none : OneValue padList → ⊥
-unfolding ruleWhole scalarWhole
-pad-list-none w = contrary refl (one-is-found padList w (omega (arith, shallow padList w)))
+pad_list_none : OneValue pad_list → ⊥
+unfolding rule_whole scalar_whole
+pad_list_none w = contrary refl (one_is_found pad_list w (omega (arith, shallow pad_list w)))

@@ -1,26 +1,24 @@
 // The calls that write a scalar: document 01's module value_writer, over a state by value and a lent buffer.
 // Each call checks its place, hands the work on numbers to a leaf, and answers with the next state.
-ghost use mathlib.Core.Path.{_≡_};
-ghost use lib.Ieee.{binary32, binary64, toBits};
-ghost use Rattle·encoding.specs.Argument.{writeNull, writeBool, writeI64, writeInt, writeF32, writeF64, writeDecimal};
-ghost use Rattle·encoding.specs.Argument.{writeSymbol, writeString, writeClob, writeBlob};
-ghost use Rattle·machine.specs.Machine.{config, run};
-ghost use Rattle·machine.specs.Numbers.{outcomeOf};
-ghost use Rattle·machine.specs.Call.{write};
-ghost use Rattle·annotations.specs.Sids.{sidsOf};
-ghost use Rattle·scalars.specs.Types.{typeOf, scalarArgument};
-ghost use Rattle·timestamp.specs.Arguments.{argumentOf};
-use machine::Answer;
-use machine::Refusal;
-use machine::State;
-use machine::Written;
-use scalars::IonType;
-use scalars::Scalar;
+ghost use Rattle.std.specs.Prelude.{◌≡◌};
+ghost use Rattle.std.specs.Float.{binary32, binary64};
+ghost use Rattle.std.specs.Float.Ieee.{to_bits};
+ghost use Rattle.encoding.specs.Argument.{write_null, write_bool, write_i64, write_int, write_f32, write_f64, write_decimal};
+ghost use Rattle.encoding.specs.Argument.{write_symbol, write_string, write_clob, write_blob};
+ghost use Rattle.machine.specs.Machine.{config, run};
+ghost use Rattle.machine.specs.Numbers.{outcome_of};
+ghost use Rattle.machine.specs.Call.{write};
+ghost use Rattle.annotations.specs.Sids.{sids_of};
+ghost use Rattle.scalars.specs.Types.{type_of, scalar_argument};
+ghost use Rattle.timestamp.specs.Arguments.{argument_of};
+
+use machine::{Answer, Refusal, State, Written};
+use scalars::{IonType, Scalar};
 use timestamp::Timestamp;
 
 // A scalar that no check of its own refuses.
 fn write_scalar(s: State, buf: &mut [u8], annotations: &[u8], value: Scalar) -> Written
-    ensures { λ r. ⌜ outcomeOf r (now (buf .exit)) ≡ run (write (sidsOf (now (annotations .entry))) (scalarArgument value)) (config s (now (buf .entry))) ⌝ }
+    ensures { outcome_of result buf.new ≡ run (write (sids_of annotations.now) (scalar_argument value)) (config s buf.old) }
 {
     let place = place::value_place(s, buf.len());
     let Answer::Accepted = place else {
@@ -35,21 +33,21 @@ fn write_scalar(s: State, buf: &mut [u8], annotations: &[u8], value: Scalar) -> 
 
 // A null of each type.
 pub fn write_null(s: State, buf: &mut [u8], annotations: &[u8], t: IonType) -> Written
-    ensures { λ r. ⌜ outcomeOf r (now (buf .exit)) ≡ run (write (sidsOf (now (annotations .entry))) (writeNull (typeOf t))) (config s (now (buf .entry))) ⌝ }
+    ensures { outcome_of result buf.new ≡ run (write (sids_of annotations.now) (write_null (type_of t))) (config s buf.old) }
 {
     write_scalar(s, buf, annotations, Scalar::Null(t))
 }
 
 // 10 or 11.
 pub fn write_bool(s: State, buf: &mut [u8], annotations: &[u8], value: bool) -> Written
-    ensures { λ r. ⌜ outcomeOf r (now (buf .exit)) ≡ run (write (sidsOf (now (annotations .entry))) (writeBool value)) (config s (now (buf .entry))) ⌝ }
+    ensures { outcome_of result buf.new ≡ run (write (sids_of annotations.now) (write_bool value)) (config s buf.old) }
 {
     write_scalar(s, buf, annotations, Scalar::Bool(value))
 }
 
 // An int of 64 bits with its sign.
 pub fn write_i64(s: State, buf: &mut [u8], annotations: &[u8], value: i64) -> Written
-    ensures { λ r. ⌜ outcomeOf r (now (buf .exit)) ≡ run (write (sidsOf (now (annotations .entry))) (writeI64 value)) (config s (now (buf .entry))) ⌝ }
+    ensures { outcome_of result buf.new ≡ run (write (sids_of annotations.now) (write_i64 value)) (config s buf.old) }
 {
     write_scalar(s, buf, annotations, Scalar::I64(value))
 }
@@ -62,8 +60,8 @@ pub fn write_int(
     negative: bool,
     magnitude: &[u8],
 ) -> Written
-    ensures { λ r. ⌜ outcomeOf r (now (buf .exit))
-        ≡ run (write (sidsOf (now (annotations .entry))) (writeInt negative (now (magnitude .entry)))) (config s (now (buf .entry))) ⌝ }
+    ensures { outcome_of result buf.new
+        ≡ run (write (sids_of annotations.now) (write_int negative magnitude.now)) (config s buf.old) }
 {
     let place = place::value_place(s, buf.len());
     let Answer::Accepted = place else {
@@ -84,30 +82,30 @@ pub fn write_int(
 
 // A float by the bits of binary32; a NaN keeps its own.
 pub fn write_f32_bits(s: State, buf: &mut [u8], annotations: &[u8], bits: u32) -> Written
-    ensures { λ r. ⌜ outcomeOf r (now (buf .exit)) ≡ run (write (sidsOf (now (annotations .entry))) (writeF32 bits)) (config s (now (buf .entry))) ⌝ }
+    ensures { outcome_of result buf.new ≡ run (write (sids_of annotations.now) (write_f32 bits)) (config s buf.old) }
 {
     write_scalar(s, buf, annotations, Scalar::F32Bits(bits))
 }
 
 // A float by the bits of binary64, in four bytes where binary32 holds it; a NaN keeps its own.
 pub fn write_f64_bits(s: State, buf: &mut [u8], annotations: &[u8], bits: u64) -> Written
-    ensures { λ r. ⌜ outcomeOf r (now (buf .exit)) ≡ run (write (sidsOf (now (annotations .entry))) (writeF64 bits)) (config s (now (buf .entry))) ⌝ }
+    ensures { outcome_of result buf.new ≡ run (write (sids_of annotations.now) (write_f64 bits)) (config s buf.old) }
 {
     write_scalar(s, buf, annotations, Scalar::F64Bits(bits))
 }
 
 // A float by its value; a NaN has the bits 7FC00000.
 pub fn write_f32(s: State, buf: &mut [u8], annotations: &[u8], value: f32) -> Written
-    ensures { λ r. ⌜ outcomeOf r (now (buf .exit))
-        ≡ run (write (sidsOf (now (annotations .entry))) (writeF32 (toBits binary32 value))) (config s (now (buf .entry))) ⌝ }
+    ensures { outcome_of result buf.new
+        ≡ run (write (sids_of annotations.now) (write_f32 (to_bits binary32 value))) (config s buf.old) }
 {
     write_scalar(s, buf, annotations, Scalar::F32(value))
 }
 
 // A float by its value; a NaN has the bits 7FF8000000000000.
 pub fn write_f64(s: State, buf: &mut [u8], annotations: &[u8], value: f64) -> Written
-    ensures { λ r. ⌜ outcomeOf r (now (buf .exit))
-        ≡ run (write (sidsOf (now (annotations .entry))) (writeF64 (toBits binary64 value))) (config s (now (buf .entry))) ⌝ }
+    ensures { outcome_of result buf.new
+        ≡ run (write (sids_of annotations.now) (write_f64 (to_bits binary64 value))) (config s buf.old) }
 {
     write_scalar(s, buf, annotations, Scalar::F64(value))
 }
@@ -121,8 +119,8 @@ pub fn write_decimal(
     coefficient: &[u8],
     exponent: i64,
 ) -> Written
-    ensures { λ r. ⌜ outcomeOf r (now (buf .exit))
-        ≡ run (write (sidsOf (now (annotations .entry))) (writeDecimal negative (now (coefficient .entry)) exponent)) (config s (now (buf .entry))) ⌝ }
+    ensures { outcome_of result buf.new
+        ≡ run (write (sids_of annotations.now) (write_decimal negative coefficient.now exponent)) (config s buf.old) }
 {
     let place = place::value_place(s, buf.len());
     let Answer::Accepted = place else {
@@ -143,7 +141,7 @@ pub fn write_decimal(
 
 // A timestamp by its local fields and its offset.
 pub fn write_timestamp(s: State, buf: &mut [u8], annotations: &[u8], value: Timestamp) -> Written
-    ensures { λ r. ⌜ outcomeOf r (now (buf .exit)) ≡ run (write (sidsOf (now (annotations .entry))) (argumentOf value)) (config s (now (buf .entry))) ⌝ }
+    ensures { outcome_of result buf.new ≡ run (write (sids_of annotations.now) (argument_of value)) (config s buf.old) }
 {
     let place = place::value_place(s, buf.len());
     let Answer::Accepted = place else {
@@ -164,15 +162,15 @@ pub fn write_timestamp(s: State, buf: &mut [u8], annotations: &[u8], value: Time
 
 // A symbol by its sid.
 pub fn write_symbol(s: State, buf: &mut [u8], annotations: &[u8], sid: u64) -> Written
-    ensures { λ r. ⌜ outcomeOf r (now (buf .exit)) ≡ run (write (sidsOf (now (annotations .entry))) (writeSymbol sid)) (config s (now (buf .entry))) ⌝ }
+    ensures { outcome_of result buf.new ≡ run (write (sids_of annotations.now) (write_symbol sid)) (config s buf.old) }
 {
     write_scalar(s, buf, annotations, Scalar::Symbol(sid))
 }
 
 // A string, in UTF-8.
 pub fn write_string(s: State, buf: &mut [u8], annotations: &[u8], bytes: &[u8]) -> Written
-    ensures { λ r. ⌜ outcomeOf r (now (buf .exit))
-        ≡ run (write (sidsOf (now (annotations .entry))) (writeString (now (bytes .entry)))) (config s (now (buf .entry))) ⌝ }
+    ensures { outcome_of result buf.new
+        ≡ run (write (sids_of annotations.now) (write_string bytes.now)) (config s buf.old) }
 {
     let place = place::value_place(s, buf.len());
     let Answer::Accepted = place else {
@@ -193,8 +191,8 @@ pub fn write_string(s: State, buf: &mut [u8], annotations: &[u8], bytes: &[u8]) 
 
 // A clob.
 pub fn write_clob(s: State, buf: &mut [u8], annotations: &[u8], bytes: &[u8]) -> Written
-    ensures { λ r. ⌜ outcomeOf r (now (buf .exit))
-        ≡ run (write (sidsOf (now (annotations .entry))) (writeClob (now (bytes .entry)))) (config s (now (buf .entry))) ⌝ }
+    ensures { outcome_of result buf.new
+        ≡ run (write (sids_of annotations.now) (write_clob bytes.now)) (config s buf.old) }
 {
     let place = place::value_place(s, buf.len());
     let Answer::Accepted = place else {
@@ -209,8 +207,8 @@ pub fn write_clob(s: State, buf: &mut [u8], annotations: &[u8], bytes: &[u8]) ->
 
 // A blob.
 pub fn write_blob(s: State, buf: &mut [u8], annotations: &[u8], bytes: &[u8]) -> Written
-    ensures { λ r. ⌜ outcomeOf r (now (buf .exit))
-        ≡ run (write (sidsOf (now (annotations .entry))) (writeBlob (now (bytes .entry)))) (config s (now (buf .entry))) ⌝ }
+    ensures { outcome_of result buf.new
+        ≡ run (write (sids_of annotations.now) (write_blob bytes.now)) (config s buf.old) }
 {
     let place = place::value_place(s, buf.len());
     let Answer::Accepted = place else {

@@ -1,36 +1,36 @@
 -- An annotated scalar by its checks: its bytes, and that it is its checked bytes where there are no annotations.
 -- By the test of the checks. Assumes nothing.
-use mathlib.Core.Path.{_≡_, refl, sym, _∙_, ap}
+use mathlib.Core.Path.{◌≡◌, refl, sym, ◌∙◌, ap}
 use mathlib.Core.List.{List, []}
 use mathlib.Core.Bool.{true, false}
 use Prim.Native.Nat.{ℕ}
 use lib.ListN.{length}
-use Rattle·encoding.specs.Headers.{annotatedBytes}
-use Rattle·encoding.specs.Argument.{Argument, argumentBytes, argumentChecks, anyHolds, checkedBytes}
-use Rattle·buffer.specs.Laid.{placed}
-use Rattle·annotations.specs.Sids.{sidsOf}
-use Rattle·annotations.proofs.Sids.{sids-none}
-use Rattle·values·specs.specs.Values.{annotatedChecked}
+use Rattle.encoding.specs.Headers.{annotated_bytes}
+use Rattle.encoding.specs.Argument.{Argument, argument_bytes, argument_checks, any_holds, checked_bytes}
+use Rattle.buffer.specs.Laid.{placed}
+use Rattle.annotations.specs.Sids.{sids_of}
+use Rattle.annotations.proofs.Sids.{sids_none}
+use Rattle.values.specs.Values.{annotated_checked}
 
 module _ (an : List ℕ) (a : Argument) where
-  pub annotated-refused : anyHolds (argumentChecks a) ≡ true → annotatedChecked an a ≡ []
-  unfolding annotatedChecked
-  annotated-refused e = rw (e, annotatedChecked)
+  pub annotated_refused : any_holds (argument_checks a) ≡ true → annotated_checked an a ≡ []
+  unfolding annotated_checked
+  annotated_refused e = rw (e, annotated_checked)
 
-  pub annotated-accepted : anyHolds (argumentChecks a) ≡ false → annotatedChecked an a ≡ annotatedBytes an (argumentBytes a)
-  unfolding annotatedChecked
-  annotated-accepted e = rw (e, annotatedChecked)
+  pub annotated_accepted : any_holds (argument_checks a) ≡ false → annotated_checked an a ≡ annotated_bytes an (argument_bytes a)
+  unfolding annotated_checked
+  annotated_accepted e = rw (e, annotated_checked)
 
-pub annotated-plain : (a : Argument) → annotatedChecked [] a ≡ checkedBytes a
-unfolding annotatedChecked checkedBytes annotatedBytes
+pub annotated-plain : (a : Argument) → annotated_checked [] a ≡ checked_bytes a
+unfolding annotated_checked checked_bytes annotated_bytes
 annotated-plain a = refl
 
 -- no annotations
-pub annotatedBytes-none : (an v : List ℕ) → an ≡ [] → annotatedBytes an v ≡ v
-unfolding annotatedBytes
-annotatedBytes-none an v e = rw e refl
+pub annotated_bytes-none : (an v : List ℕ) → an ≡ [] → annotated_bytes an v ≡ v
+unfolding annotated_bytes
+annotated_bytes-none an v e = rw e refl
 
 -- what a call without annotations left, as every call states it
 pub unannotated : (b : List ℕ) (at : ℕ) (notes : List ℕ) (a : Argument) → length notes ≡ 0 → (n : ℕ) (l : List ℕ)
-    → _≡_ {A = ℕ × List ℕ} (n, l) (placed b at (checkedBytes a)) → _≡_ {A = ℕ × List ℕ} (n, l) (placed b at (annotatedChecked (sidsOf notes) a))
-unannotated b at notes a z n l e = e ∙ ap (placed b at) (sym (annotated-plain a) ∙ ap (λ (an : List ℕ). annotatedChecked an a) (sym (sids-none notes z)))
+    → ◌≡◌ {A = ℕ × List ℕ} (n, l) (placed b at (checked_bytes a)) → ◌≡◌ {A = ℕ × List ℕ} (n, l) (placed b at (annotated_checked (sids_of notes) a))
+unannotated b at notes a z n l e = e ∙ ap (placed b at) (sym (annotated-plain a) ∙ ap (λ (an : List ℕ). annotated_checked an a) (sym (sids_none notes z)))

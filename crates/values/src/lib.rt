@@ -1,22 +1,19 @@
 // The scalars of document 01's value_writer with their annotations, put into a lent buffer.
 // Annotations are lent as bytes, eight a sid; no bytes are no annotations, and then the value goes out by itself.
 // A function answers how many bytes it put. It puts all or none, and none where one of the value's own checks refuses it.
-ghost use mathlib.Core.Path.{_≡_};
-ghost use mathlib.Core.List.{List};
-ghost use Prim.Native.Nat.{ℕ, _*_, _/_, _<_};
-ghost use lib.ListN.{length};
-ghost use Rattle·encoding.specs.Headers.{framedBytes, annotatedBytes};
-ghost use Rattle·encoding.specs.Argument.{checkedBytes, writeNull, writeBool, writeI64, writeInt, writeF32, writeF64, writeDecimal};
-ghost use Rattle·encoding.specs.Argument.{writeSymbol, writeString, writeClob, writeBlob};
-ghost use Rattle·buffer.specs.Laid.{placed};
-ghost use Rattle·annotations.specs.Sids.{sidsOf};
-ghost use Rattle·annotations.specs.Prefix.{placedBefore};
-ghost use Rattle·timestamp.specs.Arguments.{argumentOf};
-ghost use Rattle·scalars.specs.Types.{typeOf, scalarArgument};
-ghost use Rattle·values·specs.specs.Values.{annotatedChecked, prefixFor, placedWrapper};
-pub use scalars::IonType;
+ghost use Rattle.std.specs.Prelude.{◌≡◌, List, ℕ, ◌*◌, ◌/◌, ◌<◌, length};
+ghost use Rattle.encoding.specs.Headers.{framed_bytes, annotated_bytes};
+ghost use Rattle.encoding.specs.Argument.{checked_bytes, write_null, write_bool, write_i64, write_int, write_f32, write_f64, write_decimal};
+ghost use Rattle.encoding.specs.Argument.{write_symbol, write_string, write_clob, write_blob};
+ghost use Rattle.buffer.specs.Laid.{placed};
+ghost use Rattle.annotations.specs.Sids.{sids_of};
+ghost use Rattle.annotations.specs.Prefix.{placed_before};
+ghost use Rattle.timestamp.specs.Arguments.{argument_of};
+ghost use Rattle.scalars.specs.Types.{type_of, scalar_argument};
+ghost use Rattle.values.specs.Values.{annotated_checked, prefix_for, placed_wrapper};
+
 use scalars::Scalar;
-pub use scalars::is_negative_zero;
+pub use scalars::{IonType, is_negative_zero};
 use timestamp::Timestamp;
 
 const STRING: u8 = 0x80;
@@ -27,8 +24,8 @@ const BLOB: u8 = 0xA0;
 
 // What stands before an annotated value of `size` bytes, where the value fits behind it. A size of 0 is that of no value.
 fn write_wrapper(buf: &mut [u8], at: usize, annotations: &[u8], size: usize) -> usize
-    ensures { λ r. ⌜ _≡_ {A = ℕ × List ℕ} (r, now (buf .exit))
-        (placedBefore (now (buf .entry)) at (prefixFor (sidsOf (now (annotations .entry))) size) size) ⌝ }
+    ensures { ◌≡◌ {A = ℕ × List ℕ} (result, buf.new)
+        (placed_before buf.old at (prefix_for (sids_of annotations.now) size) size) }
 {
     if size == 0 {
         return 0;
@@ -38,9 +35,9 @@ fn write_wrapper(buf: &mut [u8], at: usize, annotations: &[u8], size: usize) -> 
 
 // The scalars that no check refuses, with annotations.
 fn annotated(buf: &mut [u8], at: usize, annotations: &[u8], value: Scalar) -> usize
-    requires { ⌜ 0 < length (now annotations) ⌝ }
-    ensures { λ r. ⌜ _≡_ {A = ℕ × List ℕ} (r, now (buf .exit))
-        (placed (now (buf .entry)) at (annotatedChecked (sidsOf (now (annotations .entry))) (scalarArgument value))) ⌝ }
+    requires { 0 < length annotations.now }
+    ensures { ◌≡◌ {A = ℕ × List ℕ} (result, buf.new)
+        (placed buf.old at (annotated_checked (sids_of annotations.now) (scalar_argument value))) }
 {
     let wrapper = write_wrapper(buf, at, annotations, scalars::size(value));
     if wrapper == 0 {
@@ -51,8 +48,8 @@ fn annotated(buf: &mut [u8], at: usize, annotations: &[u8], value: Scalar) -> us
 
 // A scalar that no check refuses, by its case.
 pub fn write_scalar(buf: &mut [u8], at: usize, annotations: &[u8], value: Scalar) -> usize
-    ensures { λ r. ⌜ _≡_ {A = ℕ × List ℕ} (r, now (buf .exit))
-        (placed (now (buf .entry)) at (annotatedChecked (sidsOf (now (annotations .entry))) (scalarArgument value))) ⌝ }
+    ensures { ◌≡◌ {A = ℕ × List ℕ} (result, buf.new)
+        (placed buf.old at (annotated_checked (sids_of annotations.now) (scalar_argument value))) }
 {
     if annotations.len() == 0 {
         return scalars::write(buf, at, value);
@@ -62,8 +59,8 @@ pub fn write_scalar(buf: &mut [u8], at: usize, annotations: &[u8], value: Scalar
 
 // Strings, clobs and blobs; the low four bits of `code` do not count.
 fn write_bytes(buf: &mut [u8], at: usize, annotations: &[u8], code: u8, bytes: &[u8]) -> usize
-    ensures { λ r. ⌜ _≡_ {A = ℕ × List ℕ} (r, now (buf .exit))
-        (placed (now (buf .entry)) at (annotatedBytes (sidsOf (now (annotations .entry))) (framedBytes (code / 16 * 16) (now (bytes .entry))))) ⌝ }
+    ensures { ◌≡◌ {A = ℕ × List ℕ} (result, buf.new)
+        (placed buf.old at (annotated_bytes (sids_of annotations.now) (framed_bytes (code / 16 * 16) bytes.now))) }
 {
     if annotations.len() == 0 {
         return scalars::write_bytes(buf, at, code, bytes);
@@ -76,8 +73,8 @@ fn write_bytes(buf: &mut [u8], at: usize, annotations: &[u8], code: u8, bytes: &
 }
 
 pub fn write_null(buf: &mut [u8], at: usize, annotations: &[u8], t: IonType) -> usize
-    ensures { λ r. ⌜ _≡_ {A = ℕ × List ℕ} (r, now (buf .exit))
-        (placed (now (buf .entry)) at (annotatedChecked (sidsOf (now (annotations .entry))) (writeNull (typeOf t)))) ⌝ }
+    ensures { ◌≡◌ {A = ℕ × List ℕ} (result, buf.new)
+        (placed buf.old at (annotated_checked (sids_of annotations.now) (write_null (type_of t)))) }
 {
     if annotations.len() == 0 {
         return scalars::write_null(buf, at, t);
@@ -86,8 +83,8 @@ pub fn write_null(buf: &mut [u8], at: usize, annotations: &[u8], t: IonType) -> 
 }
 
 pub fn write_bool(buf: &mut [u8], at: usize, annotations: &[u8], value: bool) -> usize
-    ensures { λ r. ⌜ _≡_ {A = ℕ × List ℕ} (r, now (buf .exit))
-        (placed (now (buf .entry)) at (annotatedChecked (sidsOf (now (annotations .entry))) (writeBool value))) ⌝ }
+    ensures { ◌≡◌ {A = ℕ × List ℕ} (result, buf.new)
+        (placed buf.old at (annotated_checked (sids_of annotations.now) (write_bool value))) }
 {
     if annotations.len() == 0 {
         return scalars::write_bool(buf, at, value);
@@ -96,8 +93,8 @@ pub fn write_bool(buf: &mut [u8], at: usize, annotations: &[u8], value: bool) ->
 }
 
 pub fn write_i64(buf: &mut [u8], at: usize, annotations: &[u8], value: i64) -> usize
-    ensures { λ r. ⌜ _≡_ {A = ℕ × List ℕ} (r, now (buf .exit))
-        (placed (now (buf .entry)) at (annotatedChecked (sidsOf (now (annotations .entry))) (writeI64 value))) ⌝ }
+    ensures { ◌≡◌ {A = ℕ × List ℕ} (result, buf.new)
+        (placed buf.old at (annotated_checked (sids_of annotations.now) (write_i64 value))) }
 {
     if annotations.len() == 0 {
         return scalars::write_i64(buf, at, value);
@@ -113,8 +110,8 @@ pub fn write_int(
     negative: bool,
     magnitude: &[u8],
 ) -> usize
-    ensures { λ r. ⌜ _≡_ {A = ℕ × List ℕ} (r, now (buf .exit))
-        (placed (now (buf .entry)) at (annotatedChecked (sidsOf (now (annotations .entry))) (writeInt negative (now (magnitude .entry))))) ⌝ }
+    ensures { ◌≡◌ {A = ℕ × List ℕ} (result, buf.new)
+        (placed buf.old at (annotated_checked (sids_of annotations.now) (write_int negative magnitude.now))) }
 {
     if annotations.len() == 0 {
         return scalars::write_int(buf, at, negative, magnitude);
@@ -128,8 +125,8 @@ pub fn write_int(
 
 // An f32 by its bits.
 pub fn write_f32(buf: &mut [u8], at: usize, annotations: &[u8], bits: u32) -> usize
-    ensures { λ r. ⌜ _≡_ {A = ℕ × List ℕ} (r, now (buf .exit))
-        (placed (now (buf .entry)) at (annotatedChecked (sidsOf (now (annotations .entry))) (writeF32 bits))) ⌝ }
+    ensures { ◌≡◌ {A = ℕ × List ℕ} (result, buf.new)
+        (placed buf.old at (annotated_checked (sids_of annotations.now) (write_f32 bits))) }
 {
     if annotations.len() == 0 {
         return floats::write_f32_bits(buf, at, bits);
@@ -139,8 +136,8 @@ pub fn write_f32(buf: &mut [u8], at: usize, annotations: &[u8], bits: u32) -> us
 
 // An f64 by its bits.
 pub fn write_f64(buf: &mut [u8], at: usize, annotations: &[u8], bits: u64) -> usize
-    ensures { λ r. ⌜ _≡_ {A = ℕ × List ℕ} (r, now (buf .exit))
-        (placed (now (buf .entry)) at (annotatedChecked (sidsOf (now (annotations .entry))) (writeF64 bits))) ⌝ }
+    ensures { ◌≡◌ {A = ℕ × List ℕ} (result, buf.new)
+        (placed buf.old at (annotated_checked (sids_of annotations.now) (write_f64 bits))) }
 {
     if annotations.len() == 0 {
         return floats::write_f64_bits(buf, at, bits);
@@ -157,8 +154,8 @@ pub fn write_decimal(
     coefficient: &[u8],
     exponent: i64,
 ) -> usize
-    ensures { λ r. ⌜ _≡_ {A = ℕ × List ℕ} (r, now (buf .exit))
-        (placed (now (buf .entry)) at (annotatedChecked (sidsOf (now (annotations .entry))) (writeDecimal negative (now (coefficient .entry)) exponent))) ⌝ }
+    ensures { ◌≡◌ {A = ℕ × List ℕ} (result, buf.new)
+        (placed buf.old at (annotated_checked (sids_of annotations.now) (write_decimal negative coefficient.now exponent))) }
 {
     if annotations.len() == 0 {
         return decimal::write(buf, at, negative, coefficient, exponent);
@@ -177,8 +174,8 @@ pub fn write_decimal(
 
 // What stands before a timestamp: nothing without annotations, where the value does not fit behind them, or where check 7 refuses it.
 fn timestamp_wrapper(buf: &mut [u8], at: usize, annotations: &[u8], value: Timestamp) -> usize
-    ensures { λ r. ⌜ _≡_ {A = ℕ × List ℕ} (r, now (buf .exit))
-        (placedWrapper (now (buf .entry)) at (sidsOf (now (annotations .entry))) (length (checkedBytes (argumentOf value)))) ⌝ }
+    ensures { ◌≡◌ {A = ℕ × List ℕ} (result, buf.new)
+        (placed_wrapper buf.old at (sids_of annotations.now) (length (checked_bytes (argument_of value)))) }
 {
     if annotations.len() == 0 {
         return 0;
@@ -188,8 +185,8 @@ fn timestamp_wrapper(buf: &mut [u8], at: usize, annotations: &[u8], value: Times
 
 // Local fields. One that breaks the rules of check 7 is refused.
 pub fn write_timestamp(buf: &mut [u8], at: usize, annotations: &[u8], value: Timestamp) -> usize
-    ensures { λ r. ⌜ _≡_ {A = ℕ × List ℕ} (r, now (buf .exit))
-        (placed (now (buf .entry)) at (annotatedChecked (sidsOf (now (annotations .entry))) (argumentOf value))) ⌝ }
+    ensures { ◌≡◌ {A = ℕ × List ℕ} (result, buf.new)
+        (placed buf.old at (annotated_checked (sids_of annotations.now) (argument_of value))) }
 {
     let wrapper = timestamp_wrapper(buf, at, annotations, value);
     if (wrapper == 0) & (annotations.len() != 0) {
@@ -199,8 +196,8 @@ pub fn write_timestamp(buf: &mut [u8], at: usize, annotations: &[u8], value: Tim
 }
 
 pub fn write_symbol(buf: &mut [u8], at: usize, annotations: &[u8], sid: u64) -> usize
-    ensures { λ r. ⌜ _≡_ {A = ℕ × List ℕ} (r, now (buf .exit))
-        (placed (now (buf .entry)) at (annotatedChecked (sidsOf (now (annotations .entry))) (writeSymbol sid))) ⌝ }
+    ensures { ◌≡◌ {A = ℕ × List ℕ} (result, buf.new)
+        (placed buf.old at (annotated_checked (sids_of annotations.now) (write_symbol sid))) }
 {
     if annotations.len() == 0 {
         return scalars::write_symbol(buf, at, sid);
@@ -210,8 +207,8 @@ pub fn write_symbol(buf: &mut [u8], at: usize, annotations: &[u8], sid: u64) -> 
 
 // Bytes that are not UTF-8 are refused.
 pub fn write_string(buf: &mut [u8], at: usize, annotations: &[u8], bytes: &[u8]) -> usize
-    ensures { λ r. ⌜ _≡_ {A = ℕ × List ℕ} (r, now (buf .exit))
-        (placed (now (buf .entry)) at (annotatedChecked (sidsOf (now (annotations .entry))) (writeString (now (bytes .entry))))) ⌝ }
+    ensures { ◌≡◌ {A = ℕ × List ℕ} (result, buf.new)
+        (placed buf.old at (annotated_checked (sids_of annotations.now) (write_string bytes.now))) }
 {
     if !text::is_utf8(bytes) {
         return 0;
@@ -220,15 +217,15 @@ pub fn write_string(buf: &mut [u8], at: usize, annotations: &[u8], bytes: &[u8])
 }
 
 pub fn write_clob(buf: &mut [u8], at: usize, annotations: &[u8], bytes: &[u8]) -> usize
-    ensures { λ r. ⌜ _≡_ {A = ℕ × List ℕ} (r, now (buf .exit))
-        (placed (now (buf .entry)) at (annotatedChecked (sidsOf (now (annotations .entry))) (writeClob (now (bytes .entry))))) ⌝ }
+    ensures { ◌≡◌ {A = ℕ × List ℕ} (result, buf.new)
+        (placed buf.old at (annotated_checked (sids_of annotations.now) (write_clob bytes.now))) }
 {
     write_bytes(buf, at, annotations, CLOB, bytes)
 }
 
 pub fn write_blob(buf: &mut [u8], at: usize, annotations: &[u8], bytes: &[u8]) -> usize
-    ensures { λ r. ⌜ _≡_ {A = ℕ × List ℕ} (r, now (buf .exit))
-        (placed (now (buf .entry)) at (annotatedChecked (sidsOf (now (annotations .entry))) (writeBlob (now (bytes .entry))))) ⌝ }
+    ensures { ◌≡◌ {A = ℕ × List ℕ} (result, buf.new)
+        (placed buf.old at (annotated_checked (sids_of annotations.now) (write_blob bytes.now))) }
 {
     write_bytes(buf, at, annotations, BLOB, bytes)
 }

@@ -1,12 +1,8 @@
 // VarInt: a VarUInt whose first byte holds six bits of the magnitude below the sign.
-ghost use mathlib.Core.Path.{_≡_};
-ghost use mathlib.Core.Bool.{false};
-ghost use mathlib.Core.List.{List};
-ghost use Prim.Native.Nat.{ℕ};
-ghost use lib.ListN.{length};
-ghost use Rattle·ion.specs.Value.{signed};
-ghost use Rattle·encoding.specs.Fields.{varIntBytes};
-ghost use Rattle·buffer.specs.Laid.{placed};
+ghost use Rattle.std.specs.Prelude.{◌≡◌, false, List, ℕ, length};
+ghost use Rattle.ion.specs.Value.{signed};
+ghost use Rattle.encoding.specs.Fields.{var_int_bytes};
+ghost use Rattle.buffer.specs.Laid.{placed};
 
 const END_FLAG: u8 = 0x80;
 
@@ -19,7 +15,7 @@ const TWO_BYTES: u64 = 64;
 
 // The bytes that a VarInt of this magnitude takes, of either sign: n of them hold 6 + 7 (n - 1) bits.
 pub fn encoded_size_of(magnitude: u64) -> usize
-    ensures { λ r. ⌜ r ≡ length (varIntBytes (signed false magnitude)) ⌝ }
+    ensures { result ≡ length (var_int_bytes (signed false magnitude)) }
 {
     if magnitude < TWO_BYTES {
         return 1;
@@ -29,7 +25,7 @@ pub fn encoded_size_of(magnitude: u64) -> usize
 
 // The sign and the magnitude as a VarInt: the digits of base 128, then the last again, with the end flag, and the first, with the sign. Zero keeps its sign.
 pub fn write(buf: &mut [u8], at: usize, negative: bool, magnitude: u64) -> usize
-    ensures { λ r. ⌜ _≡_ {A = ℕ × List ℕ} (r, now (buf .exit)) (placed (now (buf .entry)) at (varIntBytes (signed negative magnitude))) ⌝ }
+    ensures { ◌≡◌ {A = ℕ × List ℕ} (result, buf.new) (placed buf.old at (var_int_bytes (signed negative magnitude))) }
 {
     let sign = SIGN * (negative as u8);
     if magnitude < TWO_BYTES {

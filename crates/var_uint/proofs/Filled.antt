@@ -1,15 +1,15 @@
 -- The laws of a fill: none, one store more, the whole field, no room.
 -- By the laws of placed bytes. Assumes nothing.
-use mathlib.Core.Path.{_≡_, refl, _∙_, ap}
+use mathlib.Core.Path.{◌≡◌, refl, ◌∙◌, ap}
 use mathlib.Core.List.{List}
-use Prim.Native.Nat.{ℕ, suc, _+_, _-_, _≤_, _<_}
+use Prim.Native.Nat.{ℕ, suc, ◌+◌, ◌-◌, ◌≤◌, ◌<◌}
 use native.Mathlib.Omega.{arith}
 use native.Mathlib.Nat.{add-zero}
-use lib.ListN.{length, drop, set, getD, length-drop}
+use lib.ListN.{length, drop, set, get_or, length-drop}
 use lib.Seq.{drop-cons, drop-length}
-use Rattle·buffer.specs.Laid.{laid, placed}
-use Rattle·buffer.proofs.Laid.{laid-cons, placed-fits, placed-full, placed-nil}
-use Rattle·var_uint·specs.specs.Filled.{filled}
+use Rattle.buffer.specs.Laid.{laid, placed}
+use Rattle.buffer.proofs.Laid.{laid_cons, placed-fits, placed_full, placed_nil}
+use Rattle.var_uint.specs.Filled.{filled}
 
 module _ (b : List ℕ) (at : ℕ) (out : List ℕ) where
   -- limits that leave out as many bytes
@@ -18,11 +18,11 @@ module _ (b : List ℕ) (at : ℕ) (out : List ℕ) where
   filled-same m n e = ap (λ (k : ℕ). placed b (at + k) (drop k out)) e
 
   -- a limit of 0 stores nothing
-  pub filled-none : filled 0 b at out ≡ (0, b)
+  pub filled_none : filled 0 b at out ≡ (0, b)
   unfolding filled
-  filled-none =
+  filled_none =
       let e : length out - 0 ≡ length out = omega arith in
-      ap (λ (k : ℕ). placed b (at + k) (drop k out)) e ∙ (ap (placed b (at + length out)) (drop-length out) ∙ placed-nil b (at + length out))
+      ap (λ (k : ℕ). placed b (at + k) (drop k out)) e ∙ (ap (placed b (at + length out)) (drop-length out) ∙ placed_nil b (at + length out))
 
   -- a field that has no more bytes than that is whole
   pub filled-whole : (limit : ℕ) → length out ≤ limit → filled limit b at out ≡ placed b at out
@@ -32,11 +32,11 @@ module _ (b : List ℕ) (at : ℕ) (out : List ℕ) where
       ap (λ (k : ℕ). placed b (at + k) (drop k out)) e ∙ ap (λ (k : ℕ). placed b k out) (add-zero at)
 
   -- with no room for the whole field nothing is stored, whatever the limit
-  pub filled-full : (limit : ℕ) → length b < at + length out → filled limit b at out ≡ (0, b)
+  pub filled_full : (limit : ℕ) → length b < at + length out → filled limit b at out ≡ (0, b)
   unfolding filled
-  filled-full limit h =
+  filled_full limit h =
       let k = length out - limit in
-      placed-full b (at + k) (drop k out) (omega (arith, length-drop k out))
+      placed_full b (at + k) (drop k out) (omega (arith, length-drop k out))
 
   module _ (room : at + length out ≤ length b) where
     filled-fits : (k limit : ℕ) → length out - limit ≡ k → filled limit b at out ≡ (length out - k, laid b (at + k) (drop k out))
@@ -46,15 +46,15 @@ module _ (b : List ℕ) (at : ℕ) (out : List ℕ) where
         rw (filled, e, placed-fits b (at + k) (drop k out) (omega arith), l) refl
 
     -- one store more: the byte before
-    pub filled-next : (made : ℕ) (l : List ℕ) (place byte : ℕ) → _≡_ {A = ℕ × List ℕ} (made, l) (filled made b at out) → made < length out →
-        let p = length out - (made + 1) in place ≡ at + p → byte ≡ getD out p 0 →
-        _≡_ {A = ℕ × List ℕ} (made + 1, set l place byte) (filled (made + 1) b at out)
-    filled-next made l place byte e h q v =
+    pub filled_next : (made : ℕ) (l : List ℕ) (place byte : ℕ) → ◌≡◌ {A = ℕ × List ℕ} (made, l) (filled made b at out) → made < length out →
+        let p = length out - (made + 1) in place ≡ at + p → byte ≡ get_or out p 0 →
+        ◌≡◌ {A = ℕ × List ℕ} (made + 1, set l place byte) (filled (made + 1) b at out)
+    filled_next made l place byte e h q v =
         let p = length out - (made + 1) in
         let one : length out - made ≡ suc p = omega arith in
         let behind : at + suc p ≡ at + p + 1 = omega arith in
         let count : length out - p ≡ made + 1 = omega arith in
         let n = length-drop (suc p) out in
-        let before : l ≡ laid b (at + suc p) (drop (suc p) out) = ap (λ (x : ℕ × List ℕ). x .1) (e ∙ filled-fits (suc p) made one) in
+        let before : l ≡ laid b (at + suc p) (drop (suc p) out) = ap (λ (x : ℕ × List ℕ). x.1) (e ∙ filled-fits (suc p) made one) in
         rw (filled-fits p (made + 1) refl, count, drop-cons out p 0 (omega arith), before, behind, q, v)
-        (ap (λ (x : List ℕ). (made + 1, x)) (laid-cons b (at + p) (drop (suc p) out) (getD out p 0) (omega arith)))
+        (ap (λ (x : List ℕ). (made + 1, x)) (laid_cons b (at + p) (drop (suc p) out) (get_or out p 0) (omega arith)))

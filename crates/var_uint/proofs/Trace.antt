@@ -1,18 +1,18 @@
 -- A fill as a trace: for each limit it leaves what so many of the field's stores leave, the last byte's first; and of a VarUInt's stores the first has the
 -- end flag, no other. By one store more, and by the digits in base 128. Assumes nothing.
-use mathlib.Core.Path.{_≡_, refl, sym, _∙_, ap}
-use mathlib.Core.Logic.{⊎-elim}
-use mathlib.Core.List.{List, [], _∷_, _++_}
-use Prim.Native.Nat.{ℕ, zero, suc, _+_, _-_, _/_, _%_, _≤_, _<_}
+use mathlib.Core.Path.{◌≡◌, refl, sym, ◌∙◌, ap}
+use mathlib.Core.Logic.{⊎_elim}
+use mathlib.Core.List.{List, [], ◌∷◌, ◌++◌}
+use Prim.Native.Nat.{ℕ, zero, suc, ◌+◌, ◌-◌, ◌/◌, ◌%◌, ◌≤◌, ◌<◌}
 use native.Mathlib.Omega.{arith}
 use native.Mathlib.Numerals.{add-one}
 use native.Mathlib.Nat.{add-zero, eq-zero-or-pos, mod-lt}
-use lib.ListN.{length, take, set, getD, length-append, List·getD-append}
-use lib.Seq.{take-suc, take-all, length-take-le, getD-at}
-use Rattle·encoding.specs.Digits.{lowDigits, digits, digitCount}
-use Rattle·encoding.specs.Fields.{varUIntBytes}
-use Rattle·var_uint·specs.specs.Filled.{filled, Store, stores, stored, NoEndFlag, EndFlagFirst}
-use Rattle·var_uint·proofs.proofs.Filled.{filled-same, filled-none, filled-next}
+use lib.ListN.{length, take, set, get_or, length-append, get_or-append}
+use lib.Seq.{take-suc, take_all, length-take-le, get_or_at}
+use Rattle.encoding.specs.Digits.{low_digits, digits, digit_count}
+use Rattle.encoding.specs.Fields.{var_uint_bytes}
+use Rattle.var_uint.specs.Filled.{filled, Store, stores, stored, NoEndFlag, EndFlagFirst}
+use Rattle.var_uint.proofs.Filled.{filled-same, filled_none, filled_next}
 
 length-stores : (at : ℕ) (out : List ℕ) → length (stores at out) ≡ length out
 unfolding stores
@@ -20,63 +20,63 @@ length-stores at [] = refl
 length-stores at (x ∷ xs) = simp (length-append, length-stores (at + 1) xs) (omega arith)
 
 -- the store that is made behind k others
-store-behind : (at : ℕ) (out : List ℕ) (k : ℕ) → k < length out → let p = length out - (k + 1) in getD (stores at out) k (0, 0) ≡ (at + p, getD out p 0)
+store_behind : (at : ℕ) (out : List ℕ) (k : ℕ) → k < length out → let p = length out - (k + 1) in get_or (stores at out) k (0, 0) ≡ (at + p, get_or out p 0)
 unfolding stores
-store-behind at [] k h = absurd (omega arith)
-store-behind at (x ∷ xs) k h = ⊎-elim
+store_behind at [] k h = absurd (omega arith)
+store_behind at (x ∷ xs) k h = ⊎_elim
     (λ z.
     let e : k ≡ length xs = omega arith in
     let p : suc (length xs) - (k + 1) ≡ 0 = omega arith in
-    getD-at (stores (at + 1) xs) (at, x) [] (0, 0) k (length-stores (at + 1) xs ∙ sym e) ∙ rw (p, add-zero at) refl)
+    get_or_at (stores (at + 1) xs) (at, x) [] (0, 0) k (length-stores (at + 1) xs ∙ sym e) ∙ rw (p, add-zero at) refl)
     (λ w.
     let l : k < length xs = omega arith in
     let p : suc (length xs) - (k + 1) ≡ suc (length xs - (k + 1)) = omega arith in
     let q : at + suc (length xs - (k + 1)) ≡ at + 1 + (length xs - (k + 1)) = omega arith in
-    List·getD-append (stores (at + 1) xs) ((at, x) ∷ []) (0, 0) k (rw (length-stores (at + 1) xs) l) ∙ rw (p, q) (store-behind (at + 1) xs k l))
+    get_or-append (stores (at + 1) xs) ((at, x) ∷ []) (0, 0) k (rw (length-stores (at + 1) xs) l) ∙ rw (p, q) (store_behind (at + 1) xs k l))
     (eq-zero-or-pos (length xs - k))
 
-stored-snoc : (b : List ℕ) (ss : List Store) (s : Store) → stored b (ss ++ (s ∷ [])) ≡ set (stored b ss) (s .0) (s .1)
+stored_snoc : (b : List ℕ) (ss : List Store) (s : Store) → stored b (ss ++ (s ∷ [])) ≡ set (stored b ss) s.0 s.1
 unfolding stored
-stored-snoc b [] s = refl
-stored-snoc b (t ∷ ss) s = stored-snoc (set b (t .0) (t .1)) ss s
+stored_snoc b [] s = refl
+stored_snoc b (t ∷ ss) s = stored_snoc (set b t.0 t.1) ss s
 
 module _ (b : List ℕ) (at : ℕ) (out : List ℕ) (room : at + length out ≤ length b) where
-  pub filled-is-trace : (limit : ℕ) → filled limit b at out ≡ (length (take limit (stores at out)), stored b (take limit (stores at out)))
+  pub filled_is_trace : (limit : ℕ) → filled limit b at out ≡ (length (take limit (stores at out)), stored b (take limit (stores at out)))
   unfolding stored
-  filled-is-trace zero = filled-none b at out
-  filled-is-trace (suc k) =
-      let n = length-stores at out in ⊎-elim
+  filled_is_trace zero = filled_none b at out
+  filled_is_trace (suc k) =
+      let n = length-stores at out in ⊎_elim
       (λ z.
-      let t = take-all (suc k) (stores at out) (omega arith) ∙ sym (take-all k (stores at out) (omega arith)) in
-      rw t (filled-same b at out (suc k) k (omega arith) ∙ filled-is-trace k))
+      let t = take_all (suc k) (stores at out) (omega arith) ∙ sym (take_all k (stores at out) (omega arith)) in
+      rw t (filled-same b at out (suc k) k (omega arith) ∙ filled_is_trace k))
       (λ w.
       let l : k < length out = omega arith in
       let p = length out - (k + 1) in
-      let t = take-suc (stores at out) k (0, 0) (omega arith) ∙ ap (λ (s : Store). take k (stores at out) ++ (s ∷ [])) (store-behind at out k l) in
+      let t = take-suc (stores at out) k (0, 0) (omega arith) ∙ ap (λ (s : Store). take k (stores at out) ++ (s ∷ [])) (store_behind at out k l) in
       let m : length (take (suc k) (stores at out)) ≡ suc k = length-take-le (suc k) (stores at out) (omega arith) in
       let ss = stored b (take k (stores at out)) in
-      let made : _≡_ {A = ℕ × List ℕ} (k, ss) (filled k b at out) =
-      sym (filled-is-trace k ∙ ap (λ (i : ℕ). (i, ss)) (length-take-le k (stores at out) (omega arith))) in
-      let next = filled-next b at out room k ss (at + p) (getD out p 0) made l refl refl in
-      rw (m, t, stored-snoc b (take k (stores at out)) (at + p, getD out p 0))
-      (ap (λ (i : ℕ). filled i b at out) (sym (add-one k)) ∙ (sym next ∙ ap (λ (i : ℕ). (i, set ss (at + p) (getD out p 0))) (add-one k))))
+      let made : ◌≡◌ {A = ℕ × List ℕ} (k, ss) (filled k b at out) =
+      sym (filled_is_trace k ∙ ap (λ (i : ℕ). (i, ss)) (length-take-le k (stores at out) (omega arith))) in
+      let next = filled_next b at out room k ss (at + p) (get_or out p 0) made l refl refl in
+      rw (m, t, stored_snoc b (take k (stores at out)) (at + p, get_or out p 0))
+      (ap (λ (i : ℕ). filled i b at out) (sym (add-one k)) ∙ (sym next ∙ ap (λ (i : ℕ). (i, set ss (at + p) (get_or out p 0))) (add-one k))))
       (eq-zero-or-pos (length out - k))
 
 -- the last byte's store comes first
-stores-snoc : (at : ℕ) (xs : List ℕ) (v : ℕ) → stores at (xs ++ (v ∷ [])) ≡ (at + length xs, v) ∷ stores at xs
+stores_snoc : (at : ℕ) (xs : List ℕ) (v : ℕ) → stores at (xs ++ (v ∷ [])) ≡ (at + length xs, v) ∷ stores at xs
 unfolding stores
-stores-snoc at [] v = rw (add-zero at) refl
-stores-snoc at (x ∷ xs) v =
+stores_snoc at [] v = rw (add-zero at) refl
+stores_snoc at (x ∷ xs) v =
     let e : at + 1 + length xs ≡ at + suc (length xs) = omega arith in
-    ap (λ (ss : List Store). ss ++ ((at, x) ∷ [])) (stores-snoc (at + 1) xs v) ∙ rw e refl
+    ap (λ (ss : List Store). ss ++ ((at, x) ∷ [])) (stores_snoc (at + 1) xs v) ∙ rw e refl
 
-digits-unflagged : (at k n : ℕ) → NoEndFlag (stores at (lowDigits 128 k n))
-unfolding lowDigits stores
-digits-unflagged at zero n = tt
-digits-unflagged at (suc k) n = rw (stores-snoc at (lowDigits 128 k (n / 128)) (n % 128)) (mod-lt n {m = 128} (omega arith), digits-unflagged at k (n / 128))
+digits_unflagged : (at k n : ℕ) → NoEndFlag (stores at (low_digits 128 k n))
+unfolding low_digits stores
+digits_unflagged at zero n = tt
+digits_unflagged at (suc k) n = rw (stores_snoc at (low_digits 128 k (n / 128)) (n % 128)) (mod-lt n {m = 128} (omega arith), digits_unflagged at k (n / 128))
 
-pub end-flag-first : (at n : ℕ) → EndFlagFirst (stores at (varUIntBytes n))
-unfolding varUIntBytes digits
-end-flag-first at n =
-    rw (stores-snoc at (lowDigits 128 (digitCount 128 (n / 128)) (n / 128)) (0x80 + n % 128))
-    (omega arith, digits-unflagged at (digitCount 128 (n / 128)) (n / 128))
+pub end_flag-first : (at n : ℕ) → EndFlagFirst (stores at (var_uint_bytes n))
+unfolding var_uint_bytes digits
+end_flag-first at n =
+    rw (stores_snoc at (low_digits 128 (digit_count 128 (n / 128)) (n / 128)) (0x80 + n % 128))
+    (omega arith, digits_unflagged at (digit_count 128 (n / 128)) (n / 128))

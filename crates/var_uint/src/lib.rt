@@ -1,11 +1,8 @@
 // VarUInt: seven bits a byte, most significant first, the end flag on the last. It is stored from the last byte to the first.
-ghost use mathlib.Core.Path.{_≡_};
-ghost use mathlib.Core.List.{List};
-ghost use Prim.Native.Nat.{ℕ};
-ghost use lib.ListN.{length};
-ghost use Rattle·encoding.specs.Fields.{varUIntBytes};
-ghost use Rattle·buffer.specs.Laid.{placed};
-ghost use Rattle·var_uint·specs.specs.Filled.{filled};
+ghost use Rattle.std.specs.Prelude.{◌≡◌, List, ℕ, length};
+ghost use Rattle.encoding.specs.Fields.{var_uint_bytes};
+ghost use Rattle.buffer.specs.Laid.{placed};
+ghost use Rattle.var_uint.specs.Filled.{filled};
 
 const END_FLAG: u8 = 0x80;
 
@@ -17,7 +14,7 @@ const MOST_BYTES: usize = 10;
 
 // The bytes that `value` takes as a VarUInt: one for each seven bits, and one for zero.
 pub fn encoded_size_of(value: u64) -> usize
-    ensures { λ r. ⌜ r ≡ length (varUIntBytes value) ⌝ }
+    ensures { result ≡ length (var_uint_bytes value) }
 {
     if value < TWO_BYTES {
         return 1;
@@ -28,7 +25,7 @@ pub fn encoded_size_of(value: u64) -> usize
 // The last `limit` bytes of `value` as a VarUInt at `at`, or all if it has no more: the byte with the end flag by the first store, and by each further
 // one the byte before. Answers how many stores it made: none where the whole field does not fit.
 pub fn fill(buf: &mut [u8], at: usize, value: u64, limit: usize) -> usize
-    ensures { λ r. ⌜ _≡_ {A = ℕ × List ℕ} (r, now (buf .exit)) (filled limit (now (buf .entry)) at (varUIntBytes value)) ⌝ }
+    ensures { ◌≡◌ {A = ℕ × List ℕ} (result, buf.new) (filled limit buf.old at (var_uint_bytes value)) }
 {
     let size = encoded_size_of(value);
     if !buffer::has_room(buf.len(), at, size) {
@@ -51,7 +48,7 @@ pub fn fill(buf: &mut [u8], at: usize, value: u64, limit: usize) -> usize
 
 // `value` as a VarUInt. Most lengths and sids take one byte, a whole field of one store, so that is asked first.
 pub fn write(buf: &mut [u8], at: usize, value: u64) -> usize
-    ensures { λ r. ⌜ _≡_ {A = ℕ × List ℕ} (r, now (buf .exit)) (placed (now (buf .entry)) at (varUIntBytes value)) ⌝ }
+    ensures { ◌≡◌ {A = ℕ × List ℕ} (result, buf.new) (placed buf.old at (var_uint_bytes value)) }
 {
     if value < TWO_BYTES {
         return buffer::put(buf, at, END_FLAG + value as u8);

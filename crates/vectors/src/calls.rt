@@ -1,16 +1,10 @@
 // The call that a vector names: the function and its arguments, before which may stand `ann` and the sids of a scalar's annotations, eight bytes
 // each. The bytes go to `AT`.
-ghost use Prim.Native.Nat.{_≤_};
-ghost use lib.ListN.{length};
-use scalars::IonType;
-use scalars::Scalar;
-use timestamp::Fraction;
-use timestamp::Offset;
-use timestamp::Precision;
-use timestamp::Timestamp;
-use words::hex;
-use words::numbers;
-use words::word;
+ghost use Rattle.std.specs.Prelude.{◌≤◌, length};
+
+use scalars::{IonType, Scalar};
+use timestamp::{Fraction, Offset, Precision, Timestamp};
+use words::{hex, numbers, word};
 
 pub(crate) const AT: usize = 3;
 
@@ -160,6 +154,7 @@ fn local_time(call: &[u8]) -> Timestamp {
 }
 
 // A call's words, each read in every way that a function takes it.
+#[derive(Drop)]
 struct Arguments {
     negative: bool,
     number: u64,
@@ -244,7 +239,7 @@ fn bytes_at(function: usize) -> usize {
 
 // Puts the bytes of a vector's sids, and answers their number.
 fn sids(vector: &[u8], out: &mut [u8]) -> usize
-    ensures { λ r. ⌜ r ≤ length (now (out .exit)) ⌝ }
+    ensures { result ≤ length out.new }
 {
     if is_annotated(vector) {
         return hex::bytes(word(vector, 1), out);

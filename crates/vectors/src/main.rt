@@ -3,11 +3,10 @@
 // the bytes that its limit leaves out. Behind the word `short` each room is a byte less than it should be, so that the comparison is seen to refuse.
 mod calls;
 
-ghost use Prim.Native.Nat.{_≤_};
-ghost use lib.ListN.{length};
+ghost use Rattle.std.specs.Prelude.{◌≤◌, length};
+
 use calls::AT;
-use libc::STDIN_FILENO;
-use libc::STDOUT_FILENO;
+use libc::{STDIN_FILENO, STDOUT_FILENO};
 
 const ROOM: usize = 512;
 
@@ -24,7 +23,7 @@ fn are_same(a: &[u8; ROOM], b: &[u8; ROOM]) -> bool {
 
 // Whether the call of a vector puts `expected`, and alters no other byte, where the buffer has `room` bytes.
 fn puts(vector: &[u8], room: usize, expected: &[u8]) -> bool
-    requires { ⌜ room ≤ 512 ⌝ }
+    requires { room ≤ 512 }
 {
     let mut image = [FILL; ROOM];
     buffer::copy(&mut image, AT, expected);
@@ -59,8 +58,8 @@ const DIFFERS_WITHOUT_ROOM: u8 = 4;
 
 // The room that so many bytes just take, or a byte less.
 fn just_room(size: usize, is_short: bool) -> usize
-    requires { ⌜ size ≤ 256 ⌝ }
-    ensures { λ r. ⌜ (1 ≤ r) × (r ≤ 259) ⌝ }
+    requires { size ≤ 256 }
+    ensures { (1 ≤ result) × (result ≤ 259) }
 {
     if is_short {
         return AT + size - 1;
@@ -70,7 +69,7 @@ fn just_room(size: usize, is_short: bool) -> usize
 
 // A vector is right if its bytes come out where there is room to spare and where there is just room, and none where a byte of room is missing.
 fn compared(vector: &[u8], expected: &[u8], is_short: bool) -> u8
-    requires { ⌜ length (now expected) ≤ 256 ⌝ }
+    requires { length expected.now ≤ 256 }
 {
     if calls::named(vector) == calls::UNKNOWN {
         return NO_FUNCTION;
@@ -116,6 +115,7 @@ fn answer(line: &[u8]) -> bool {
     how == RIGHT
 }
 
+#[derive(Drop)]
 struct Counts {
     vectors: usize,
     right: usize,
@@ -123,7 +123,7 @@ struct Counts {
 
 // The counts of one line. A line with nothing before its `#` is no vector.
 fn count_line(line: &[u8]) -> Counts
-    ensures { λ r. ⌜ (r .vectors ≤ 1) × (r .right ≤ 1) ⌝ }
+    ensures { (result.vectors ≤ 1) × (result.right ≤ 1) }
 {
     let end = words::find(line, 0, b'#');
     if end == 0 {
@@ -145,7 +145,7 @@ fn count_line(line: &[u8]) -> Counts
 }
 
 fn count_lines(text: &[u8]) -> Counts
-    requires { ⌜ length (now text) ≤ 65536 ⌝ }
+    requires { length text.now ≤ 65536 }
 {
     let mut vectors: usize = 0;
     let mut right: usize = 0;

@@ -1,6 +1,6 @@
 -- A repeat has its length by the law of repeats, since to compute it would walk the whole array.
 -- Assumes nothing.
-use mathlib.Core.Path.{_≡_, sym}
+use mathlib.Core.Path.{◌≡◌, sym}
 use Prim.Native.Nat.{ℕ}
 use lib.ListN.{length, replicate, length-replicate}
 

@@ -1,36 +1,32 @@
 -- Lower-case hex: digits, numbers, bytes.
 -- Assumes nothing.
-use Prim.Native.Nat.{ℕ, _+_, _-_, _*_, _/_, _%_}
-use mathlib.Core.Bool.{Bool, true, false, _&&_}
-use mathlib.Core.List.{List, [], _∷_, _++_, map}
-use lib.Dec.{leb, ltb, eqb}
-use lib.ListN.{length, replicate}
-use Rattle·words·specs.specs.Numbers.{isDigit}
+use Rattle.std.specs.Prelude.{ℕ, ◌+◌, ◌-◌, ◌*◌, ◌/◌, ◌%◌, Bool, true, false, ◌&&◌, List, [], ◌∷◌, ◌++◌, map, leb, ltb, eqb, length, replicate}
+use Rattle.words.specs.Numbers.{is_digit}
 
 -- The letters a to f are the bytes 97 to 102.
-unfoldable pub isHexLetter : ℕ → Bool
-isHexLetter b = leb 97 b && leb b 102
+unfoldable pub is_hex_letter : ℕ → Bool
+is_hex_letter b = leb 97 b && leb b 102
 
 -- The value of a digit, or 16 for a byte that is none.
-unfoldable pub hexDigit : ℕ → ℕ
-hexDigit b = elim (isDigit b) [ true ↦ b - 48 | false ↦ elim (isHexLetter b) [ true ↦ b - 97 + 10 | false ↦ 16 ] ]
+unfoldable pub hex_digit : ℕ → ℕ
+hex_digit b = elim (is_digit b) [ true ↦ b - 48 | false ↦ elim (is_hex_letter b) [ true ↦ b - 97 + 10 | false ↦ 16 ] ]
 
-unfoldable pub areHexDigits : List ℕ → Bool
-areHexDigits [] = true
-areHexDigits (b ∷ s) = elim (eqb (hexDigit b) 16) [ true ↦ false | false ↦ areHexDigits s ]
+unfoldable pub are_hex_digits : List ℕ → Bool
+are_hex_digits [] = true
+are_hex_digits (b ∷ s) = elim (eqb (hex_digit b) 16) [ true ↦ false | false ↦ are_hex_digits s ]
 
 -- One digit or more.
-unfoldable pub isHex : List ℕ → Bool
-isHex s = areHexDigits s && ltb 0 (length s)
+unfoldable pub is_hex : List ℕ → Bool
+is_hex s = are_hex_digits s && ltb 0 (length s)
 
 -- What a byte counts as in a number: one that is no digit as 0.
-abbrev pub hexValue : ℕ → ℕ
-hexValue b = hexDigit b % 16
+abbrev pub hex_value : ℕ → ℕ
+hex_value b = hex_digit b % 16
 
 -- n with the digits of a list behind it.
-unfoldable pub hexBehind : ℕ → List ℕ → ℕ
-hexBehind n [] = n
-hexBehind n (b ∷ s) = hexBehind (n * 16 + hexValue b) s
+unfoldable pub hex_behind : ℕ → List ℕ → ℕ
+hex_behind n [] = n
+hex_behind n (b ∷ s) = hex_behind (n * 16 + hex_value b) s
 
 -- A byte of each two digits.
 unfoldable pub pairs : List ℕ → List ℕ
@@ -40,17 +36,17 @@ pairs (high ∷ low ∷ digits) = (high * 16 + low) ∷ pairs digits
 
 -- The digits of a word behind some zeros.
 unfoldable pub padded : ℕ → List ℕ → List ℕ
-padded zeros s = replicate zeros 0 ++ map hexValue s
+padded zeros s = replicate zeros 0 ++ map hex_value s
 
 -- The bytes of a number, from the highest on. An odd first digit is a byte.
-unfoldable pub hexBytes : List ℕ → List ℕ
-hexBytes s = pairs (padded (length s % 2) s)
+unfoldable pub hex_bytes : List ℕ → List ℕ
+hex_bytes s = pairs (padded (length s % 2) s)
 
 -- The digit of the lowest four bits of n.
-unfoldable pub hexGlyph : ℕ → ℕ
-hexGlyph n = elim (ltb (n % 16) 10) [ true ↦ 48 + n % 16 | false ↦ 97 + (n % 16 - 10) ]
+unfoldable pub hex_glyph : ℕ → ℕ
+hex_glyph n = elim (ltb (n % 16) 10) [ true ↦ 48 + n % 16 | false ↦ 97 + (n % 16 - 10) ]
 
 -- Two digits for each byte.
-unfoldable pub hexText : List ℕ → List ℕ
-hexText [] = []
-hexText (b ∷ s) = hexGlyph (b / 16) ∷ hexGlyph b ∷ hexText s
+unfoldable pub hex_text : List ℕ → List ℕ
+hex_text [] = []
+hex_text (b ∷ s) = hex_glyph (b / 16) ∷ hex_glyph b ∷ hex_text s

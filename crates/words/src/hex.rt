@@ -1,22 +1,18 @@
 // Lower-case hex. A byte that is no digit counts as 0.
-ghost use mathlib.Core.Path.{_≡_};
-ghost use mathlib.Core.List.{List};
-ghost use Prim.Native.Nat.{ℕ, _*_, _%_, _^_, _≤_, min};
-ghost use lib.ListN.{length, getD};
-ghost use lib.Seq.{paste};
-ghost use Rattle·buffer.specs.Laid.{placed};
-ghost use Rattle·words·specs.specs.Numbers.{magnitude};
-ghost use Rattle·words·specs.specs.Hex.{isHex, hexDigit, hexBehind, padded, hexBytes, hexGlyph, hexText};
-use crate::byte_at;
-use crate::least;
-use crate::numbers;
+ghost use Rattle.std.specs.Prelude.{◌≡◌, List, ℕ, ◌*◌, ◌%◌, ◌^◌, ◌≤◌, min, length, get_or};
+ghost use Rattle.std.proofs.Math.Seq.{paste};
+ghost use Rattle.buffer.specs.Laid.{placed};
+ghost use Rattle.words.specs.Numbers.{magnitude};
+ghost use Rattle.words.specs.Hex.{is_hex, hex_digit, hex_behind, padded, hex_bytes, hex_glyph, hex_text};
+
+use crate::{byte_at, least, numbers};
 
 // What stands for no digit.
 const NO_DIGIT: u8 = 16;
 
 // The value of a digit.
 fn hex_digit(byte: u8) -> u8
-    ensures { λ r. ⌜ r ≡ hexDigit byte ⌝ }
+    ensures { result ≡ hex_digit byte }
 {
     if byte < b'0' {
         return NO_DIGIT;
@@ -35,7 +31,7 @@ fn hex_digit(byte: u8) -> u8
 
 // Whether a word is one or more digits.
 pub fn is_hex(word: &[u8]) -> bool
-    ensures { λ r. ⌜ r ≡ isHex (now (word .entry)) ⌝ }
+    ensures { result ≡ is_hex word.now }
 {
     let mut i: usize = 0;
     while i < word.len() {
@@ -49,7 +45,7 @@ pub fn is_hex(word: &[u8]) -> bool
 
 // The lowest 64 bits of a number.
 pub fn bits(word: &[u8]) -> u64
-    ensures { λ r. ⌜ r ≡ hexBehind 0 (now (word .entry)) % 2 ^ 64 ⌝ }
+    ensures { result ≡ hex_behind 0 word.now % 2 ^ 64 }
 {
     let mut bits: u64 = 0;
     let mut i: usize = 0;
@@ -62,7 +58,7 @@ pub fn bits(word: &[u8]) -> u64
 
 // The digit at index `i` of a word before which stand `zeros` zeros.
 fn digit_behind(word: &[u8], zeros: usize, i: usize) -> u8
-    ensures { λ r. ⌜ (r ≡ getD (padded zeros (now (word .entry))) i 0) × (r ≤ 15) ⌝ }
+    ensures { (result ≡ get_or (padded zeros word.now) i 0) × (result ≤ 15) }
 {
     if i < zeros {
         return 0;
@@ -72,8 +68,8 @@ fn digit_behind(word: &[u8], zeros: usize, i: usize) -> u8
 
 // Puts the bytes of the digits behind a minus, as many as there is room for, and answers their number. An odd first digit is a byte.
 pub fn bytes(word: &[u8], out: &mut [u8]) -> usize
-    ensures { λ r. ⌜ (r ≡ min (length (hexBytes (magnitude (now (word .entry))))) (length (now (out .exit))))
-        × (now (out .exit) ≡ paste (now (out .entry)) 0 (hexBytes (magnitude (now (word .entry)))) r) ⌝ }
+    ensures { (result ≡ min (length (hex_bytes (magnitude word.now))) (length out.new))
+        × (out.new ≡ paste out.old 0 (hex_bytes (magnitude word.now)) result) }
 {
     let digits = numbers::magnitude(word);
     let zeros = digits.len() % 2;
@@ -88,7 +84,7 @@ pub fn bytes(word: &[u8], out: &mut [u8]) -> usize
 
 // The digit of the lowest four bits.
 fn glyph(bits: u8) -> u8
-    ensures { λ r. ⌜ r ≡ hexGlyph bits ⌝ }
+    ensures { result ≡ hex_glyph bits }
 {
     let digit = bits % 16;
     if digit < 10 {
@@ -99,8 +95,8 @@ fn glyph(bits: u8) -> u8
 
 // Puts two digits for each byte, from `at` on, and answers their number: all of them, or none where they do not fit.
 pub fn put(out: &mut [u8], at: usize, bytes: &[u8]) -> usize
-    ensures { λ r. ⌜ (_≡_ {A = ℕ × List ℕ} (r, now (out .exit)) (placed (now (out .entry)) at (hexText (now (bytes .entry)))))
-        × (r ≤ 2 * length (now (bytes .entry))) ⌝ }
+    ensures { (◌≡◌ {A = ℕ × List ℕ} (result, out.new) (placed out.old at (hex_text bytes.now)))
+        × (result ≤ 2 * length bytes.now) }
 {
     if !buffer::has_room(out.len(), at, 2 * bytes.len()) {
         return 0;

@@ -2,16 +2,13 @@
 pub mod hex;
 pub mod numbers;
 
-ghost use mathlib.Core.Path.{_≡_};
-ghost use mathlib.Core.List.{[]};
-ghost use Prim.Native.Nat.{_+_, _≤_, min, max};
-ghost use lib.ListN.{length, drop, getD};
-ghost use Rattle·words·specs.specs.Words.{placeOf, wordsOf, fromWord, indexOf};
+ghost use Rattle.std.specs.Prelude.{◌≡◌, [], ◌+◌, ◌≤◌, min, max, length, drop, get_or};
+ghost use Rattle.words.specs.Words.{place_of, words_of, from_word, index_of};
 
 const SPACE: u8 = b' ';
 
 pub fn least(a: usize, b: usize) -> usize
-    ensures { λ r. ⌜ r ≡ min a b ⌝ }
+    ensures { result ≡ min a b }
 {
     if a < b {
         return a;
@@ -21,7 +18,7 @@ pub fn least(a: usize, b: usize) -> usize
 
 // The byte at `at`, or 0 behind the end.
 pub fn byte_at(text: &[u8], at: usize) -> u8
-    ensures { λ r. ⌜ r ≡ getD (now (text .entry)) at 0 ⌝ }
+    ensures { result ≡ get_or text.now at 0 }
 {
     if text.len() <= at {
         return 0;
@@ -31,7 +28,7 @@ pub fn byte_at(text: &[u8], at: usize) -> u8
 
 // Where a byte stands first from `at` on, or the length where it does not.
 pub fn find(text: &[u8], at: usize, byte: u8) -> usize
-    ensures { λ r. ⌜ (r ≡ at + placeOf byte (drop at (now (text .entry)))) × (r ≤ max at (length (now (text .entry)))) ⌝ }
+    ensures { (result ≡ at + place_of byte (drop at text.now)) × (result ≤ max at (length text.now)) }
 {
     let mut i = at;
     while i < text.len() {
@@ -46,7 +43,7 @@ pub fn find(text: &[u8], at: usize, byte: u8) -> usize
 
 // How many words a text has.
 pub fn count(text: &[u8]) -> usize
-    ensures { λ r. ⌜ r ≡ length (wordsOf (now (text .entry))) ⌝ }
+    ensures { result ≡ length (words_of text.now) }
 {
     let mut words: usize = 1;
     let mut i: usize = 0;
@@ -62,7 +59,7 @@ pub fn count(text: &[u8]) -> usize
 
 // Where the word at index `n` starts, or the length where there is none.
 fn word_start(text: &[u8], n: usize) -> usize
-    ensures { λ r. ⌜ (drop r (now (text .entry)) ≡ fromWord n (now (text .entry))) × (r ≤ length (now (text .entry))) ⌝ }
+    ensures { (drop result text.now ≡ from_word n text.now) × (result ≤ length text.now) }
 {
     let mut at: usize = 0;
     let mut i: usize = 0;
@@ -75,7 +72,7 @@ fn word_start(text: &[u8], n: usize) -> usize
 
 // The text from the word at index `n` on.
 pub fn from_word<'a>(text: &'a [u8], n: usize) -> &'a [u8]
-    ensures { λ r. ⌜ now r ≡ fromWord n (now (text .entry)) ⌝ }
+    ensures { result.now ≡ from_word n text.now }
 {
     let from = word_start(text, n);
     &text[from..]
@@ -83,7 +80,7 @@ pub fn from_word<'a>(text: &'a [u8], n: usize) -> &'a [u8]
 
 // The word at index `n`.
 pub fn word<'a>(text: &'a [u8], n: usize) -> &'a [u8]
-    ensures { λ r. ⌜ now r ≡ getD (wordsOf (now (text .entry))) n [] ⌝ }
+    ensures { result.now ≡ get_or (words_of text.now) n [] }
 {
     let from = word_start(text, n);
     let to = find(text, from, SPACE);
@@ -92,7 +89,7 @@ pub fn word<'a>(text: &'a [u8], n: usize) -> &'a [u8]
 
 // The index of a word among the words of a text, or how many those are where it is none of them.
 pub fn index(names: &[u8], word: &[u8]) -> usize
-    ensures { λ r. ⌜ r ≡ indexOf (now (word .entry)) (wordsOf (now (names .entry))) ⌝ }
+    ensures { result ≡ index_of word.now (words_of names.now) }
 {
     let mut n: usize = 0;
     let mut at: usize = 0;

@@ -1,10 +1,8 @@
 // The numbers that words spell in base ten. Each function that answers a number answers 0 for a word that spells none within its limit.
-ghost use mathlib.Core.Path.{_≡_};
-ghost use mathlib.Core.Option.{Option·getD};
-ghost use Prim.Native.Nat.{_≤_};
-ghost use lib.IntN.{pos, negℤ};
-ghost use lib.ListN.{length};
-ghost use Rattle·words·specs.specs.Numbers.{Spelled, isSome, digitBehind, natural, signed, hasMinus, magnitude};
+ghost use Rattle.std.specs.Prelude.{◌≡◌, ◌≤◌, pos, neg_ℤ, length};
+ghost use Rattle.std.proofs.Math.Option.{get_or};
+ghost use Rattle.words.specs.Numbers.{Spelled, is_some, digit_behind, natural, signed, has_minus, magnitude};
+
 use crate::byte_at;
 
 const MINUS: u8 = b'-';
@@ -17,6 +15,7 @@ const MOST_I32: u64 = 2147483647;
 const MOST_U32: u64 = 4294967295;
 
 // A number, and whether there is one.
+#[derive(Drop)]
 struct Number {
     value: u64,
     fits: bool,
@@ -29,7 +28,7 @@ const NO_NUMBER: Number = Number {
 
 // The number with one digit more at its end.
 fn with_digit(value: u64, byte: u8, most: u64) -> Number
-    ensures { λ r. ⌜ Spelled (digitBehind most value byte) r ⌝ }
+    ensures { Spelled (digit_behind most value byte) result }
 {
     if byte < b'0' {
         return NO_NUMBER;
@@ -51,7 +50,7 @@ fn with_digit(value: u64, byte: u8, most: u64) -> Number
 }
 
 fn read(word: &[u8], most: u64) -> Number
-    ensures { λ r. ⌜ Spelled (natural most (now (word .entry))) r × (r .value ≤ most) ⌝ }
+    ensures { Spelled (natural most word.now) result × (result.value ≤ most) }
 {
     let mut value: u64 = 0;
     let mut i: usize = 0;
@@ -71,7 +70,7 @@ fn read(word: &[u8], most: u64) -> Number
 
 // Whether a word is a number without sign of at most `most`.
 pub fn is_natural(word: &[u8], most: u64) -> bool
-    ensures { λ r. ⌜ r ≡ isSome (natural most (now (word .entry))) ⌝ }
+    ensures { result ≡ is_some (natural most word.now) }
 {
     let number = read(word, most);
     number.fits
@@ -79,27 +78,27 @@ pub fn is_natural(word: &[u8], most: u64) -> bool
 
 // A number without sign of at most `most`.
 pub fn natural(word: &[u8], most: u64) -> u64
-    ensures { λ r. ⌜ (r ≡ Option·getD (natural most (now (word .entry))) 0) × (r ≤ most) ⌝ }
+    ensures { (result ≡ get_or (natural most word.now) 0) × (result ≤ most) }
 {
     let number = read(word, most);
     number.value
 }
 
 pub fn natural_u32(word: &[u8]) -> u32
-    ensures { λ r. ⌜ r ≡ Option·getD (natural 4294967295 (now (word .entry))) 0 ⌝ }
+    ensures { result ≡ get_or (natural 4294967295 word.now) 0 }
 {
     natural(word, MOST_U32) as u32
 }
 
 pub fn has_minus(word: &[u8]) -> bool
-    ensures { λ r. ⌜ r ≡ hasMinus (now (word .entry)) ⌝ }
+    ensures { result ≡ has_minus word.now }
 {
     byte_at(word, 0) == MINUS
 }
 
 // The word behind its minus.
 pub fn magnitude<'a>(word: &'a [u8]) -> &'a [u8]
-    ensures { λ r. ⌜ now r ≡ magnitude (now (word .entry)) ⌝ }
+    ensures { result.now ≡ magnitude word.now }
 {
     let from = has_minus(word) as usize;
     &word[from..]
@@ -107,28 +106,28 @@ pub fn magnitude<'a>(word: &'a [u8]) -> &'a [u8]
 
 // Whether a word is a number of signed bits of which `most` is the largest.
 fn is_signed(word: &[u8], most: u64) -> bool
-    requires { ⌜ most ≤ 9223372036854775807 ⌝ }
-    ensures { λ r. ⌜ r ≡ isSome (signed most (now (word .entry))) ⌝ }
+    requires { most ≤ 9223372036854775807 }
+    ensures { result ≡ is_some (signed most word.now) }
 {
     is_natural(magnitude(word), most + has_minus(word) as u64)
 }
 
 pub fn is_i64(word: &[u8]) -> bool
-    ensures { λ r. ⌜ r ≡ isSome (signed 9223372036854775807 (now (word .entry))) ⌝ }
+    ensures { result ≡ is_some (signed 9223372036854775807 word.now) }
 {
     is_signed(word, MOST_I64)
 }
 
 pub fn is_i32(word: &[u8]) -> bool
-    ensures { λ r. ⌜ r ≡ isSome (signed 2147483647 (now (word .entry))) ⌝ }
+    ensures { result ≡ is_some (signed 2147483647 word.now) }
 {
     is_signed(word, MOST_I32)
 }
 
 // `magnitude` below zero.
 fn negated(magnitude: u64) -> i64
-    requires { ⌜ magnitude ≤ 9223372036854775808 ⌝ }
-    ensures { λ r. ⌜ r ≡ negℤ (pos magnitude) ⌝ }
+    requires { magnitude ≤ 9223372036854775808 }
+    ensures { result ≡ neg_ℤ (pos magnitude) }
 {
     if magnitude == 0 {
         return 0;
@@ -137,8 +136,8 @@ fn negated(magnitude: u64) -> i64
 }
 
 fn signed(word: &[u8], most: u64) -> i64
-    requires { ⌜ most ≤ 9223372036854775807 ⌝ }
-    ensures { λ r. ⌜ r ≡ Option·getD (signed most (now (word .entry))) (pos 0) ⌝ }
+    requires { most ≤ 9223372036854775807 }
+    ensures { result ≡ get_or (signed most word.now) (pos 0) }
 {
     if has_minus(word) {
         return negated(natural(magnitude(word), most + 1));
@@ -147,13 +146,13 @@ fn signed(word: &[u8], most: u64) -> i64
 }
 
 pub fn i64_of(word: &[u8]) -> i64
-    ensures { λ r. ⌜ r ≡ Option·getD (signed 9223372036854775807 (now (word .entry))) (pos 0) ⌝ }
+    ensures { result ≡ get_or (signed 9223372036854775807 word.now) (pos 0) }
 {
     signed(word, MOST_I64)
 }
 
 pub fn i32_of(word: &[u8]) -> i32
-    ensures { λ r. ⌜ r ≡ Option·getD (signed 2147483647 (now (word .entry))) (pos 0) ⌝ }
+    ensures { result ≡ get_or (signed 2147483647 word.now) (pos 0) }
 {
     signed(word, MOST_I32) as i32
 }

@@ -1,43 +1,24 @@
 // The writer: its calls over a state by value and a lent buffer. Those that write a scalar are crate value_writer's, handed on.
 // Each call checks its place, hands the work on numbers to a leaf, and answers with the next state.
-ghost use mathlib.Core.Path.{_≡_};
-ghost use mathlib.Core.Bool.{false};
-ghost use Prim.Native.Nat.{_+_, _-_, _<_, _≤_, _^_};
-ghost use lib.ListN.{length, set};
-ghost use Rattle·machine.specs.Machine.{config, mostOpen, innermostFirst, inStruct, emptyState, finishedLength, run};
-ghost use Rattle·machine.specs.Numbers.{outcomeOf, closedOutcome};
-ghost use Rattle·machine.specs.Call.{name, opening, closing, abandonment, versionMarker, emptying};
-ghost use Rattle·annotations.specs.Sids.{sidsOf};
-ghost use Rattle·steps.specs.Kinds.{kindOf};
-ghost use Rattle·steps.specs.Start.{startRun, takenFrom};
-use machine::Answer;
-use machine::Closed;
-use machine::Container;
-use machine::LONGEST_BUFFER;
-use machine::MARKER;
-use machine::MOST_OPEN;
-use machine::Refusal;
-use machine::STRUCT;
-use machine::State;
-use machine::Written;
+ghost use Rattle.std.specs.Prelude.{◌≡◌, false, ◌+◌, ◌-◌, ◌<◌, ◌≤◌, ◌^◌, length, set};
+ghost use Rattle.machine.specs.Machine.{config, most_open, innermost_first, in_struct, empty_state, finished_length, run};
+ghost use Rattle.machine.specs.Numbers.{outcome_of, closed_outcome};
+ghost use Rattle.machine.specs.Call.{name, opening, closing, abandonment, version_marker, emptying};
+ghost use Rattle.annotations.specs.Sids.{sids_of};
+ghost use Rattle.steps.specs.Kinds.{kind_of};
+ghost use Rattle.steps.specs.Start.{start_run, taken_from};
+
+use machine::{
+    Answer, Closed, Container, LONGEST_BUFFER, MARKER, MOST_OPEN, Refusal, STRUCT, State, Written,
+};
 pub use steps::ContainerType;
-pub use value_writer::write_blob;
-pub use value_writer::write_bool;
-pub use value_writer::write_clob;
-pub use value_writer::write_decimal;
-pub use value_writer::write_f32;
-pub use value_writer::write_f32_bits;
-pub use value_writer::write_f64;
-pub use value_writer::write_f64_bits;
-pub use value_writer::write_i64;
-pub use value_writer::write_int;
-pub use value_writer::write_null;
-pub use value_writer::write_string;
-pub use value_writer::write_symbol;
-pub use value_writer::write_timestamp;
+pub use value_writer::{
+    write_blob, write_bool, write_clob, write_decimal, write_f32, write_f32_bits, write_f64,
+    write_f64_bits, write_i64, write_int, write_null, write_string, write_symbol, write_timestamp,
+};
 
 fn empty_state(used: usize) -> State
-    ensures { λ r. ⌜ r ≡ emptyState used ⌝ }
+    ensures { result ≡ empty_state used }
 {
     State {
         used,
@@ -54,7 +35,7 @@ fn empty_state(used: usize) -> State
 
 // A start: an empty state over a lent buffer that begins with a version marker.
 pub fn start(buf: &mut [u8]) -> Written
-    ensures { λ r. ⌜ outcomeOf r (now (buf .exit)) ≡ startRun (now (buf .entry)) ⌝ }
+    ensures { outcome_of result buf.new ≡ start_run buf.old }
 {
     if LONGEST_BUFFER < buf.len() {
         return Written {
@@ -77,7 +58,7 @@ pub fn start(buf: &mut [u8]) -> Written
 
 // A field name: its sid as a VarUInt.
 pub fn field_name(s: State, buf: &mut [u8], sid: u64) -> Written
-    ensures { λ r. ⌜ outcomeOf r (now (buf .exit)) ≡ run (name sid) (config s (now (buf .entry))) ⌝ }
+    ensures { outcome_of result buf.new ≡ run (name sid) (config s buf.old) }
 {
     let place = place::name_place(s, buf.len());
     let Answer::Accepted = place else {
@@ -92,13 +73,13 @@ pub fn field_name(s: State, buf: &mut [u8], sid: u64) -> Written
 
 // The state behind an opening that has put `put` bytes, its header's reserve last.
 fn opened(s: State, put: usize, code: u8) -> State
-    requires { ⌜ (s .depth < mostOpen) × (2 ≤ put) × (s .used + put < 2 ^ 64) ⌝ }
-    ensures { λ r. ⌜ r ≡ record {
-      used = s .used + put;
-      depth = s .depth + 1;
+    requires { (s.depth < most_open) × (2 ≤ put) × (s.used + put < 2 ^ 64) }
+    ensures { result ≡ record {
+      used = s.used + put;
+      depth = s.depth + 1;
       waiting = false;
-      containers = set (s .containers) (s .depth) (record { start = s .used; header = s .used + (put - 2); code = code; members = 0 });
-    } ⌝ }
+      containers = set s.containers s.depth (record { start = s.used; header = s.used + (put - 2); code = code; members = 0 });
+    } }
 {
     let used = s.used;
     let depth = s.depth;
@@ -117,7 +98,7 @@ fn opened(s: State, put: usize, code: u8) -> State
 
 // An opening: it reserves two bytes for its header, and with annotations two more for the wrapper's before them.
 pub fn open(s: State, buf: &mut [u8], annotations: &[u8], kind: ContainerType) -> Written
-    ensures { λ r. ⌜ outcomeOf r (now (buf .exit)) ≡ run (opening (sidsOf (now (annotations .entry))) (kindOf kind)) (config s (now (buf .entry))) ⌝ }
+    ensures { outcome_of result buf.new ≡ run (opening (sids_of annotations.now) (kind_of kind)) (config s buf.old) }
 {
     let place = place::value_place(s, buf.len());
     let Answer::Accepted = place else {
@@ -147,7 +128,7 @@ pub fn open(s: State, buf: &mut [u8], annotations: &[u8], kind: ContainerType) -
 
 // A closing: the header, and the wrapper's, in their final form. The container is then a member of the one that it lies in.
 pub fn close(s: State, buf: &mut [u8]) -> Closed
-    ensures { λ r. ⌜ closedOutcome r (now (buf .exit)) ≡ run closing (config s (now (buf .entry))) ⌝ }
+    ensures { closed_outcome result buf.new ≡ run closing (config s buf.old) }
 {
     let place = place::close_place(s, buf.len());
     let Answer::Accepted = place else {
@@ -186,8 +167,8 @@ pub fn close(s: State, buf: &mut [u8]) -> Closed
 
 // Whether the container below `depth` is a struct.
 fn in_struct(s: State, depth: usize) -> bool
-    requires { ⌜ depth ≤ mostOpen ⌝ }
-    ensures { λ r. ⌜ r ≡ inStruct (innermostFirst (s .containers) depth) ⌝ }
+    requires { depth ≤ most_open }
+    ensures { result ≡ in_struct (innermost_first s.containers depth) }
 {
     if depth == 0 {
         return false;
@@ -198,7 +179,7 @@ fn in_struct(s: State, depth: usize) -> bool
 
 // An abandonment: the innermost container's bytes are given back, and a name before it waits again.
 pub fn abandon(s: State, buf: &mut [u8]) -> Written
-    ensures { λ r. ⌜ outcomeOf r (now (buf .exit)) ≡ run abandonment (config s (now (buf .entry))) ⌝ }
+    ensures { outcome_of result buf.new ≡ run abandonment (config s buf.old) }
 {
     let place = place::abandon_place(s, buf.len());
     let Answer::Accepted = place else {
@@ -222,7 +203,7 @@ pub fn abandon(s: State, buf: &mut [u8]) -> Written
 
 // A version marker: E0 01 00 EA, at the place of the call.
 pub fn version_marker(s: State, buf: &mut [u8]) -> Written
-    ensures { λ r. ⌜ outcomeOf r (now (buf .exit)) ≡ run versionMarker (config s (now (buf .entry))) ⌝ }
+    ensures { outcome_of result buf.new ≡ run version_marker (config s buf.old) }
 {
     let place = place::top_place(s, buf.len());
     let Answer::Accepted = place else {
@@ -237,7 +218,7 @@ pub fn version_marker(s: State, buf: &mut [u8]) -> Written
 
 // An emptying: the used length becomes zero, and no byte alters.
 pub fn empty(s: State, buf: &[u8]) -> Written
-    ensures { λ r. ⌜ outcomeOf r (now (buf .entry)) ≡ run emptying (config s (now (buf .entry))) ⌝ }
+    ensures { outcome_of result buf.now ≡ run emptying (config s buf.now) }
 {
     let place = place::top_place(s, buf.len());
     let Answer::Accepted = place else {
@@ -255,7 +236,7 @@ pub fn empty(s: State, buf: &[u8]) -> Written
 }
 
 fn finished_length(s: State, room: usize) -> usize
-    ensures { λ r. ⌜ r ≡ finishedLength s room ⌝ }
+    ensures { result ≡ finished_length s room }
 {
     if LONGEST_BUFFER < room {
         return 0;
@@ -271,7 +252,7 @@ fn finished_length(s: State, room: usize) -> usize
 
 // A taking: the finished bytes, as a part of the lent buffer.
 pub fn finished<'a>(s: State, buf: &'a [u8]) -> &'a [u8]
-    ensures { λ r. ⌜ now r ≡ takenFrom s (now (buf .entry)) ⌝ }
+    ensures { result.now ≡ taken_from s buf.now }
 {
     let n = finished_length(s, buf.len());
     &buf[0..n]

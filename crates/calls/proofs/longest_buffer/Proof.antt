@@ -1,8 +1,8 @@
 -- `longest_buffer` has its length by the law of repeats.
 -- Assumes nothing.
-use Rattle·words.proofs.Repeated.{repeated}
-use Rattle·calls·proofs.proofs.longest_buffer.Statement.{statement}
-use Rattle·calls·proofs.proofs.longest_buffer.Tie as tie
+use Rattle.words.proofs.Repeated.{repeated}
+use Rattle.calls.proofs.longest_buffer.Statement.{statement}
+use Rattle.calls.proofs.longest_buffer.Tie as tie
 
 returns : tie.Need-returns
 returns c = repeated 2200000 238

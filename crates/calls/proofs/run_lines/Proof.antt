@@ -1,66 +1,66 @@
 -- `run_lines` is safe and ends: each line is passed with its line feed.
 -- Assumes nothing.
-use mathlib.Core.Path.{_≡_}
-use Prim.Native.Nat.{_-_, _≤_}
+use mathlib.Core.Path.{◌≡◌}
+use Prim.Native.Nat.{◌-◌, ◌≤◌}
 use lib.ListN.{length}
-use borrow.Author.Needs.{needs}
-use Rattle·calls·proofs.proofs.run_lines.Statement.{statement}
-use Rattle·calls·proofs.proofs.run_lines.Tie as tie
+use borrow.Author.Rules.{rules}
+use Rattle.calls.proofs.run_lines.Statement.{statement}
+use Rattle.calls.proofs.run_lines.Tie as tie
 
-abbrev Inv-loop : tie.InvT-loop
-Inv-loop text buf₀ state₀ at₀ buf state at = (at ≤ 65537) × (length buf ≡ length buf₀)
+abbrev invariant-loop : tie.invariant-loop
+invariant-loop text buf₀ state₀ at₀ buf state at = (at ≤ 65537) × (length buf ≡ length buf₀)
 
-abbrev μ-loop : tie.MeasureT-loop
-μ-loop text buf₀ state₀ at₀ buf state at = length text - at
+abbrev decreases-loop : tie.decreases-loop
+decreases-loop text buf₀ state₀ at₀ buf state at = length text - at
 
-fresh-requires : tie.Need-fresh-requires Inv-loop μ-loop
-fresh-requires c κs = search needs
+fresh-requires : tie.Need-fresh-requires invariant-loop decreases-loop
+fresh-requires c κs = search rules
 
-loop-holds : tie.Need-loop-holds Inv-loop μ-loop
-loop-holds c = search needs
+loop-holds : tie.Need-loop-init invariant-loop decreases-loop
+loop-holds c = search rules
 
-find-requires : tie.Need-find-requires Inv-loop μ-loop
-find-requires c κs = search needs
+find-requires : tie.Need-find-requires invariant-loop decreases-loop
+find-requires c κs = search rules
 
-find-requires-2 : tie.Need-find-requires-2 Inv-loop μ-loop
-find-requires-2 c κs = search needs
+find-requires-2 : tie.Need-find-requires-2 invariant-loop decreases-loop
+find-requires-2 c κs = search rules
 
-least-requires : tie.Need-least-requires Inv-loop μ-loop
-least-requires c κs = search needs
+least-requires : tie.Need-least-requires invariant-loop decreases-loop
+least-requires c κs = search rules
 
-sub-step : tie.Need-sub-step Inv-loop μ-loop
-sub-step c = search needs
+sub-step : tie.Need-overflow-sub-step invariant-loop decreases-loop
+sub-step c = search rules
 
-part-step-start : tie.Need-part-step-start Inv-loop μ-loop
-part-step-start c = search needs
+part-step-start : tie.Need-slice-bounds-step-start invariant-loop decreases-loop
+part-step-start c = search rules
 
-part-step-end : tie.Need-part-step-end Inv-loop μ-loop
-part-step-end c = search needs
+part-step-end : tie.Need-slice-bounds-step-end invariant-loop decreases-loop
+part-step-end c = search rules
 
-step-requires : tie.Need-step-requires Inv-loop μ-loop
-step-requires c κs = search needs
+step-requires : tie.Need-step-requires invariant-loop decreases-loop
+step-requires c κs = search rules
 
-add-at : tie.Need-add-at Inv-loop μ-loop
-add-at c = search needs
+add_at : tie.Need-overflow-add-at invariant-loop decreases-loop
+add_at c = search rules
 
-loop-less : tie.Need-loop-less Inv-loop μ-loop
-loop-less c = search needs
+loop-less : tie.Need-loop-smaller invariant-loop decreases-loop
+loop-less c = search rules
 
-loop-again : tie.Need-loop-again Inv-loop μ-loop
-loop-again c = search needs
+loop-again : tie.Need-loop-preserved invariant-loop decreases-loop
+loop-again c = search rules
 
-same-length : tie.Need-same-length Inv-loop μ-loop
-same-length c = search needs
+same_length : tie.Need-same-length invariant-loop decreases-loop
+same_length c = search rules
 
-returns : tie.Need-returns Inv-loop μ-loop
-returns c = search needs
+returns : tie.Need-returns invariant-loop decreases-loop
+returns c = search rules
 
 pub run-lines-spec : {M : Type 1} → statement M
 run-lines-spec =
     tie.close
     (tie.spec
-    Inv-loop
-    μ-loop
+    invariant-loop
+    decreases-loop
     fresh-requires
     loop-holds
     find-requires
@@ -70,8 +70,8 @@ run-lines-spec =
     part-step-start
     part-step-end
     step-requires
-    add-at
+    add_at
     loop-less
     loop-again
-    same-length
+    same_length
     returns)

@@ -1,115 +1,115 @@
 -- `decimal::put_body` meets its contract: the exponent and the coefficient side by side.
 -- Assumes nothing.
-use mathlib.Core.Path.{_≡_, sym, ap, _∙_}
+use mathlib.Core.Path.{◌≡◌, sym, ap, ◌∙◌}
 use mathlib.Core.Bool.{not}
-use mathlib.Core.List.{List, _++_}
-use Prim.Native.Nat.{ℕ, _+_, _≤_}
+use mathlib.Core.List.{List, ◌++◌}
+use Prim.Native.Nat.{ℕ, ◌+◌, ◌≤◌}
 use native.Mathlib.Omega.{arith}
 use lib.ListN.{length, length-append}
-use lib.IntN.{natAbs}
-use lib.Signed.{nonNeg}
+use lib.IntN.{nat_abs}
+use lib.Signed.{non_neg}
 use mir.Syntax.{w64}
-use mir.ValLaws.{toZ-ofZ}
-use Rattle·buffer.specs.Laid.{placed}
-use Rattle·buffer.proofs.Laid.{placed-nil, placed-then, placed-count}
-use Rattle·encoding.specs.Fields.{varIntBytes, signedOf, trimmed, intBytes}
-use Rattle·encoding.specs.Decimal.{decimalBody}
-use Rattle·encoding.proofs.Signs.{signedOf-is}
-use Rattle·decimal·proofs.proofs.Decimals.{decimalBody-parts, decimalBody-empty}
-use borrow.Author.Needs.{needs}
-use Rattle·decimal·proofs.proofs.put_body.Statement.{statement}
-use Rattle·decimal·proofs.proofs.put_body.Tie as tie
+use mir.ValLaws.{to_z-of_z}
+use Rattle.buffer.specs.Laid.{placed}
+use Rattle.buffer.proofs.Laid.{placed_nil, placed_then, placed_count}
+use Rattle.encoding.specs.Fields.{var_int_bytes, signed_of, trimmed, int_bytes}
+use Rattle.encoding.specs.Decimal.{decimal_body}
+use Rattle.encoding.proofs.Signs.{signed_of_is}
+use Rattle.decimal.proofs.Decimals.{decimal_body_parts, decimal_body_empty}
+use borrow.Author.Rules.{rules}
+use Rattle.decimal.proofs.put_body.Statement.{statement}
+use Rattle.decimal.proofs.put_body.Tie as tie
 
 returns : tie.Need-returns
 returns c =
-    let s = c .before .before .before in
-    let a = s .args in
-    rw (decimalBody-empty (a .negative) (a .magnitude .now) (a .exponent) (omega (arith, s .pre .0, c .if1 .taken))) (sym (placed-nil (a .buf .now) (a .at)))
+    let s = c.before.before.before in
+    let a = s.args in
+    rw (decimal_body_empty a.negative a.magnitude.now a.exponent (omega (arith, s.requires.0, c.if1.true))) (sym (placed_nil a.buf.now a.at))
 
 -- the exponent's bytes, and the coefficient's
-parts : (c : tie.Else1) → let a = c .before .before .before .args in
-    decimalBody (a .negative) (a .magnitude .now) (a .exponent)
-    ≡ varIntBytes (signedOf (a .exponent)) ++ intBytes (a .negative) (trimmed (a .magnitude .now))
+parts : (c : tie.Else1) → let a = c.before.before.before.args in
+    decimal_body a.negative a.magnitude.now a.exponent
+    ≡ var_int_bytes (signed_of a.exponent) ++ int_bytes a.negative (trimmed a.magnitude.now)
 parts c =
-    let s = c .before .before .before in
-    decimalBody-parts (s .args .negative) (s .args .magnitude .now) (s .args .exponent) (λ z. c .if1 .left (s .pre .0 ∙ z))
+    let s = c.before.before.before in
+    decimal_body_parts s.args.negative s.args.magnitude.now s.args.exponent (λ z. c.if1.false (s.requires.0 ∙ z))
 
 room : (c : tie.Else1) →
-    let a = c .before .before .before .args in
-    a .at + (length (varIntBytes (signedOf (a .exponent))) + length (intBytes (a .negative) (trimmed (a .magnitude .now)))) ≤ length (a .buf .now)
+    let a = c.before.before.before.args in
+    a.at + (length (var_int_bytes (signed_of a.exponent)) + length (int_bytes a.negative (trimmed a.magnitude.now))) ≤ length a.buf.now
 room c =
-    let s = c .before .before .before in
+    let s = c.before.before.before in
     omega (
       arith,
-      s .pre,
+      s.requires,
       ap length (parts c),
-      length-append (varIntBytes (signedOf (s .args .exponent))) (intBytes (s .args .negative) (trimmed (s .args .magnitude .now))),
+      length-append (var_int_bytes (signed_of s.args.exponent)) (int_bytes s.args.negative (trimmed s.args.magnitude.now)),
     )
 
 first : (c : tie.After-write) →
-    let a = c .before .before .before .before .before .before .before .args in
-    _≡_ {A = ℕ × List ℕ} (c .write .result, c .write .last .0) (placed (a .buf .now) (a .at) (varIntBytes (signedOf (a .exponent))))
+    let a = c.before.before.before.before.before.before.before.args in
+    ◌≡◌ {A = ℕ × List ℕ} (c.write.result, c.write.new.0) (placed a.buf.now a.at (var_int_bytes (signed_of a.exponent)))
 first c =
-    let m = c .before in
-    let s = m .before .before .before .before .before .before in
-    let k = toZ-ofZ w64 (s .args .exponent) (s .fits .exponent) in
-    let d : m .magnitude .result ≡ natAbs (s .args .exponent) = rw (m .magnitude .ensures, k) in
-    let n : m .before .is-negative .result ≡ not (nonNeg (s .args .exponent)) = rw (m .before .is-negative .ensures, k) in
-    rw (signedOf-is (s .args .exponent), ← d, ← n) (c .write .ensures)
+    let m = c.before in
+    let s = m.before.before.before.before.before.before in
+    let k = to_z-of_z w64 s.args.exponent s.ranges.exponent in
+    let d : m.magnitude.result ≡ nat_abs s.args.exponent = rw (m.magnitude.ensures, k) in
+    let n : m.before.is_negative.result ≡ not (non_neg s.args.exponent) = rw (m.before.is_negative.ensures, k) in
+    rw (signed_of_is s.args.exponent, ← d, ← n) c.write.ensures
 
-one : (c : tie.After-write) → c .write .result ≡ length (varIntBytes (signedOf (c .before .before .before .before .before .before .before .args .exponent)))
+one : (c : tie.After-write) → c.write.result ≡ length (var_int_bytes (signed_of c.before.before.before.before.before.before.before.args.exponent))
 one c =
-    let e = c .before .before .before .before in
-    let a = e .before .before .before .args in
-    placed-count (a .buf .now) (a .at) (varIntBytes (signedOf (a .exponent))) (c .write .result) (c .write .last .0) (first c) (omega (arith, room e))
+    let e = c.before.before.before.before in
+    let a = e.before.before.before.args in
+    placed_count a.buf.now a.at (var_int_bytes (signed_of a.exponent)) c.write.result c.write.new.0 (first c) (omega (arith, room e))
 
 whole : (c : tie.After-write2) →
-    let w = c .before .before .before .before in
-    let a = w .before .before .before .before .before .before .before .args in
-    _≡_ {A = ℕ × List ℕ} (w .write .result + c .write2 .result, c .write2 .last .0)
-    (placed (a .buf .now) (a .at) (decimalBody (a .negative) (a .magnitude .now) (a .exponent)))
+    let w = c.before.before.before.before in
+    let a = w.before.before.before.before.before.before.before.args in
+    ◌≡◌ {A = ℕ × List ℕ} (w.write.result + c.write2.result, c.write2.new.0)
+    (placed a.buf.now a.at (decimal_body a.negative a.magnitude.now a.exponent))
 whole c =
-    let w = c .before .before .before .before in
-    let e = w .before .before .before .before in
-    let a = e .before .before .before .args in
+    let w = c.before.before.before.before in
+    let e = w.before.before.before.before in
+    let a = e.before.before.before.args in
     rw (parts e)
-    (placed-then (a .buf .now) (a .at) (varIntBytes (signedOf (a .exponent))) (w .write .result) (w .write .last .0) (first w)
-    (intBytes (a .negative) (trimmed (a .magnitude .now))) (c .write2 .result) (c .write2 .last .0) (room e) (c .write2 .ensures))
+    (placed_then a.buf.now a.at (var_int_bytes (signed_of a.exponent)) w.write.result w.write.new.0 (first w)
+    (int_bytes a.negative (trimmed a.magnitude.now)) c.write2.result c.write2.new.0 (room e) c.write2.ensures)
 
 is-negative-requires : tie.Need-is-negative-requires
-is-negative-requires c κs = search needs
+is-negative-requires c κs = search rules
 
 magnitude-requires : tie.Need-magnitude-requires
-magnitude-requires c κs = search needs
+magnitude-requires c κs = search rules
 
 write-requires : tie.Need-write-requires
-write-requires c κs = search needs
+write-requires c κs = search rules
 
-add-write : tie.Need-add-write
-add-write c = let w = c .before .before .before in omega (arith, one w, room (w .before .before .before .before))
+add-write : tie.Need-overflow-add-write
+add-write c = let w = c.before.before.before in omega (arith, one w, room w.before.before.before.before)
 
 write-requires-2 : tie.Need-write-requires-2
-write-requires-2 c κs = search needs
+write-requires-2 c κs = search rules
 
-add-result : tie.Need-add-result
+add-result : tie.Need-overflow-add-result
 add-result c =
-    let v = c .before .before in
-    let w = v .before .before .before .before in
-    let s = w .before .before .before .before .before .before .before in
-    let a = s .args in
-    let out = decimalBody (a .negative) (a .magnitude .now) (a .exponent) in
+    let v = c.before.before in
+    let w = v.before.before.before.before in
+    let s = w.before.before.before.before.before.before.before in
+    let a = s.args in
+    let out = decimal_body a.negative a.magnitude.now a.exponent in
     omega (
       arith,
-      s .pre,
-      placed-count (a .buf .now) (a .at) out (w .write .result + v .write2 .result) (v .write2 .last .0) (whole v)
-          (rw (s .pre .0) at (s .pre .1)),
+      s.requires,
+      placed_count a.buf.now a.at out (w.write.result + v.write2.result) v.write2.new.0 (whole v)
+          (rw s.requires.0 at s.requires.1),
     )
 
-same-length : tie.Need-same-length
-same-length c = search needs
+same_length : tie.Need-same-length
+same_length c = search rules
 
 returns-2 : tie.Need-returns-2
-returns-2 c = whole (c .before .before)
+returns-2 c = whole c.before.before
 
 pub put-body-spec : {M : Type 1} → statement M
 put-body-spec =
@@ -122,5 +122,5 @@ put-body-spec =
     add-write
     write-requires-2
     add-result
-    same-length
+    same_length
     returns-2)

@@ -1,17 +1,17 @@
 -- `entry_numbers::fraction_of` meets its contract: given, or not.
 -- Assumes nothing.
-use borrow.Author.Tests.{eq-eqb, ne-eqb}
-use Rattle·entry_numbers·specs.specs.Lent.{fractionLent}
-use Rattle·entry_numbers·proofs.proofs.fraction_of.Statement.{statement}
-use Rattle·entry_numbers·proofs.proofs.fraction_of.Tie as tie
+use borrow.Author.Tests.{eq-eqb, ne_eqb}
+use Rattle.entry_numbers.specs.Lent.{fraction_lent}
+use Rattle.entry_numbers.proofs.fraction_of.Statement.{statement}
+use Rattle.entry_numbers.proofs.fraction_of.Tie as tie
 
 returns : tie.Need-returns
-unfolding fractionLent
-returns c = rw (eq-eqb (c .before .args .given) 0 (c .if1 .taken), fractionLent)
+unfolding fraction_lent
+returns c = rw (eq-eqb c.before.args.given 0 c.if1.true, fraction_lent)
 
 returns-2 : tie.Need-returns-2
-unfolding fractionLent
-returns-2 c = rw (ne-eqb (c .before .args .given) 0 (c .if1 .left), fractionLent)
+unfolding fraction_lent
+returns-2 c = rw (ne_eqb c.before.args.given 0 c.if1.false, fraction_lent)
 
 pub fraction-of-spec : {M : Type 1} → statement M
 fraction-of-spec = tie.close (tie.spec returns returns-2)

@@ -1,85 +1,85 @@
 -- `entry_slices::gm_write_int` meets its contract: refused by place, by the value's own checks or for room, or put at the end of the used bytes.
 -- Assumes nothing.
-use mathlib.Core.Path.{sym, _∙_}
+use mathlib.Core.Path.{sym, ◌∙◌}
 use mathlib.Core.Bool.{not}
 use lib.Dec.{eqb}
 use borrow.Author.Tests.{not-true, not-false}
-use Rattle·encoding.specs.Argument.{writeInt}
-use Rattle·annotations.specs.Sids.{sidsOf}
-use Rattle·machine.specs.declared.Refusal.the-variants.{NoRoom}
-use Rattle·entry_steps.proofs.Values.{value-barred, value-refused, value-ended}
-use borrow.Author.Needs.{needs}
-use Rattle·entry_slices·proofs.proofs.gm_write_int.Statement.{statement}
-use Rattle·entry_slices·proofs.proofs.gm_write_int.Tie as tie
+use Rattle.encoding.specs.Argument.{write_int}
+use Rattle.annotations.specs.Sids.{sids_of}
+use Rattle.machine.specs.declared.Refusal.TheVariants.{NoRoom}
+use Rattle.entry_steps.proofs.Values.{value_barred, value_refused, value_ended}
+use borrow.Author.Rules.{rules}
+use Rattle.entry_slices.proofs.gm_write_int.Statement.{statement}
+use Rattle.entry_slices.proofs.gm_write_int.Tie as tie
 
 value-passes-requires : tie.Need-value-passes-requires
-value-passes-requires c κs = search needs
+value-passes-requires c κs = search rules
 
 value-place-requires : tie.Need-value-place-requires
-value-place-requires c κs = search needs
+value-place-requires c κs = search rules
 
 answered-requires : tie.Need-answered-requires
-answered-requires c κs = search needs
+answered-requires c κs = search rules
 
-same-length : tie.Need-same-length
-same-length c = search needs
+same_length : tie.Need-same-length
+same_length c = search rules
 
 returns : tie.Need-returns
 returns c =
-    let a = c .before .before .before .before .before .before .before .before .before .before .args in
-    value-barred (sidsOf (a .annotations .now)) (writeInt (not (eqb (a .negative) 0)) (a .magnitude .now)) (a .state .now) (a .buf .now)
-    (c .before .value-place .result) (c .answered .result)
-    (sym (c .before .before .before .before .value-passes .ensures) ∙ not-true _ (c .before .before .before .if1 .taken))
-    (c .before .value-place .ensures) (c .answered .ensures)
+    let a = c.before.before.before.before.before.before.before.before.before.before.args in
+    value_barred (sids_of a.annotations.now) (write_int (not (eqb a.negative 0)) a.magnitude.now) a.state.now a.buf.now
+    c.before.value-place.result c.answered.result
+    (sym c.before.before.before.before.value-Passes.ensures ∙ not-true _ c.before.before.before.if1.true)
+    c.before.value-place.ensures c.answered.ensures
 
 used-requires : tie.Need-used-requires
-used-requires c κs = search needs
+used-requires c κs = search rules
 
 write-int-requires : tie.Need-write-int-requires
-write-int-requires c κs = search needs
+write-int-requires c κs = search rules
 
 int-refusal-requires : tie.Need-int-refusal-requires
-int-refusal-requires c κs = search needs
+int-refusal-requires c κs = search rules
 
 number-of-requires : tie.Need-number-of-requires
-number-of-requires c κs = search needs
+number-of-requires c κs = search rules
 
 same-length-2 : tie.Need-same-length-2
-same-length-2 c = search needs
+same-length-2 c = search rules
 
 same-length-3 : tie.Need-same-length-3
-same-length-3 c = search needs
+same-length-3 c = search rules
 
 returns-2 : tie.Need-returns-2
 returns-2 c =
-    let d = c .before .before .before .before .before in
-    let e = d .before .before .before .before .before in
-    let a = e .before .before .before .before .before .before .args in
-    rw (c .number-of .ensures) (value-refused (sidsOf (a .annotations .now)) (writeInt (not (eqb (a .negative) 0)) (a .magnitude .now))
-    (a .state .now) (a .buf .now) (sym (e .value-passes .ensures) ∙ not-false _ (d .before .before .before .before .if1 .left))
-    (d .write-int .result) (d .write-int .last .0) (rw (d .before .used .ensures) at (d .write-int .ensures))
-    (c .before .int-refusal .result) (c .before .before .if2 .taken) (c .before .int-refusal .ensures))
+    let d = c.before.before.before.before.before in
+    let e = d.before.before.before.before.before in
+    let a = e.before.before.before.before.before.before.args in
+    rw c.number_of_lem.ensures (value_refused (sids_of a.annotations.now) (write_int (not (eqb a.negative 0)) a.magnitude.now)
+    a.state.now a.buf.now (sym e.value-Passes.ensures ∙ not-false _ d.before.before.before.before.if1.false)
+    d.write-int.result d.write-int.new.0 (rw d.before.used.ensures at d.write-int.ensures)
+    c.before.int-refusal.result c.before.before.if2.true c.before.int-refusal.ensures)
 
 scalar-ended-requires : tie.Need-scalar-ended-requires
-scalar-ended-requires c κs = search needs
+scalar-ended-requires c κs = search rules
 
 same-length-4 : tie.Need-same-length-4
-same-length-4 c = search needs
+same-length-4 c = search rules
 
 same-length-5 : tie.Need-same-length-5
-same-length-5 c = search needs
+same-length-5 c = search rules
 
 returns-3 : tie.Need-returns-3
 returns-3 c =
-    let d = c .before .before in
-    let e = d .before .before .before .before .before in
-    let f = e .before .before .before .before .before in
-    let a = f .before .before .before .before .before .before .args in
-    value-ended (sidsOf (a .annotations .now)) (writeInt (not (eqb (a .negative) 0)) (a .magnitude .now)) (a .state .now) (a .buf .now)
-    (sym (f .value-passes .ensures) ∙ not-false _ (e .before .before .before .before .if1 .left)) (e .write-int .result)
-    (e .write-int .last .0) (rw (e .before .used .ensures) at (e .write-int .ensures)) NoRoom
-    (λ z. absurd (d .before .before .if2 .left z)) (d .scalar-ended .result) (d .scalar-ended .last .0) (d .scalar-ended .ensures .0)
-    (d .scalar-ended .ensures .1)
+    let d = c.before.before in
+    let e = d.before.before.before.before.before in
+    let f = e.before.before.before.before.before in
+    let a = f.before.before.before.before.before.before.args in
+    value_ended (sids_of a.annotations.now) (write_int (not (eqb a.negative 0)) a.magnitude.now) a.state.now a.buf.now
+    (sym f.value-Passes.ensures ∙ not-false _ e.before.before.before.before.if1.false) e.write-int.result
+    e.write-int.new.0 (rw e.before.used.ensures at e.write-int.ensures) NoRoom
+    (λ z. absurd (d.before.before.if2.false z)) d.scalar-ended.result d.scalar-ended.new.0 d.scalar-ended.ensures.0
+    d.scalar-ended.ensures.1
 
 pub gm-write-int-spec : {M : Type 1} → statement M
 gm-write-int-spec =
@@ -88,7 +88,7 @@ gm-write-int-spec =
     value-passes-requires
     value-place-requires
     answered-requires
-    same-length
+    same_length
     returns
     used-requires
     write-int-requires

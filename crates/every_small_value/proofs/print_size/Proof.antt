@@ -1,89 +1,89 @@
 -- `print_size` is safe and ends: each turn the number rises, and the lines that wait fit.
 -- Assumes nothing.
-use Prim.Native.Nat.{_+_, _-_, _≤_}
+use Prim.Native.Nat.{◌+◌, ◌-◌, ◌≤◌}
 use native.Mathlib.Omega.{arith}
-use mathlib.Core.Path.{_≡_}
+use mathlib.Core.Path.{◌≡◌}
 use lib.ListN.{length}
-use borrow.Author.Needs.{needs}
-use Rattle·small_values.specs.Listing.{limit}
-use Rattle·small_values.proofs.Yields.{next-from}
-use Rattle·every_small_value·proofs.proofs.print_size.Statement.{statement}
-use Rattle·every_small_value·proofs.proofs.print_size.Tie as tie
+use borrow.Author.Rules.{rules}
+use Rattle.small_values.specs.Listing.{limit}
+use Rattle.small_values.proofs.Yields.{next-from}
+use Rattle.every_small_value.proofs.print_size.Statement.{statement}
+use Rattle.every_small_value.proofs.print_size.Tie as tie
 
-abbrev Inv-loop : tie.InvT-loop
-Inv-loop size out₀ used₀ number₀ out used number = (used ≤ 65536) × (length out ≡ 65536)
+abbrev invariant-loop : tie.invariant-loop
+invariant-loop size out₀ used₀ number₀ out used number = (used ≤ 65536) × (length out ≡ 65536)
 
-abbrev μ-loop : tie.MeasureT-loop
-μ-loop size out₀ used₀ number₀ out used number = limit size - number
+abbrev decreases-loop : tie.decreases-loop
+decreases-loop size out₀ used₀ number₀ out used number = limit size - number
 
-large-buffer-requires : tie.Need-large-buffer-requires Inv-loop μ-loop
-large-buffer-requires c κs = search needs
+large-buffer-requires : tie.Need-large-buffer-requires invariant-loop decreases-loop
+large-buffer-requires c κs = search rules
 
-next-requires : tie.Need-next-requires Inv-loop μ-loop
-next-requires c κs = search needs
+next-requires : tie.Need-next-requires invariant-loop decreases-loop
+next-requires c κs = search rules
 
-loop-holds : tie.Need-loop-holds Inv-loop μ-loop
-loop-holds c = search needs
+loop-holds : tie.Need-loop-init invariant-loop decreases-loop
+loop-holds c = search rules
 
-limit-requires : tie.Need-limit-requires Inv-loop μ-loop
-limit-requires c κs = search needs
+limit-requires : tie.Need-limit-requires invariant-loop decreases-loop
+limit-requires c κs = search rules
 
-sub-print-waiting : tie.Need-sub-print-waiting Inv-loop μ-loop
-sub-print-waiting c = search needs
+sub-print-waiting : tie.Need-overflow-sub-print-waiting invariant-loop decreases-loop
+sub-print-waiting c = search rules
 
-part-print-waiting-start : tie.Need-part-print-waiting-start Inv-loop μ-loop
-part-print-waiting-start c = search needs
+part-print-waiting-start : tie.Need-slice-bounds-print-waiting-start invariant-loop decreases-loop
+part-print-waiting-start c = search rules
 
-part-print-waiting-end : tie.Need-part-print-waiting-end Inv-loop μ-loop
-part-print-waiting-end c = search needs
+part-print-waiting-end : tie.Need-slice-bounds-print-waiting-end invariant-loop decreases-loop
+part-print-waiting-end c = search rules
 
-print-waiting-requires : tie.Need-print-waiting-requires Inv-loop μ-loop
-print-waiting-requires c κs = search needs
+print-waiting-requires : tie.Need-print-waiting-requires invariant-loop decreases-loop
+print-waiting-requires c κs = search rules
 
-returns : tie.Need-returns Inv-loop μ-loop
-returns c = search needs
+returns : tie.Need-returns invariant-loop decreases-loop
+returns c = search rules
 
-slice-aggregate-put-line : tie.Need-slice-aggregate-put-line Inv-loop μ-loop
-slice-aggregate-put-line c = search needs
+slice-aggregate-put-line : tie.Need-slice-aggregate-put-line invariant-loop decreases-loop
+slice-aggregate-put-line c = search rules
 
-put-line-requires : tie.Need-put-line-requires Inv-loop μ-loop
-put-line-requires c κs = search needs
+put-line-requires : tie.Need-put-line-requires invariant-loop decreases-loop
+put-line-requires c κs = search rules
 
-add-next : tie.Need-add-next Inv-loop μ-loop
-add-next c = search needs
+add-next : tie.Need-overflow-add-next invariant-loop decreases-loop
+add-next c = search rules
 
-next-requires-2 : tie.Need-next-requires-2 Inv-loop μ-loop
-next-requires-2 c κs = search needs
+next-requires-2 : tie.Need-next-requires-2 invariant-loop decreases-loop
+next-requires-2 c κs = search rules
 
-loop-less : tie.Need-loop-less Inv-loop μ-loop
+loop-less : tie.Need-loop-smaller invariant-loop decreases-loop
 loop-less c =
-    let m = c .before .before .before .before .before .before .before .before .before .before .before in
-    omega (arith, next-from (m .before .before .before .args .size) (m .loop .number + 1))
+    let m = c.before.before.before.before.before.before.before.before.before.before.before in
+    omega (arith, next-from m.before.before.before.args.size (m.loop.number + 1))
 
-loop-again : tie.Need-loop-again Inv-loop μ-loop
-loop-again c = search needs
+loop-again : tie.Need-loop-preserved invariant-loop decreases-loop
+loop-again c = search rules
 
-sub-print : tie.Need-sub-print Inv-loop μ-loop
-sub-print c = search needs
+sub-print : tie.Need-overflow-sub-print invariant-loop decreases-loop
+sub-print c = search rules
 
-part-print-start : tie.Need-part-print-start Inv-loop μ-loop
-part-print-start c = search needs
+part-print-start : tie.Need-slice-bounds-print-start invariant-loop decreases-loop
+part-print-start c = search rules
 
-part-print-end : tie.Need-part-print-end Inv-loop μ-loop
-part-print-end c = search needs
+part-print-end : tie.Need-slice-bounds-print-end invariant-loop decreases-loop
+part-print-end c = search rules
 
-print-requires : tie.Need-print-requires Inv-loop μ-loop
-print-requires c κs = search needs
+print-requires : tie.Need-print-requires invariant-loop decreases-loop
+print-requires c κs = search rules
 
-returns-2 : tie.Need-returns-2 Inv-loop μ-loop
-returns-2 c = search needs
+returns-2 : tie.Need-returns-2 invariant-loop decreases-loop
+returns-2 c = search rules
 
 pub print-size-spec : {M : Type 1} → statement M
 print-size-spec =
     tie.close
     (tie.spec
-    Inv-loop
-    μ-loop
+    invariant-loop
+    decreases-loop
     large-buffer-requires
     next-requires
     loop-holds

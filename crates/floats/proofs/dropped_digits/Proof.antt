@@ -1,13 +1,13 @@
 -- By the two ranges of x, each by arithmetic.
 -- Assumes nothing.
 use native.Mathlib.Omega.{arith}
-use Rattle·floats·proofs.proofs.dropped_digits.Statement.{statement}
-use Rattle·floats·proofs.proofs.dropped_digits.Tie as tie
+use Rattle.floats.proofs.dropped_digits.Statement.{statement}
+use Rattle.floats.proofs.dropped_digits.Tie as tie
 
-sub-if1 : tie.Need-sub-if1
+sub-if1 : tie.Need-overflow-sub-if1
 sub-if1 c = omega arith
 
-sub-result : tie.Need-sub-result
+sub-result : tie.Need-overflow-sub-result
 sub-result c = omega arith
 
 returns : tie.Need-returns

@@ -1,64 +1,64 @@
 -- The loop's invariant: with the digits that are left laid into what the buffer is, it is what it is to be.
 -- Assumes nothing.
-use Prim.Native.Nat.{_≤_}
-use mathlib.Core.Path.{_≡_, refl, sym, _∙_}
+use Prim.Native.Nat.{◌≤◌}
+use mathlib.Core.Path.{◌≡◌, refl, sym, ◌∙◌}
 use native.Mathlib.Omega.{arith}
 use lib.ListN.{length, length-set}
-use Rattle·buffer.specs.Laid.{laid}
-use Rattle·buffer.proofs.Laid.{laid-nil}
-use Rattle·encoding.specs.Digits.{lowDigits}
-use Rattle·encoding.specs.Fields.{fixedBytes}
-use Rattle·floats·proofs.proofs.Laid.{laid-digit}
-use Rattle·floats·proofs.proofs.fill.Statement.{statement}
-use Rattle·floats·proofs.proofs.fill.Tie as tie
+use Rattle.buffer.specs.Laid.{laid}
+use Rattle.buffer.proofs.Laid.{laid_nil}
+use Rattle.encoding.specs.Digits.{low_digits}
+use Rattle.encoding.specs.Fields.{fixed_bytes}
+use Rattle.floats.proofs.Laid.{laid_digit}
+use Rattle.floats.proofs.fill.Statement.{statement}
+use Rattle.floats.proofs.fill.Tie as tie
 
-abbrev Inv-loop : tie.InvT-loop
-Inv-loop buf₀ at size n rest₀ i₀ buf rest i =
-    (i ≤ size) × (length buf ≡ length buf₀) × (laid buf at (lowDigits 256 i rest) ≡ laid buf₀ at (lowDigits 256 size n))
+abbrev invariant-loop : tie.invariant-loop
+invariant-loop buf₀ at size n rest₀ i₀ buf rest i =
+    (i ≤ size) × (length buf ≡ length buf₀) × (laid buf at (low_digits 256 i rest) ≡ laid buf₀ at (low_digits 256 size n))
 
-abbrev μ-loop : tie.MeasureT-loop
-μ-loop buf₀ at size n rest₀ i₀ buf rest i = i
+abbrev decreases-loop : tie.decreases-loop
+decreases-loop buf₀ at size n rest₀ i₀ buf rest i = i
 
-loop-holds : tie.Need-loop-holds Inv-loop μ-loop
+loop-holds : tie.Need-loop-init invariant-loop decreases-loop
 loop-holds c = (omega arith, refl, refl)
 
-sub-i : tie.Need-sub-i Inv-loop μ-loop
+sub-i : tie.Need-overflow-sub-i invariant-loop decreases-loop
 sub-i c = omega arith
 
-cast-buf : tie.Need-cast-buf Inv-loop μ-loop
+cast-buf : tie.Need-overflow-cast-buf invariant-loop decreases-loop
 cast-buf c = omega arith
 
-add-buf : tie.Need-add-buf Inv-loop μ-loop
+add-buf : tie.Need-overflow-add-buf invariant-loop decreases-loop
 add-buf c = omega arith
 
-slice-write-buf : tie.Need-slice-write-buf Inv-loop μ-loop
+slice-write-buf : tie.Need-slice-write-buf invariant-loop decreases-loop
 slice-write-buf c = omega arith
 
-loop-less : tie.Need-loop-less Inv-loop μ-loop
+loop-less : tie.Need-loop-smaller invariant-loop decreases-loop
 loop-less c = omega arith
 
-loop-again : tie.Need-loop-again Inv-loop μ-loop
+loop-again : tie.Need-loop-preserved invariant-loop decreases-loop
 loop-again c =
-    let l = c .before .loop in
-    let a = c .before .before .args in
-    (omega arith, simp length-set (omega arith), laid-digit (l .buf) (a .at) (l .i) (l .rest) (omega arith) (omega arith) ∙ l .inv .2)
+    let l = c.before.loop in
+    let a = c.before.before.args in
+    (omega arith, simp length-set (omega arith), laid_digit l.buf a.at l.i l.rest (omega arith) (omega arith) ∙ l.invariant.2)
 
-same-length : tie.Need-same-length Inv-loop μ-loop
-same-length c = omega arith
+same_length : tie.Need-same-length invariant-loop decreases-loop
+same_length c = omega arith
 
-returns : tie.Need-returns Inv-loop μ-loop
-unfolding fixedBytes lowDigits
+returns : tie.Need-returns invariant-loop decreases-loop
+unfolding fixed_bytes low_digits
 returns c =
-    let l = c .before .loop in
-    let z : l .i ≡ 0 = omega arith in
-    sym (laid-nil (l .buf) (c .before .before .args .at)) ∙ rw z at (l .inv .2)
+    let l = c.before.loop in
+    let z : l.i ≡ 0 = omega arith in
+    sym (laid_nil l.buf c.before.before.args.at) ∙ rw z at l.invariant.2
 
-pub fill-spec : {M : Type 1} → statement M
-fill-spec =
+pub fill_spec : {M : Type 1} → statement M
+fill_spec =
     tie.close
     (tie.spec
-    Inv-loop
-    μ-loop
+    invariant-loop
+    decreases-loop
     loop-holds
     sub-i
     cast-buf
@@ -66,5 +66,5 @@ fill-spec =
     slice-write-buf
     loop-less
     loop-again
-    same-length
+    same_length
     returns)

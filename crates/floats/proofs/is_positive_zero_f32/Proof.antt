@@ -3,16 +3,16 @@
 use mathlib.Core.Path.{sym, subst}
 use lib.Dec.{T}
 use lib.Ieee.{binary32}
-use Rattle·floats·proofs.proofs.Special.{positive-zero}
-use borrow.Author.Needs.{needs}
-use Rattle·floats·proofs.proofs.is_positive_zero_f32.Statement.{statement}
-use Rattle·floats·proofs.proofs.is_positive_zero_f32.Tie as tie
+use Rattle.floats.proofs.Special.{positive_zero}
+use borrow.Author.Rules.{rules}
+use Rattle.floats.proofs.is_positive_zero_f32.Statement.{statement}
+use Rattle.floats.proofs.is_positive_zero_f32.Tie as tie
 
 bits-of-f32-requires : tie.Need-bits-of-f32-requires
-bits-of-f32-requires c κs = search needs
+bits-of-f32-requires c κs = search rules
 
 returns : tie.Need-returns
-returns c = positive-zero binary32 (c .before .args .v) (c .bits-of-f32 .result) (subst T (sym (c .before .good .0 .1)) tt) (c .bits-of-f32 .ensures)
+returns c = positive_zero binary32 c.before.args.v c.bits-of-f32.result (subst T (sym c.before.well-formed.0.1) tt) c.bits-of-f32.ensures
 
 pub is-positive-zero-f32-spec : {M : Type 1} → statement M
 is-positive-zero-f32-spec = tie.close (tie.spec bits-of-f32-requires returns)

@@ -1,28 +1,28 @@
 -- `place::name_place` meets its contract: line 3 counts only of a state that fits, and there the innermost container is looked up.
 -- Assumes nothing.
-use mathlib.Core.Path.{sym, _∙_, ap}
-use mathlib.Core.Bool.{Bool, not, _||_}
-use Rattle·machine.specs.Machine.{openContainers, inStruct}
-use Rattle·place·proofs.proofs.Laws.{fits-depth}
-use borrow.Author.Needs.{needs}
-use Rattle·place·proofs.proofs.name_place.Statement.{statement}
-use Rattle·place·proofs.proofs.name_place.Tie as tie
+use mathlib.Core.Path.{sym, ◌∙◌, ap}
+use mathlib.Core.Bool.{Bool, not, ◌||◌}
+use Rattle.machine.specs.Machine.{open_containers, in_struct}
+use Rattle.place.proofs.Laws.{fits_depth}
+use borrow.Author.Rules.{rules}
+use Rattle.place.proofs.name_place.Statement.{statement}
+use Rattle.place.proofs.name_place.Tie as tie
 
 in-struct-requires : tie.Need-in-struct-requires
-in-struct-requires c κs = search needs
+in-struct-requires c κs = search rules
 
 state-fits-requires : tie.Need-state-fits-requires
-state-fits-requires c κs = search needs
+state-fits-requires c κs = search rules
 
 judged-requires : tie.Need-judged-requires
-judged-requires c κs = search needs
+judged-requires c κs = search rules
 
 returns : tie.Need-returns
 returns c =
-    let a = c .before .before .before .before .args in
-    c .judged .ensures (a .s) (not (inStruct (openContainers (a .s))) || a .s .waiting) (c .before .state-fits .ensures)
-    (λ f. ap (λ (x : Bool). not x || a .s .waiting)
-    (c .before .before .before .in-struct .ensures (fits-depth (a .s) (a .room) (sym (c .before .state-fits .ensures) ∙ f))))
+    let a = c.before.before.before.before.args in
+    c.judged.ensures a.s (not (in_struct (open_containers a.s)) || a.s.waiting) c.before.state-fits.ensures
+    (λ f. ap (λ (x : Bool). not x || a.s.waiting)
+    (c.before.before.before.in_struct.ensures (fits_depth a.s a.room (sym c.before.state-fits.ensures ∙ f))))
 
 pub name-place-spec : {M : Type 1} → statement M
 name-place-spec =

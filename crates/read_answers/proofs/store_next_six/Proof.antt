@@ -1,42 +1,42 @@
 -- `store_next_six` meets its contract: the stores, one after the other.
 -- Assumes nothing.
-use borrow.Author.Needs.{needs}
-use Rattle·read_answers·proofs.proofs.Laid.{laid-six}
-use Rattle·read_answers·proofs.proofs.store_next_six.Statement.{statement}
-use Rattle·read_answers·proofs.proofs.store_next_six.Tie as tie
-use Rattle·read_answers·proofs.proofs.store_next_six.Reads as reads
-use Rattle·read_answers·proofs.proofs.store_next_six.Lts as lts
-use Rattle·read_answers·proofs.proofs.store.Reads as store-reads
+use borrow.Author.Rules.{rules}
+use Rattle.read_answers.proofs.Laid.{laid_six}
+use Rattle.read_answers.proofs.store_next_six.Statement.{statement}
+use Rattle.read_answers.proofs.store_next_six.Tie as tie
+use Rattle.read_answers.proofs.store_next_six.Reads as reads
+use Rattle.read_answers.proofs.store_next_six.Lts as lts
+use Rattle.read_answers.proofs.store.Reads as store-reads
 
 store-requires : tie.Need-store-requires
-store-requires c κs = search needs
+store-requires c κs = search rules
 
 store-requires-2 : tie.Need-store-requires-2
-store-requires-2 c κs = search needs
+store-requires-2 c κs = search rules
 
 store-requires-3 : tie.Need-store-requires-3
-store-requires-3 c κs = search needs
+store-requires-3 c κs = search rules
 
 store-requires-4 : tie.Need-store-requires-4
-store-requires-4 c κs = search needs
+store-requires-4 c κs = search rules
 
 store-requires-5 : tie.Need-store-requires-5
-store-requires-5 c κs = search needs
+store-requires-5 c κs = search rules
 
 store-requires-6 : tie.Need-store-requires-6
-store-requires-6 c κs = search needs
+store-requires-6 c κs = search rules
 
-same-length : tie.Need-same-length
-same-length c = search needs
+same_length : tie.Need-same-length
+same_length c = search rules
 
 returns : tie.Need-returns
 returns c =
-    let d = c .before .before .before .before .before .before in
-    let e = d .before .before .before .before .before .before .before .before in
-    let f = e .before .before .before .before .before .before .before .before in
-    let a = f .before .before .before .args in
-    laid-six (a .lent .now) 6 (a .a) (a .b) (a .c) (f .store .ensures) (e .before .before .before .before .store2 .ensures) (e .store3 .ensures)
-    (a .d) (a .e) (a .f) (d .before .before .before .before .store4 .ensures) (d .store5 .ensures) (c .before .before .store6 .ensures)
+    let d = c.before.before.before.before.before.before in
+    let e = d.before.before.before.before.before.before.before.before in
+    let f = e.before.before.before.before.before.before.before.before in
+    let a = f.before.before.before.args in
+    laid_six a.lent.now 6 a.a a.b a.c f.store.ensures e.before.before.before.before.store2.ensures e.store3.ensures
+    a.d a.e a.f d.before.before.before.before.store4.ensures d.store5.ensures c.before.before.store6.ensures
 
 pub store-next-six-spec : {M : Type 1} → statement M
 store-next-six-spec =
@@ -48,5 +48,5 @@ store-next-six-spec =
     store-requires-4
     store-requires-5
     store-requires-6
-    same-length
+    same_length
     returns)

@@ -1,46 +1,46 @@
 -- `read_bodies::var_int` meets its contract: by its first byte: the VarInt ends there, or its groups go on.
 -- Assumes nothing.
-use Prim.Native.Nat.{_-_}
+use Prim.Native.Nat.{◌-◌}
 use native.Mathlib.Omega.{arith}
-use mathlib.Core.Path.{sym, _∙_, ap}
-use borrow.Author.Needs.{needs}
-use Rattle·ion.specs.Fields.{isNegative}
-use Rattle·read_bodies·specs.specs.Places.{withSign}
-use Rattle·read_bodies·proofs.proofs.VarFields.{var-int-out, var-int-short, var-int-long}
-use Rattle·read_bodies·proofs.proofs.var_int.Statement.{statement}
-use Rattle·read_bodies·proofs.proofs.var_int.Tie as tie
+use mathlib.Core.Path.{sym, ◌∙◌, ap}
+use borrow.Author.Rules.{rules}
+use Rattle.ion.specs.Fields.{is_negative}
+use Rattle.read_bodies.specs.Places.{with_sign}
+use Rattle.read_bodies.proofs.VarFields.{var_int_out, var_int_short, var_int_long}
+use Rattle.read_bodies.proofs.var_int.Statement.{statement}
+use Rattle.read_bodies.proofs.var_int.Tie as tie
 
 returns : tie.Need-returns
-returns c = let a = c .before .before .args in sym (var-int-out (a .b .now) (a .at) 0 (omega arith))
+returns c = let a = c.before.before.args in sym (var_int_out a.b.now a.at 0 (omega arith))
 
 shared-slice-read-wide : tie.Need-shared-slice-read-wide
-shared-slice-read-wide c = search needs
+shared-slice-read-wide c = search rules
 
 wide-requires : tie.Need-wide-requires
-wide-requires c κs = search needs
+wide-requires c κs = search rules
 
-add-t12 : tie.Need-add-t12
-add-t12 c = search needs
+add-t12 : tie.Need-overflow-add-t12
+add-t12 c = search rules
 
 returns-2 : tie.Need-returns-2
 returns-2 c =
-    let a = c .before .before .before .before .before .args in
-    sym (var-int-short (a .b .now) (a .at) (c .before .wide .result) (omega arith) (c .before .wide .ensures .0) (omega arith))
+    let a = c.before.before.before.before.before.args in
+    sym (var_int_short a.b.now a.at c.before.wide.result (omega arith) c.before.wide.ensures.0 (omega arith))
 
-add-groups : tie.Need-add-groups
-add-groups c = search needs
+add-groups : tie.Need-overflow-add-groups
+add-groups c = search rules
 
 groups-requires : tie.Need-groups-requires
-groups-requires c κs = search needs
+groups-requires c κs = search rules
 
 with-sign-requires : tie.Need-with-sign-requires
-with-sign-requires c κs = search needs
+with-sign-requires c κs = search rules
 
 returns-3 : tie.Need-returns-3
 returns-3 c =
-    let d = c .before .before .before in let a = d .before .before .before .before .args in
-    c .with-sign .ensures ∙ ap (withSign (isNegative (d .wide .result))) (c .before .groups .ensures)
-    ∙ sym (var-int-long (a .b .now) (a .at) (d .wide .result) (omega arith) (d .wide .ensures .0) (omega arith))
+    let d = c.before.before.before in let a = d.before.before.before.before.args in
+    c.with-sign.ensures ∙ ap (with_sign (is_negative d.wide.result)) c.before.groups.ensures
+    ∙ sym (var_int_long a.b.now a.at d.wide.result (omega arith) d.wide.ensures.0 (omega arith))
 
 pub var-int-spec : {M : Type 1} → statement M
 var-int-spec =

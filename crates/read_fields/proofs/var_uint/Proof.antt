@@ -1,40 +1,40 @@
 -- `read_fields::var_uint` meets its contract: no byte, one byte with its flag, or the groups.
 -- Assumes nothing.
-use Prim.Native.Nat.{ℕ, _+_}
+use Prim.Native.Nat.{ℕ, ◌+◌}
 use native.Mathlib.Omega.{arith}
-use mathlib.Core.Path.{sym, _∙_, ap}
-use borrow.Author.Needs.{needs}
-use Rattle·reading.specs.declared.Number.the-variants as N
-use Rattle·reading.specs.Headers.{varUIntAt}
-use Rattle·read_fields·proofs.proofs.VarUInts.{varUInt-out, varUInt-last}
-use Rattle·read_fields·proofs.proofs.var_uint.Statement.{statement}
-use Rattle·read_fields·proofs.proofs.var_uint.Tie as tie
+use mathlib.Core.Path.{sym, ◌∙◌, ap}
+use borrow.Author.Rules.{rules}
+use Rattle.reading.specs.declared.Number.TheVariants as N
+use Rattle.reading.specs.Headers.{var_uint_at}
+use Rattle.read_fields.proofs.VarUInts.{var_uint_out, var_uint_last}
+use Rattle.read_fields.proofs.var_uint.Statement.{statement}
+use Rattle.read_fields.proofs.var_uint.Tie as tie
 
 returns : tie.Need-returns
-unfolding varUIntAt
-returns c = let a = c .before .before .args in sym (varUInt-out (a .out) (a .s .now) 0 (a .at) (omega arith))
+unfolding var_uint_at
+returns c = let a = c.before.before.args in sym (var_uint_out a.out a.s.now 0 a.at (omega arith))
 
 shared-slice-read-b : tie.Need-shared-slice-read-b
-shared-slice-read-b c = search needs
+shared-slice-read-b c = search rules
 
-cast-t10 : tie.Need-cast-t10
-cast-t10 c = search needs
+cast-t10 : tie.Need-overflow-cast-t10
+cast-t10 c = search rules
 
-add-t11 : tie.Need-add-t11
-add-t11 c = search needs
+add-t11 : tie.Need-overflow-add-t11
+add-t11 c = search rules
 
 returns-2 : tie.Need-returns-2
-unfolding varUIntAt
+unfolding var_uint_at
 returns-2 c =
-    let a = c .before .before .before .before .args in
-    ap (λ (v : ℕ). N.Is v (a .at + 1)) (omega arith)
-    ∙ sym (varUInt-last (a .out) (a .s .now) 0 (a .at) (omega arith) (omega arith) (omega arith))
+    let a = c.before.before.before.before.args in
+    ap (λ (v : ℕ). N.Is v (a.at + 1)) (omega arith)
+    ∙ sym (var_uint_last a.out a.s.now 0 a.at (omega arith) (omega arith) (omega arith))
 
 var-uint-from-requires : tie.Need-var-uint-from-requires
-var-uint-from-requires c κs = search needs
+var-uint-from-requires c κs = search rules
 
 returns-3 : tie.Need-returns-3
-returns-3 c = unfold varUIntAt in c .var-uint-from .ensures
+returns-3 c = unfold var_uint_at in c.var-uint-from.ensures
 
 pub var-uint-spec : {M : Type 1} → statement M
 var-uint-spec =

@@ -1,53 +1,53 @@
 -- `state_bytes::close_passes` meets its contract: line 3 asks for the depth and the waiting name.
 -- Assumes nothing.
-use mathlib.Core.Path.{sym, _∙_}
-use mathlib.Core.Bool.{not, _||_}
+use mathlib.Core.Path.{sym, ◌∙◌}
+use mathlib.Core.Bool.{not, ◌||◌}
 use borrow.Author.Tests.{not-true, not-false}
-use Rattle·machine.specs.Machine.{openContainers, isOpen}
-use Rattle·place.proofs.Laws.{closed-of}
-use Rattle·state_bytes·specs.specs.StateBytes.{stateOf}
-use Rattle·state_bytes·proofs.proofs.Laws.{readable-depth, unreadable, passes-by}
-use borrow.Author.Needs.{needs}
-use Rattle·state_bytes·proofs.proofs.close_passes.Statement.{statement}
-use Rattle·state_bytes·proofs.proofs.close_passes.Tie as tie
+use Rattle.machine.specs.Machine.{open_containers, is_open}
+use Rattle.place.proofs.Laws.{closed_of}
+use Rattle.state_bytes.specs.StateBytes.{state_of}
+use Rattle.state_bytes.proofs.Laws.{readable_depth, unreadable, passes_by}
+use borrow.Author.Rules.{rules}
+use Rattle.state_bytes.proofs.close_passes.Statement.{statement}
+use Rattle.state_bytes.proofs.close_passes.Tie as tie
 
 readable-requires : tie.Need-readable-requires
-readable-requires c κs = search needs
+readable-requires c κs = search rules
 
 returns : tie.Need-returns
 returns c =
-    let a = c .before .before .before .args in
-    let s = stateOf (a .st .now) in
-    unreadable s (a .room) (not (isOpen (openContainers s)) || s .waiting) (sym (c .before .readable .ensures) ∙ not-true _ (c .if1 .taken))
+    let a = c.before.before.before.args in
+    let s = state_of a.st.now in
+    unreadable s a.room (not (is_open (open_containers s)) || s.waiting) (sym c.before.readable.ensures ∙ not-true _ c.if1.true)
 
 depth-requires : tie.Need-depth-requires
-depth-requires c κs = search needs
+depth-requires c κs = search rules
 
 innermost-is-struct-requires : tie.Need-innermost-is-struct-requires
 innermost-is-struct-requires c κs =
-    let a = c .before .before .before .before .args in
-    readable-depth (a .st .now) _ _ (c .before .before .readable .ensures) (c .before .if1 .left) (c .depth .ensures)
+    let a = c.before.before.before.before.args in
+    readable_depth a.st.now _ _ c.before.before.readable.ensures c.before.if1.false c.depth.ensures
 
 waiting-requires : tie.Need-waiting-requires
-waiting-requires c κs = search needs
+waiting-requires c κs = search rules
 
 passes-requires : tie.Need-passes-requires
 passes-requires c κs =
-    let d = c .before .before .before in
-    let a = d .before .before .before .args in
-    readable-depth (a .st .now) _ _ (d .before .readable .ensures) (d .if1 .left) (c .before .before .depth .ensures)
+    let d = c.before.before.before in
+    let a = d.before.before.before.args in
+    readable_depth a.st.now _ _ d.before.readable.ensures d.if1.false c.before.before.depth.ensures
 
 returns-2 : tie.Need-returns-2
 returns-2 c =
-    let e = c .before .before .before .before .before in
-    let a = e .before .before .args in
-    let s = stateOf (a .st .now) in
-    let d = c .before .before .before .depth .ensures in
-    c .passes .ensures
-    ∙ rw (c .before .waiting .ensures, d, closed-of (s .containers) (s .depth))
-    (passes-by s (a .room) (not (isOpen (openContainers s)) || s .waiting) _
-    (sym (e .readable .ensures) ∙ not-false _ (c .before .before .before .before .if1 .left))
-    (λ u. rw (c .before .before .innermost-is-struct .ensures u, d)))
+    let e = c.before.before.before.before.before in
+    let a = e.before.before.args in
+    let s = state_of a.st.now in
+    let d = c.before.before.before.depth.ensures in
+    c.passes.ensures
+    ∙ rw (c.before.waiting.ensures, d, closed_of s.containers s.depth)
+    (passes_by s a.room (not (is_open (open_containers s)) || s.waiting) _
+    (sym e.readable.ensures ∙ not-false _ c.before.before.before.before.if1.false)
+    (λ u. rw (c.before.before.innermost-is-struct.ensures u, d)))
 
 pub close-passes-spec : {M : Type 1} → statement M
 close-passes-spec =

@@ -1,73 +1,73 @@
 -- `state_bytes::each_fits` meets its contract: the loop keeps that the containers fit exactly if the first i do, before the limit.
 -- Assumes nothing.
-use Prim.Native.Nat.{_≤_}
-use mathlib.Core.Path.{_≡_, refl, sym, _∙_}
+use Prim.Native.Nat.{◌≤◌}
+use mathlib.Core.Path.{◌≡◌, refl, sym, ◌∙◌}
 use native.Mathlib.Omega.{arith}
 use borrow.Author.Tests.{not-true, not-false}
-use Rattle·machine.specs.Machine.{mostOpen, innermostFirst, containersFit}
-use Rattle·place.proofs.Laws.{chain-none}
-use Rattle·state_bytes·specs.specs.StateBytes.{stateOf}
-use Rattle·state_bytes·proofs.proofs.Laws.{chain-unfit, chain-fit}
-use borrow.Author.Needs.{needs}
-use Rattle·state_bytes·proofs.proofs.each_fits.Statement.{statement}
-use Rattle·state_bytes·proofs.proofs.each_fits.Tie as tie
+use Rattle.machine.specs.Machine.{most_open, innermost_first, containers_fit}
+use Rattle.place.proofs.Laws.{chain_none}
+use Rattle.state_bytes.specs.StateBytes.{state_of}
+use Rattle.state_bytes.proofs.Laws.{chain_unfit, chain_fit}
+use borrow.Author.Rules.{rules}
+use Rattle.state_bytes.proofs.each_fits.Statement.{statement}
+use Rattle.state_bytes.proofs.each_fits.Tie as tie
 
-abbrev Inv-loop : tie.InvT-loop
-Inv-loop st used depth i₀ limit₀ i limit =
-    (i ≤ mostOpen)
-    × (containersFit used (innermostFirst (stateOf st .containers) depth) ≡ containersFit limit (innermostFirst (stateOf st .containers) i))
+abbrev invariant-loop : tie.invariant-loop
+invariant-loop st used depth i₀ limit₀ i limit =
+    (i ≤ most_open)
+    × (containers_fit used (innermost_first (state_of st).containers depth) ≡ containers_fit limit (innermost_first (state_of st).containers i))
 
-abbrev μ-loop : tie.MeasureT-loop
-μ-loop st used depth i₀ limit₀ i limit = i
+abbrev decreases-loop : tie.decreases-loop
+decreases-loop st used depth i₀ limit₀ i limit = i
 
-loop-holds : tie.Need-loop-holds Inv-loop μ-loop
+loop-holds : tie.Need-loop-init invariant-loop decreases-loop
 loop-holds c = (omega arith, refl)
 
-sub-i : tie.Need-sub-i Inv-loop μ-loop
+sub-i : tie.Need-overflow-sub-i invariant-loop decreases-loop
 sub-i c = omega arith
 
-get-container-requires : tie.Need-get-container-requires Inv-loop μ-loop
-get-container-requires c κs = (omega arith, c .before .before .before .pre .1)
+get-container-requires : tie.Need-get-container-requires invariant-loop decreases-loop
+get-container-requires c κs = (omega arith, c.before.before.before.requires.1)
 
-container-fits-requires : tie.Need-container-fits-requires Inv-loop μ-loop
-container-fits-requires c κs = search needs
+container-fits-requires : tie.Need-container-fits-requires invariant-loop decreases-loop
+container-fits-requires c κs = search rules
 
-returns : tie.Need-returns Inv-loop μ-loop
+returns : tie.Need-returns invariant-loop decreases-loop
 returns c =
-    let d = c .before .before in
-    let a = d .before .before .before .before .args in
-    let b = d .before .before in
-    let n = sym (c .before .container-fits .ensures) ∙ not-true _ (c .if1 .taken) in
-    sym (b .loop .inv .1
-    ∙ chain-unfit (a .st .now) (b .loop .i) (b .loop .limit) (d .get-container .result) (b .before .before .pre .1) (omega arith)
-    (b .loop .inv .0) (d .get-container .ensures .0) n)
+    let d = c.before.before in
+    let a = d.before.before.before.before.args in
+    let b = d.before.before in
+    let n = sym c.before.container-fits.ensures ∙ not-true _ c.if1.true in
+    sym (b.loop.invariant.1
+    ∙ chain_unfit a.st.now b.loop.i b.loop.limit d.get-container.result b.before.before.requires.1 (omega arith)
+    b.loop.invariant.0 d.get-container.ensures.0 n)
 
-loop-less : tie.Need-loop-less Inv-loop μ-loop
+loop-less : tie.Need-loop-smaller invariant-loop decreases-loop
 loop-less c = omega arith
 
-loop-again : tie.Need-loop-again Inv-loop μ-loop
+loop-again : tie.Need-loop-preserved invariant-loop decreases-loop
 loop-again c =
-    let d = c .before .before in
-    let a = d .before .before .before .before .args in
-    let b = d .before .before in
-    let n = sym (c .before .container-fits .ensures) ∙ not-false _ (c .if1 .left) in (
+    let d = c.before.before in
+    let a = d.before.before.before.before.args in
+    let b = d.before.before in
+    let n = sym c.before.container-fits.ensures ∙ not-false _ c.if1.false in (
       omega arith,
-      b .loop .inv .1
-          ∙ chain-fit (a .st .now) (b .loop .i) (b .loop .limit) (d .get-container .result) (b .before .before .pre .1) (omega arith)
-          (b .loop .inv .0) (d .get-container .ensures .0) n,
+      b.loop.invariant.1
+          ∙ chain_fit a.st.now b.loop.i b.loop.limit d.get-container.result b.before.before.requires.1 (omega arith)
+          b.loop.invariant.0 d.get-container.ensures.0 n,
     )
 
-returns-2 : tie.Need-returns-2 Inv-loop μ-loop
-returns-2 c = let a = c .before .before .before .args in
-    let b = c .before in
-    sym (b .loop .inv .1 ∙ chain-none (stateOf (a .st .now) .containers) (b .loop .i) (b .loop .limit) (omega arith))
+returns-2 : tie.Need-returns-2 invariant-loop decreases-loop
+returns-2 c = let a = c.before.before.before.args in
+    let b = c.before in
+    sym (b.loop.invariant.1 ∙ chain_none (state_of a.st.now).containers b.loop.i b.loop.limit (omega arith))
 
 pub each-fits-spec : {M : Type 1} → statement M
 each-fits-spec =
     tie.close
     (tie.spec
-    Inv-loop
-    μ-loop
+    invariant-loop
+    decreases-loop
     loop-holds
     sub-i
     get-container-requires

@@ -1,19 +1,18 @@
 -- `steps::string_refusal` meets its contract: check 6, or 10.
 -- Assumes nothing.
-use mathlib.Core.Path.{sym, _∙_}
-use Rattle·steps·proofs.proofs.Scalars.{string-bad, string-good}
-use borrow.Author.Needs.{needs}
-use Rattle·steps·proofs.proofs.string_refusal.Statement.{statement}
-use Rattle·steps·proofs.proofs.string_refusal.Tie as tie
+use Rattle.std.proofs.Common.{sym, ◌∙◌, rules}
+use Rattle.steps.proofs.Scalars.{string_bad, string_good}
+use Rattle.steps.proofs.string_refusal.Statement.{statement}
+use Rattle.steps.proofs.string_refusal.Tie as tie
 
 is-utf8-requires : tie.Need-is-utf8-requires
-is-utf8-requires c κs = search needs
+is-utf8-requires c κs = search rules
 
 returns : tie.Need-returns
-returns c = let a = c .before .before .before .args in string-good (a .bytes .now) (sym (c .before .is-utf8 .ensures) ∙ c .if1 .taken)
+returns c = let a = c.before.before.before.args in string_good a.bytes.now (sym c.before.is-utf8.ensures ∙ c.if1.true)
 
 returns-2 : tie.Need-returns-2
-returns-2 c = let a = c .before .before .before .args in string-bad (a .bytes .now) (sym (c .before .is-utf8 .ensures) ∙ c .if1 .left)
+returns-2 c = let a = c.before.before.before.args in string_bad a.bytes.now (sym c.before.is-utf8.ensures ∙ c.if1.false)
 
 pub string-refusal-spec : {M : Type 1} → statement M
 string-refusal-spec = tie.close (tie.spec is-utf8-requires returns returns-2)

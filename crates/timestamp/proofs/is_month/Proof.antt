@@ -1,8 +1,8 @@
 -- `timestamp::is_month` meets its contract: the two bounds, as they stand.
 -- Assumes nothing.
 use mathlib.Core.Path.{refl}
-use Rattle·timestamp·proofs.proofs.is_month.Statement.{statement}
-use Rattle·timestamp·proofs.proofs.is_month.Tie as tie
+use Rattle.timestamp.proofs.is_month.Statement.{statement}
+use Rattle.timestamp.proofs.is_month.Tie as tie
 
 returns : tie.Need-returns
 returns c = refl

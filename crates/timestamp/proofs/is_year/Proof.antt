@@ -1,8 +1,8 @@
 -- `timestamp::is_year` meets its contract: the two bounds, as they stand.
 -- Assumes nothing.
 use mathlib.Core.Path.{refl}
-use Rattle·timestamp·proofs.proofs.is_year.Statement.{statement}
-use Rattle·timestamp·proofs.proofs.is_year.Tie as tie
+use Rattle.timestamp.proofs.is_year.Statement.{statement}
+use Rattle.timestamp.proofs.is_year.Tie as tie
 
 returns : tie.Need-returns
 returns c = refl

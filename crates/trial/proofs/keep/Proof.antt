@@ -1,51 +1,51 @@
 -- `keep` is safe and ends: it reads and writes within the text.
 -- Assumes nothing.
-use mathlib.Core.Path.{_≡_}
-use Prim.Native.Nat.{_-_, _≤_}
+use mathlib.Core.Path.{◌≡◌}
+use Prim.Native.Nat.{◌-◌, ◌≤◌}
 use lib.ListN.{length}
-use borrow.Author.Needs.{needs}
-use Rattle·trial·proofs.proofs.keep.Statement.{statement}
-use Rattle·trial·proofs.proofs.keep.Tie as tie
+use borrow.Author.Rules.{rules}
+use Rattle.trial.proofs.keep.Statement.{statement}
+use Rattle.trial.proofs.keep.Tie as tie
 
-abbrev Inv-loop : tie.InvT-loop
-Inv-loop text₀ from count i₀ text i = (i ≤ count) × (length text ≡ length text₀)
+abbrev invariant-loop : tie.invariant-loop
+invariant-loop text₀ from count i₀ text i = (i ≤ count) × (length text ≡ length text₀)
 
-abbrev μ-loop : tie.MeasureT-loop
-μ-loop text₀ from count i₀ text i = count - i
+abbrev decreases-loop : tie.decreases-loop
+decreases-loop text₀ from count i₀ text i = count - i
 
-loop-holds : tie.Need-loop-holds Inv-loop μ-loop
-loop-holds c = search needs
+loop-holds : tie.Need-loop-init invariant-loop decreases-loop
+loop-holds c = search rules
 
-add-text : tie.Need-add-text Inv-loop μ-loop
-add-text c = search needs
+add-text : tie.Need-overflow-add-text invariant-loop decreases-loop
+add-text c = search rules
 
-slice-read-text : tie.Need-slice-read-text Inv-loop μ-loop
-slice-read-text c = search needs
+slice-read-text : tie.Need-slice-read-text invariant-loop decreases-loop
+slice-read-text c = search rules
 
-slice-write-text : tie.Need-slice-write-text Inv-loop μ-loop
-slice-write-text c = search needs
+slice-write-text : tie.Need-slice-write-text invariant-loop decreases-loop
+slice-write-text c = search rules
 
-add-i : tie.Need-add-i Inv-loop μ-loop
-add-i c = search needs
+add-i : tie.Need-overflow-add-i invariant-loop decreases-loop
+add-i c = search rules
 
-loop-less : tie.Need-loop-less Inv-loop μ-loop
-loop-less c = search needs
+loop-less : tie.Need-loop-smaller invariant-loop decreases-loop
+loop-less c = search rules
 
-loop-again : tie.Need-loop-again Inv-loop μ-loop
-loop-again c = search needs
+loop-again : tie.Need-loop-preserved invariant-loop decreases-loop
+loop-again c = search rules
 
-same-length : tie.Need-same-length Inv-loop μ-loop
-same-length c = search needs
+same_length : tie.Need-same-length invariant-loop decreases-loop
+same_length c = search rules
 
-returns : tie.Need-returns Inv-loop μ-loop
-returns c = search needs
+returns : tie.Need-returns invariant-loop decreases-loop
+returns c = search rules
 
-pub keep-spec : {M : Type 1} → statement M
-keep-spec =
+pub keep_spec : {M : Type 1} → statement M
+keep_spec =
     tie.close
     (tie.spec
-    Inv-loop
-    μ-loop
+    invariant-loop
+    decreases-loop
     loop-holds
     add-text
     slice-read-text
@@ -53,5 +53,5 @@ keep-spec =
     add-i
     loop-less
     loop-again
-    same-length
+    same_length
     returns)

@@ -1,74 +1,74 @@
 -- `value_writer::write_int` meets its contract: refused by place, by one of the value's own checks or for room, or put at the end of the used bytes.
 -- Assumes nothing.
 use native.Mathlib.Omega.{arith}
-use Rattle·encoding.specs.Argument.{writeInt}
-use Rattle·annotations.specs.Sids.{sidsOf}
-use Rattle·machine.specs.declared.Refusal.the-variants.{NoRoom}
-use Rattle·value_writer·proofs.proofs.Values.{Put, value-barred, value-put, value-refused, value-ended}
-use borrow.Author.Needs.{needs}
-use Rattle·value_writer·proofs.proofs.write_int.Statement.{statement}
-use Rattle·value_writer·proofs.proofs.write_int.Tie as tie
+use Rattle.encoding.specs.Argument.{write_int}
+use Rattle.annotations.specs.Sids.{sids_of}
+use Rattle.machine.specs.declared.Refusal.TheVariants.{NoRoom}
+use Rattle.value_writer.proofs.Values.{Put, value_barred, value_put, value_refused, value_ended}
+use borrow.Author.Rules.{rules}
+use Rattle.value_writer.proofs.write_int.Statement.{statement}
+use Rattle.value_writer.proofs.write_int.Tie as tie
 
 -- what the leaf has put
-put : (c : tie.After-write-int) → let a = c .before .before .before .before .before .before .before .before .args in
-    Put (sidsOf (a .annotations .now)) (writeInt (a .negative) (a .magnitude .now)) (a .s) (a .buf .now) (c .write-int .result) (c .write-int .last .0)
+put : (c : tie.After-write-int) → let a = c.before.before.before.before.before.before.before.before.args in
+    Put (sids_of a.annotations.now) (write_int a.negative a.magnitude.now) a.s a.buf.now c.write-int.result c.write-int.new.0
 put c =
-    let p = c .before .before .before .before in
-    let a = p .before .before .before .before .args in
-    value-put (sidsOf (a .annotations .now)) (writeInt (a .negative) (a .magnitude .now)) (a .s) (a .buf .now) (p .value-place .result)
-    (p .value-place .ensures)
-    (c .before .before .enum-told .given .1) _ _ (c .write-int .ensures)
+    let p = c.before.before.before.before in
+    let a = p.before.before.before.before.args in
+    value_put (sids_of a.annotations.now) (write_int a.negative a.magnitude.now) a.s a.buf.now p.value-place.result
+    p.value-place.ensures
+    c.before.before.enum_told.given.1 _ _ c.write-int.ensures
 
 value-place-requires : tie.Need-value-place-requires
-value-place-requires c κs = search needs
+value-place-requires c κs = search rules
 
-enum-told : tie.Need-enum-told
-enum-told c = search needs
+enum_told : tie.Need-enum-told
+enum_told c = search rules
 
 enum-told-2 : tie.Need-enum-told-2
-enum-told-2 c = search needs
+enum-told-2 c = search rules
 
 returns : tie.Need-returns
 returns c =
-    let p = c .before .before in
-    let a = p .before .before .before .before .args in
-    value-barred (sidsOf (a .annotations .now)) (writeInt (a .negative) (a .magnitude .now)) (a .s) (a .buf .now) (p .value-place .result)
-    (p .value-place .ensures) _ (c .enum-told2 .given .1)
+    let p = c.before.before in
+    let a = p.before.before.before.before.args in
+    value_barred (sids_of a.annotations.now) (write_int a.negative a.magnitude.now) a.s a.buf.now p.value-place.result
+    p.value-place.ensures _ c.enum-told2.given.1
 
 write-int-requires : tie.Need-write-int-requires
-write-int-requires c κs = search needs
+write-int-requires c κs = search rules
 
 int-refusal-requires : tie.Need-int-refusal-requires
-int-refusal-requires c κs = search needs
+int-refusal-requires c κs = search rules
 
-same-length : tie.Need-same-length
-same-length c = search needs
+same_length : tie.Need-same-length
+same_length c = search rules
 
 returns-2 : tie.Need-returns-2
-returns-2 c = value-refused (put (c .before .before .before .before)) (c .int-refusal .result) (c .before .if1 .taken) (c .int-refusal .ensures)
+returns-2 c = value_refused (put c.before.before.before.before) c.int-refusal.result c.before.if1.true c.int-refusal.ensures
 
 scalar-ended-requires : tie.Need-scalar-ended-requires
-scalar-ended-requires c κs = search needs
+scalar-ended-requires c κs = search rules
 
 same-length-2 : tie.Need-same-length-2
-same-length-2 c = search needs
+same-length-2 c = search rules
 
 returns-3 : tie.Need-returns-3
 returns-3 c =
-    value-ended (put (c .before .before .before .before)) (omega arith) NoRoom (λ z. absurd (c .before .if1 .left z))
-    (c .scalar-ended .result) (c .scalar-ended .ensures)
+    value_ended (put c.before.before.before.before) (omega arith) NoRoom (λ z. absurd (c.before.if1.false z))
+    c.scalar-ended.result c.scalar-ended.ensures
 
 pub write-int-spec : {M : Type 1} → statement M
 write-int-spec =
     tie.close
     (tie.spec
     value-place-requires
-    enum-told
+    enum_told
     enum-told-2
     returns
     write-int-requires
     int-refusal-requires
-    same-length
+    same_length
     returns-2
     scalar-ended-requires
     same-length-2

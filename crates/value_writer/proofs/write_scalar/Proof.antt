@@ -1,64 +1,64 @@
 -- `value_writer::write_scalar` meets its contract: refused by place, or for room, or put at the end of the used bytes.
 -- Assumes nothing.
 use native.Mathlib.Omega.{arith}
-use Rattle·scalars.specs.Types.{scalarArgument}
-use Rattle·steps.proofs.Scalars.{unchecked, scalar-unchecked}
-use Rattle·annotations.specs.Sids.{sidsOf}
-use Rattle·machine.specs.declared.Refusal.the-variants.{NoRoom}
-use Rattle·value_writer·proofs.proofs.Values.{Put, value-barred, value-put, value-ended}
-use borrow.Author.Needs.{needs}
-use Rattle·value_writer·proofs.proofs.write_scalar.Statement.{statement}
-use Rattle·value_writer·proofs.proofs.write_scalar.Tie as tie
+use Rattle.scalars.specs.Types.{scalar_argument}
+use Rattle.steps.proofs.Scalars.{unchecked, scalar_unchecked}
+use Rattle.annotations.specs.Sids.{sids_of}
+use Rattle.machine.specs.declared.Refusal.TheVariants.{NoRoom}
+use Rattle.value_writer.proofs.Values.{Put, value_barred, value_put, value_ended}
+use borrow.Author.Rules.{rules}
+use Rattle.value_writer.proofs.write_scalar.Statement.{statement}
+use Rattle.value_writer.proofs.write_scalar.Tie as tie
 
 -- what the leaf has put
-put : (c : tie.After-write-scalar) → let a = c .before .before .before .before .before .before .before .args in
-    Put (sidsOf (a .annotations .now)) (scalarArgument (a .value)) (a .s) (a .buf .now) (c .write-scalar .result) (c .write-scalar .last .0)
+put : (c : tie.After-write-scalar) → let a = c.before.before.before.before.before.before.before.args in
+    Put (sids_of a.annotations.now) (scalar_argument a.value) a.s a.buf.now c.write-scalar.result c.write-scalar.new.0
 put c =
-    let p = c .before .before .before .before in
-    let a = p .before .before .before .args in
-    value-put (sidsOf (a .annotations .now)) (scalarArgument (a .value)) (a .s) (a .buf .now) (p .value-place .result) (p .value-place .ensures)
-    (c .before .before .enum-told .given .1) _ _ (c .write-scalar .ensures)
+    let p = c.before.before.before.before in
+    let a = p.before.before.before.args in
+    value_put (sids_of a.annotations.now) (scalar_argument a.value) a.s a.buf.now p.value-place.result p.value-place.ensures
+    c.before.before.enum_told.given.1 _ _ c.write-scalar.ensures
 
 value-place-requires : tie.Need-value-place-requires
-value-place-requires c κs = search needs
+value-place-requires c κs = search rules
 
-enum-told : tie.Need-enum-told
-enum-told c = search needs
+enum_told : tie.Need-enum-told
+enum_told c = search rules
 
 enum-told-2 : tie.Need-enum-told-2
-enum-told-2 c = search needs
+enum-told-2 c = search rules
 
 returns : tie.Need-returns
 returns c =
-    let p = c .before .before in
-    let a = p .before .before .before .args in
-    value-barred (sidsOf (a .annotations .now)) (scalarArgument (a .value)) (a .s) (a .buf .now) (p .value-place .result)
-    (p .value-place .ensures) _ (c .enum-told2 .given .1)
+    let p = c.before.before in
+    let a = p.before.before.before.args in
+    value_barred (sids_of a.annotations.now) (scalar_argument a.value) a.s a.buf.now p.value-place.result
+    p.value-place.ensures _ c.enum-told2.given.1
 
 write-scalar-requires : tie.Need-write-scalar-requires
-write-scalar-requires c κs = search needs
+write-scalar-requires c κs = search rules
 
 scalar-ended-requires : tie.Need-scalar-ended-requires
-scalar-ended-requires c κs = search needs
+scalar-ended-requires c κs = search rules
 
-same-length : tie.Need-same-length
-same-length c = search needs
+same_length : tie.Need-same-length
+same_length c = search rules
 
 returns-2 : tie.Need-returns-2
 returns-2 c =
-    let a = c .before .before .before .before .before .before .before .before .before .before .args in
-    value-ended (put (c .before .before .before)) (omega arith) NoRoom (λ z. unchecked _ (scalar-unchecked (a .value)))
-    (c .scalar-ended .result) (c .scalar-ended .ensures)
+    let a = c.before.before.before.before.before.before.before.before.before.before.args in
+    value_ended (put c.before.before.before) (omega arith) NoRoom (λ z. unchecked _ (scalar_unchecked a.value))
+    c.scalar-ended.result c.scalar-ended.ensures
 
 pub write-scalar-spec : {M : Type 1} → statement M
 write-scalar-spec =
     tie.close
     (tie.spec
     value-place-requires
-    enum-told
+    enum_told
     enum-told-2
     returns
     write-scalar-requires
     scalar-ended-requires
-    same-length
+    same_length
     returns-2)

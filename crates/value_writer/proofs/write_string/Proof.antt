@@ -1,73 +1,73 @@
 -- `value_writer::write_string` meets its contract: refused by place, by one of the value's own checks or for room, or put at the end of the used bytes.
 -- Assumes nothing.
 use native.Mathlib.Omega.{arith}
-use Rattle·encoding.specs.Argument.{writeString}
-use Rattle·annotations.specs.Sids.{sidsOf}
-use Rattle·machine.specs.declared.Refusal.the-variants.{NoRoom}
-use Rattle·value_writer·proofs.proofs.Values.{Put, value-barred, value-put, value-refused, value-ended}
-use borrow.Author.Needs.{needs}
-use Rattle·value_writer·proofs.proofs.write_string.Statement.{statement}
-use Rattle·value_writer·proofs.proofs.write_string.Tie as tie
+use Rattle.encoding.specs.Argument.{write_string}
+use Rattle.annotations.specs.Sids.{sids_of}
+use Rattle.machine.specs.declared.Refusal.TheVariants.{NoRoom}
+use Rattle.value_writer.proofs.Values.{Put, value_barred, value_put, value_refused, value_ended}
+use borrow.Author.Rules.{rules}
+use Rattle.value_writer.proofs.write_string.Statement.{statement}
+use Rattle.value_writer.proofs.write_string.Tie as tie
 
 -- what the leaf has put
-put : (c : tie.After-write-string) → let a = c .before .before .before .before .before .before .before .before .args in
-    Put (sidsOf (a .annotations .now)) (writeString (a .bytes .now)) (a .s) (a .buf .now) (c .write-string .result) (c .write-string .last .0)
+put : (c : tie.After-write-string) → let a = c.before.before.before.before.before.before.before.before.args in
+    Put (sids_of a.annotations.now) (write_string a.bytes.now) a.s a.buf.now c.write-string.result c.write-string.new.0
 put c =
-    let p = c .before .before .before .before in
-    let a = p .before .before .before .before .args in
-    value-put (sidsOf (a .annotations .now)) (writeString (a .bytes .now)) (a .s) (a .buf .now) (p .value-place .result) (p .value-place .ensures)
-    (c .before .before .enum-told .given .1) _ _ (c .write-string .ensures)
+    let p = c.before.before.before.before in
+    let a = p.before.before.before.before.args in
+    value_put (sids_of a.annotations.now) (write_string a.bytes.now) a.s a.buf.now p.value-place.result p.value-place.ensures
+    c.before.before.enum_told.given.1 _ _ c.write-string.ensures
 
 value-place-requires : tie.Need-value-place-requires
-value-place-requires c κs = search needs
+value-place-requires c κs = search rules
 
-enum-told : tie.Need-enum-told
-enum-told c = search needs
+enum_told : tie.Need-enum-told
+enum_told c = search rules
 
 enum-told-2 : tie.Need-enum-told-2
-enum-told-2 c = search needs
+enum-told-2 c = search rules
 
 returns : tie.Need-returns
 returns c =
-    let p = c .before .before in
-    let a = p .before .before .before .before .args in
-    value-barred (sidsOf (a .annotations .now)) (writeString (a .bytes .now)) (a .s) (a .buf .now) (p .value-place .result)
-    (p .value-place .ensures) _ (c .enum-told2 .given .1)
+    let p = c.before.before in
+    let a = p.before.before.before.before.args in
+    value_barred (sids_of a.annotations.now) (write_string a.bytes.now) a.s a.buf.now p.value-place.result
+    p.value-place.ensures _ c.enum-told2.given.1
 
 write-string-requires : tie.Need-write-string-requires
-write-string-requires c κs = search needs
+write-string-requires c κs = search rules
 
 string-refusal-requires : tie.Need-string-refusal-requires
-string-refusal-requires c κs = search needs
+string-refusal-requires c κs = search rules
 
-same-length : tie.Need-same-length
-same-length c = search needs
+same_length : tie.Need-same-length
+same_length c = search rules
 
 returns-2 : tie.Need-returns-2
-returns-2 c = value-refused (put (c .before .before .before .before)) (c .string-refusal .result) (c .before .if1 .taken) (c .string-refusal .ensures)
+returns-2 c = value_refused (put c.before.before.before.before) c.string-refusal.result c.before.if1.true c.string-refusal.ensures
 
 scalar-ended-requires : tie.Need-scalar-ended-requires
-scalar-ended-requires c κs = search needs
+scalar-ended-requires c κs = search rules
 
 same-length-2 : tie.Need-same-length-2
-same-length-2 c = search needs
+same-length-2 c = search rules
 
 returns-3 : tie.Need-returns-3
 returns-3 c =
-    value-ended (put (c .before .before .before .before)) (omega arith) NoRoom (λ z. absurd (c .before .if1 .left z))
-    (c .scalar-ended .result) (c .scalar-ended .ensures)
+    value_ended (put c.before.before.before.before) (omega arith) NoRoom (λ z. absurd (c.before.if1.false z))
+    c.scalar-ended.result c.scalar-ended.ensures
 
 pub write-string-spec : {M : Type 1} → statement M
 write-string-spec =
     tie.close
     (tie.spec
     value-place-requires
-    enum-told
+    enum_told
     enum-told-2
     returns
     write-string-requires
     string-refusal-requires
-    same-length
+    same_length
     returns-2
     scalar-ended-requires
     same-length-2

@@ -2,30 +2,30 @@
 -- Assumes nothing.
 use mathlib.Core.Path.{sym}
 use native.Mathlib.Omega.{arith}
-use Rattle·values·proofs.proofs.Wrapped.{wrapper-none, wrapper-some}
-use borrow.Author.Needs.{needs}
-use Rattle·values·proofs.proofs.timestamp_wrapper.Statement.{statement}
-use Rattle·values·proofs.proofs.timestamp_wrapper.Tie as tie
+use Rattle.values.proofs.Wrapped.{wrapper-none, wrapper-some}
+use borrow.Author.Rules.{rules}
+use Rattle.values.proofs.timestamp_wrapper.Statement.{statement}
+use Rattle.values.proofs.timestamp_wrapper.Tie as tie
 
 returns : tie.Need-returns
-returns c = let a = c .before .before .before .args in sym (wrapper-none (a .buf .now) (a .at) (a .annotations .now) (c .if1 .taken) _)
+returns c = let a = c.before.before.before.args in sym (wrapper-none a.buf.now a.at a.annotations.now c.if1.true _)
 
 size-requires : tie.Need-size-requires
-size-requires c κs = search needs
+size-requires c κs = search rules
 
 write-wrapper-requires : tie.Need-write-wrapper-requires
-write-wrapper-requires c κs = search needs
+write-wrapper-requires c κs = search rules
 
-same-length : tie.Need-same-length
-same-length c = search needs
+same_length : tie.Need-same-length
+same_length c = search rules
 
 returns-2 : tie.Need-returns-2
 returns-2 c =
-    let w = c .before .before in
-    let z = w .before in
-    let a = c .before .before .before .before .before .before .before .before .args in
-    rw (← (z .size .ensures), ← (wrapper-some (a .buf .now) (a .at) (a .annotations .now) (omega arith) (z .size .result))) (w .write-wrapper .ensures)
+    let w = c.before.before in
+    let z = w.before in
+    let a = c.before.before.before.before.before.before.before.before.args in
+    rw (← z.size.ensures, ← (wrapper-some a.buf.now a.at a.annotations.now (omega arith) z.size.result)) w.write-wrapper.ensures
 
 pub timestamp-wrapper-spec : {M : Type 1} → statement M
 timestamp-wrapper-spec =
-    tie.close (tie.spec returns size-requires write-wrapper-requires same-length returns-2)
+    tie.close (tie.spec returns size-requires write-wrapper-requires same_length returns-2)

@@ -1,59 +1,59 @@
 -- `count_lines` is safe and ends: each line is passed with its line feed, and counts as one vector at most.
 -- Assumes nothing.
-use Prim.Native.Nat.{_-_, _≤_}
+use Prim.Native.Nat.{◌-◌, ◌≤◌}
 use lib.ListN.{length}
-use borrow.Author.Needs.{needs}
-use Rattle·vectors·proofs.proofs.count_lines.Statement.{statement}
-use Rattle·vectors·proofs.proofs.count_lines.Tie as tie
+use borrow.Author.Rules.{rules}
+use Rattle.vectors.proofs.count_lines.Statement.{statement}
+use Rattle.vectors.proofs.count_lines.Tie as tie
 
-abbrev Inv-loop : tie.InvT-loop
-Inv-loop text vectors₀ right₀ at₀ vectors right at = (at ≤ 65537) × (vectors ≤ at) × (right ≤ at)
+abbrev invariant-loop : tie.invariant-loop
+invariant-loop text vectors₀ right₀ at₀ vectors right at = (at ≤ 65537) × (vectors ≤ at) × (right ≤ at)
 
-abbrev μ-loop : tie.MeasureT-loop
-μ-loop text vectors₀ right₀ at₀ vectors right at = length text - at
+abbrev decreases-loop : tie.decreases-loop
+decreases-loop text vectors₀ right₀ at₀ vectors right at = length text - at
 
-loop-holds : tie.Need-loop-holds Inv-loop μ-loop
-loop-holds c = search needs
+loop-holds : tie.Need-loop-init invariant-loop decreases-loop
+loop-holds c = search rules
 
-find-requires : tie.Need-find-requires Inv-loop μ-loop
-find-requires c κs = search needs
+find-requires : tie.Need-find-requires invariant-loop decreases-loop
+find-requires c κs = search rules
 
-sub-count-line : tie.Need-sub-count-line Inv-loop μ-loop
-sub-count-line c = search needs
+sub-count-line : tie.Need-overflow-sub-count-line invariant-loop decreases-loop
+sub-count-line c = search rules
 
-part-count-line-start : tie.Need-part-count-line-start Inv-loop μ-loop
-part-count-line-start c = search needs
+part-count-line-start : tie.Need-slice-bounds-count-line-start invariant-loop decreases-loop
+part-count-line-start c = search rules
 
-part-count-line-end : tie.Need-part-count-line-end Inv-loop μ-loop
-part-count-line-end c = search needs
+part-count-line-end : tie.Need-slice-bounds-count-line-end invariant-loop decreases-loop
+part-count-line-end c = search rules
 
-count-line-requires : tie.Need-count-line-requires Inv-loop μ-loop
-count-line-requires c κs = search needs
+count-line-requires : tie.Need-count-line-requires invariant-loop decreases-loop
+count-line-requires c κs = search rules
 
-add-vectors : tie.Need-add-vectors Inv-loop μ-loop
-add-vectors c = search needs
+add-vectors : tie.Need-overflow-add-vectors invariant-loop decreases-loop
+add-vectors c = search rules
 
-add-right : tie.Need-add-right Inv-loop μ-loop
-add-right c = search needs
+add_right : tie.Need-overflow-add-right invariant-loop decreases-loop
+add_right c = search rules
 
-add-at : tie.Need-add-at Inv-loop μ-loop
-add-at c = search needs
+add_at : tie.Need-overflow-add-at invariant-loop decreases-loop
+add_at c = search rules
 
-loop-less : tie.Need-loop-less Inv-loop μ-loop
-loop-less c = search needs
+loop-less : tie.Need-loop-smaller invariant-loop decreases-loop
+loop-less c = search rules
 
-loop-again : tie.Need-loop-again Inv-loop μ-loop
-loop-again c = search needs
+loop-again : tie.Need-loop-preserved invariant-loop decreases-loop
+loop-again c = search rules
 
-returns : tie.Need-returns Inv-loop μ-loop
-returns c = search needs
+returns : tie.Need-returns invariant-loop decreases-loop
+returns c = search rules
 
 pub count-lines-spec : {M : Type 1} → statement M
 count-lines-spec =
     tie.close
     (tie.spec
-    Inv-loop
-    μ-loop
+    invariant-loop
+    decreases-loop
     loop-holds
     find-requires
     sub-count-line
@@ -61,8 +61,8 @@ count-lines-spec =
     part-count-line-end
     count-line-requires
     add-vectors
-    add-right
-    add-at
+    add_right
+    add_at
     loop-less
     loop-again
     returns)

@@ -1,19 +1,19 @@
 -- `byte_at` answers the byte at an index: behind the end there is none, and 0 stands for it.
 -- Assumes nothing.
 use mathlib.Core.Path.{sym}
-use borrow.Author.Needs.{needs}
-use lib.ListN.{List·getD-eq-default}
-use Rattle·words·proofs.proofs.byte_at.Statement.{statement}
-use Rattle·words·proofs.proofs.byte_at.Tie as tie
+use borrow.Author.Rules.{rules}
+use lib.ListN.{get_or-eq_default}
+use Rattle.words.proofs.byte_at.Statement.{statement}
+use Rattle.words.proofs.byte_at.Tie as tie
 
 returns : tie.Need-returns
-returns c = sym (List·getD-eq-default (c .before .args .text .now) 0 (c .if1 .taken))
+returns c = sym (get_or-eq_default c.before.args.text.now 0 c.if1.true)
 
 shared-slice-read-result : tie.Need-shared-slice-read-result
-shared-slice-read-result c = search needs
+shared-slice-read-result c = search rules
 
 returns-2 : tie.Need-returns-2
-returns-2 c = search needs
+returns-2 c = search rules
 
 pub byte-at-spec : {M : Type 1} → statement M
 byte-at-spec = tie.close (tie.spec returns shared-slice-read-result returns-2)

@@ -2,65 +2,65 @@
 -- Assumes nothing.
 use native.Mathlib.Omega.{arith}
 use mathlib.Core.Path.{refl}
-use mathlib.Core.Bool.{true, not, _||_}
-use Rattle·encoding.specs.Fields.{varUIntBytes}
-use Rattle·encoding.proofs.Sizes.{varUInt-least}
-use Rattle·machine.specs.Call.{name}
-use Rattle·machine.specs.Machine.{openContainers, inStruct}
-use Rattle·machine.specs.declared.Refusal.the-variants.{NoRoom}
-use Rattle·steps.proofs.Run.{roomLine, refused-place, passed-place, put-fits, end-run, ended-run}
-use borrow.Author.Needs.{needs}
-use Rattle·writer·proofs.proofs.field_name.Statement.{statement}
-use Rattle·writer·proofs.proofs.field_name.Tie as tie
+use mathlib.Core.Bool.{true, not, ◌||◌}
+use Rattle.encoding.specs.Fields.{var_uint_bytes}
+use Rattle.encoding.proofs.Sizes.{var_uint_least}
+use Rattle.machine.specs.Call.{name}
+use Rattle.machine.specs.Machine.{open_containers, in_struct}
+use Rattle.machine.specs.declared.Refusal.TheVariants.{NoRoom}
+use Rattle.steps.proofs.Run.{room_line, refused_place, passed-place, put_fits, end_run, ended_run}
+use borrow.Author.Rules.{rules}
+use Rattle.writer.proofs.field_name.Statement.{statement}
+use Rattle.writer.proofs.field_name.Tie as tie
 
 name-place-requires : tie.Need-name-place-requires
-name-place-requires c κs = search needs
+name-place-requires c κs = search rules
 
-enum-told : tie.Need-enum-told
-enum-told c = search needs
+enum_told : tie.Need-enum-told
+enum_told c = search rules
 
 enum-told-2 : tie.Need-enum-told-2
-enum-told-2 c = search needs
+enum-told-2 c = search rules
 
 returns : tie.Need-returns
 returns c =
-    let p = c .before .before in
-    let a = p .before .before .args in
-    refused-place (name (a .sid)) (a .s) (a .buf .now) (not (inStruct (openContainers (a .s))) || a .s .waiting) (roomLine (name (a .sid)) (a .s) (a .buf .now))
-    refl (p .name-place .result) (p .name-place .ensures) _ (c .enum-told2 .given .1)
+    let p = c.before.before in
+    let a = p.before.before.args in
+    refused_place (name a.sid) a.s a.buf.now (not (in_struct (open_containers a.s)) || a.s.waiting) (room_line (name a.sid) a.s a.buf.now)
+    refl p.name-place.result p.name-place.ensures _ c.enum-told2.given.1
 
 write-requires : tie.Need-write-requires
-write-requires c κs = search needs
+write-requires c κs = search rules
 
 ended-requires : tie.Need-ended-requires
-ended-requires c κs = search needs
+ended-requires c κs = search rules
 
-same-length : tie.Need-same-length
-same-length c = search needs
+same_length : tie.Need-same-length
+same_length c = search rules
 
 returns-2 : tie.Need-returns-2
 returns-2 c =
-    let w = c .before .before .before in
-    let p = w .before .before .before .before in
-    let a = p .before .before .args in
+    let w = c.before.before.before in
+    let p = w.before.before.before.before in
+    let a = p.before.before.args in
     let past =
-    passed-place (name (a .sid)) (a .s) (a .buf .now) (not (inStruct (openContainers (a .s))) || a .s .waiting) (roomLine (name (a .sid)) (a .s) (a .buf .now))
-    refl (p .name-place .result) (p .name-place .ensures) (w .before .before .enum-told .given .1) in
-    ended-run (c .ended .result) (name (a .sid)) (a .s) (a .buf .now) (w .write .result) (w .write .last .0) true _ NoRoom
+    passed-place (name a.sid) a.s a.buf.now (not (in_struct (open_containers a.s)) || a.s.waiting) (room_line (name a.sid) a.s a.buf.now)
+    refl p.name-place.result p.name-place.ensures w.before.before.enum_told.given.1 in
+    ended_run c.ended.result (name a.sid) a.s a.buf.now w.write.result w.write.new.0 true _ NoRoom
     (λ h. omega
-    (arith, put-fits (a .buf .now) (a .s .used) (varUIntBytes (a .sid)) (w .write .result) (w .write .last .0) (w .write .ensures) h))
-    (c .ended .ensures)
-    (end-run (name (a .sid)) (a .s) (a .buf .now) (varUIntBytes (a .sid)) _ _ true _ (w .write .ensures) past (varUInt-least (a .sid)) refl refl)
+    (arith, put_fits a.buf.now a.s.used (var_uint_bytes a.sid) w.write.result w.write.new.0 w.write.ensures h))
+    c.ended.ensures
+    (end_run (name a.sid) a.s a.buf.now (var_uint_bytes a.sid) _ _ true _ w.write.ensures past (var_uint_least a.sid) refl refl)
 
 pub field-name-spec : {M : Type 1} → statement M
 field-name-spec =
     tie.close
     (tie.spec
     name-place-requires
-    enum-told
+    enum_told
     enum-told-2
     returns
     write-requires
     ended-requires
-    same-length
+    same_length
     returns-2)

@@ -1,20 +1,20 @@
 -- `writes::f32_of` is safe: bits with a magnitude up to that of infinity are no NaN's. Assumes nothing.
-use Prim.Native.Nat.{_%_}
+use Prim.Native.Nat.{◌%◌}
 use borrow.Author.Tests.{le-ltb}
 use lib.Ieee.{binary32}
-use lib.Ieee.Bits.{nanBits-above}
-use borrow.Author.Needs.{needs}
-use Rattle·calls·proofs.proofs.writes.f32_of.Statement.{statement}
-use Rattle·calls·proofs.proofs.writes.f32_of.Tie as tie
+use lib.Ieee.Bits.{nan_bits_above}
+use borrow.Author.Rules.{rules}
+use Rattle.calls.proofs.writes.f32_of.Statement.{statement}
+use Rattle.calls.proofs.writes.f32_of.Tie as tie
 
 returns : tie.Need-returns
-returns c = search needs
+returns c = search rules
 
 float-from-bits-result : tie.Need-float-from-bits-result
-float-from-bits-result c = let b = c .before .args .bits in rw (nanBits-above binary32 b, le-ltb 2139095040 (b % 2147483648) (c .if1 .left)) tt
+float-from-bits-result c = let b = c.before.args.bits in rw (nan_bits_above binary32 b, le-ltb 2139095040 (b % 2147483648) c.if1.false) tt
 
 returns-2 : tie.Need-returns-2
-returns-2 c = search needs
+returns-2 c = search rules
 
 pub f32-of-spec : {M : Type 1} → statement M
 f32-of-spec = tie.close (tie.spec returns float-from-bits-result returns-2)

@@ -1,68 +1,68 @@
 -- `walk::print_annotations` is safe and ends: the turns are counted down.
 -- Assumes nothing.
-use Prim.Native.Nat.{_≤_}
+use Prim.Native.Nat.{◌≤◌}
 use lib.ListN.{length}
-use borrow.Author.Needs.{needs}
-use Rattle·reads·proofs.proofs.walk.print_annotations.Statement.{statement}
-use Rattle·reads·proofs.proofs.walk.print_annotations.Tie as tie
+use borrow.Author.Rules.{rules}
+use Rattle.reads.proofs.walk.print_annotations.Statement.{statement}
+use Rattle.reads.proofs.walk.print_annotations.Tie as tie
 
-abbrev Inv-loop : tie.InvT-loop
-Inv-loop sids at₀ turns₀ t6 at turns = turns ≤ length sids
+abbrev invariant-loop : tie.invariant-loop
+invariant-loop sids at₀ turns₀ t6 at turns = turns ≤ length sids
 
-abbrev μ-loop : tie.MeasureT-loop
-μ-loop sids at₀ turns₀ t6 at turns = turns
+abbrev decreases-loop : tie.decreases-loop
+decreases-loop sids at₀ turns₀ t6 at turns = turns
 
-loop-holds : tie.Need-loop-holds Inv-loop μ-loop
-loop-holds c = search needs
+loop-holds : tie.Need-loop-init invariant-loop decreases-loop
+loop-holds c = search rules
 
-sub-turns : tie.Need-sub-turns Inv-loop μ-loop
-sub-turns c = search needs
+sub-turns : tie.Need-overflow-sub-turns invariant-loop decreases-loop
+sub-turns c = search rules
 
-returns : tie.Need-returns Inv-loop μ-loop
-returns c = search needs
+returns : tie.Need-returns invariant-loop decreases-loop
+returns c = search rules
 
-slice-aggregate-gm-read-sid : tie.Need-slice-aggregate-gm-read-sid Inv-loop μ-loop
-slice-aggregate-gm-read-sid c = search needs
+slice-aggregate-gm-read-sid : tie.Need-slice-aggregate-gm-read-sid invariant-loop decreases-loop
+slice-aggregate-gm-read-sid c = search rules
 
-gm-read-sid-requires : tie.Need-gm-read-sid-requires Inv-loop μ-loop
-gm-read-sid-requires c κs = search needs
+gm-read-sid-requires : tie.Need-gm-read-sid-requires invariant-loop decreases-loop
+gm-read-sid-requires c κs = search rules
 
-print-refusal-requires : tie.Need-print-refusal-requires Inv-loop μ-loop
-print-refusal-requires c κs = search needs
+print-refusal-requires : tie.Need-print-refusal-requires invariant-loop decreases-loop
+print-refusal-requires c κs = search rules
 
-returns-2 : tie.Need-returns-2 Inv-loop μ-loop
-returns-2 c = search needs
+returns-2 : tie.Need-returns-2 invariant-loop decreases-loop
+returns-2 c = search rules
 
-array-read-print-number : tie.Need-array-read-print-number Inv-loop μ-loop
-array-read-print-number c = search needs
+array-read-print-number : tie.Need-array-read-print-number invariant-loop decreases-loop
+array-read-print-number c = search rules
 
-print-number-requires : tie.Need-print-number-requires Inv-loop μ-loop
-print-number-requires c κs = search needs
+print-number-requires : tie.Need-print-number-requires invariant-loop decreases-loop
+print-number-requires c κs = search rules
 
-slice-aggregate-print : tie.Need-slice-aggregate-print Inv-loop μ-loop
-slice-aggregate-print c = search needs
+slice-aggregate-print : tie.Need-slice-aggregate-print invariant-loop decreases-loop
+slice-aggregate-print c = search rules
 
-print-requires : tie.Need-print-requires Inv-loop μ-loop
-print-requires c κs = search needs
+print-requires : tie.Need-print-requires invariant-loop decreases-loop
+print-requires c κs = search rules
 
-array-read-at : tie.Need-array-read-at Inv-loop μ-loop
-array-read-at c = search needs
+array-read-at : tie.Need-array-read-at invariant-loop decreases-loop
+array-read-at c = search rules
 
-loop-less : tie.Need-loop-less Inv-loop μ-loop
-loop-less c = search needs
+loop-less : tie.Need-loop-smaller invariant-loop decreases-loop
+loop-less c = search rules
 
-loop-again : tie.Need-loop-again Inv-loop μ-loop
-loop-again c = search needs
+loop-again : tie.Need-loop-preserved invariant-loop decreases-loop
+loop-again c = search rules
 
-returns-3 : tie.Need-returns-3 Inv-loop μ-loop
-returns-3 c = search needs
+returns-3 : tie.Need-returns-3 invariant-loop decreases-loop
+returns-3 c = search rules
 
 pub print-annotations-spec : {M : Type 1} → statement M
 print-annotations-spec =
     tie.close
     (tie.spec
-    Inv-loop
-    μ-loop
+    invariant-loop
+    decreases-loop
     loop-holds
     sub-turns
     returns

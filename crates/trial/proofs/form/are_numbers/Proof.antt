@@ -1,46 +1,46 @@
 -- `form::are_numbers` is safe and ends: it goes along the words.
 -- Assumes nothing.
-use Prim.Native.Nat.{_-_, _≤_}
-use borrow.Author.Needs.{needs}
-use Rattle·trial·proofs.proofs.form.are_numbers.Statement.{statement}
-use Rattle·trial·proofs.proofs.form.are_numbers.Tie as tie
+use Prim.Native.Nat.{◌-◌, ◌≤◌}
+use borrow.Author.Rules.{rules}
+use Rattle.trial.proofs.form.are_numbers.Statement.{statement}
+use Rattle.trial.proofs.form.are_numbers.Tie as tie
 
-abbrev Inv-loop : tie.InvT-loop
-Inv-loop text from to limit i₀ i = from ≤ i
+abbrev invariant-loop : tie.invariant-loop
+invariant-loop text from to limit i₀ i = from ≤ i
 
-abbrev μ-loop : tie.MeasureT-loop
-μ-loop text from to limit i₀ i = to - i
+abbrev decreases-loop : tie.decreases-loop
+decreases-loop text from to limit i₀ i = to - i
 
-loop-holds : tie.Need-loop-holds Inv-loop μ-loop
-loop-holds c = search needs
+loop-holds : tie.Need-loop-init invariant-loop decreases-loop
+loop-holds c = search rules
 
-word-requires : tie.Need-word-requires Inv-loop μ-loop
-word-requires c κs = search needs
+word-requires : tie.Need-word-requires invariant-loop decreases-loop
+word-requires c κs = search rules
 
-is-natural-requires : tie.Need-is-natural-requires Inv-loop μ-loop
-is-natural-requires c κs = search needs
+is-natural-requires : tie.Need-is-natural-requires invariant-loop decreases-loop
+is-natural-requires c κs = search rules
 
-returns : tie.Need-returns Inv-loop μ-loop
-returns c = search needs
+returns : tie.Need-returns invariant-loop decreases-loop
+returns c = search rules
 
-add-i : tie.Need-add-i Inv-loop μ-loop
-add-i c = search needs
+add-i : tie.Need-overflow-add-i invariant-loop decreases-loop
+add-i c = search rules
 
-loop-less : tie.Need-loop-less Inv-loop μ-loop
-loop-less c = search needs
+loop-less : tie.Need-loop-smaller invariant-loop decreases-loop
+loop-less c = search rules
 
-loop-again : tie.Need-loop-again Inv-loop μ-loop
-loop-again c = search needs
+loop-again : tie.Need-loop-preserved invariant-loop decreases-loop
+loop-again c = search rules
 
-returns-2 : tie.Need-returns-2 Inv-loop μ-loop
-returns-2 c = search needs
+returns-2 : tie.Need-returns-2 invariant-loop decreases-loop
+returns-2 c = search rules
 
 pub are-numbers-spec : {M : Type 1} → statement M
 are-numbers-spec =
     tie.close
     (tie.spec
-    Inv-loop
-    μ-loop
+    invariant-loop
+    decreases-loop
     loop-holds
     word-requires
     is-natural-requires

@@ -1,59 +1,59 @@
 -- `form::is_value` is safe and ends: each step goes on, and the stack never holds more than the bytes passed.
 -- Assumes nothing.
-use Prim.Native.Nat.{_+_, _-_, _≤_}
+use Prim.Native.Nat.{◌+◌, ◌-◌, ◌≤◌}
 use lib.ListN.{length}
-use borrow.Author.Needs.{needs}
-use Rattle·trial·proofs.proofs.form.is_value.Statement.{statement}
-use Rattle·trial·proofs.proofs.form.is_value.Tie as tie
+use borrow.Author.Rules.{rules}
+use Rattle.trial.proofs.form.is_value.Statement.{statement}
+use Rattle.trial.proofs.form.is_value.Tie as tie
 
-abbrev Inv-loop : tie.InvT-loop
-Inv-loop line stack₀ at₀ depth₀ due₀ stack at depth due = depth ≤ at
+abbrev invariant-loop : tie.invariant-loop
+invariant-loop line stack₀ at₀ depth₀ due₀ stack at depth due = depth ≤ at
 
-abbrev μ-loop : tie.MeasureT-loop
-μ-loop line stack₀ at₀ depth₀ due₀ stack at depth due = length line - at
+abbrev decreases-loop : tie.decreases-loop
+decreases-loop line stack₀ at₀ depth₀ due₀ stack at depth due = length line - at
 
-loop-holds : tie.Need-loop-holds Inv-loop μ-loop
-loop-holds c = search needs
+loop-holds : tie.Need-loop-init invariant-loop decreases-loop
+loop-holds c = search rules
 
-next-requires : tie.Need-next-requires Inv-loop μ-loop
-next-requires c κs = search needs
+next-requires : tie.Need-next-requires invariant-loop decreases-loop
+next-requires c κs = search rules
 
-sub-is-right : tie.Need-sub-is-right Inv-loop μ-loop
-sub-is-right c = search needs
+sub-is-right : tie.Need-overflow-sub-is-right invariant-loop decreases-loop
+sub-is-right c = search rules
 
-part-is-right-start : tie.Need-part-is-right-start Inv-loop μ-loop
-part-is-right-start c = search needs
+part-is-right-start : tie.Need-slice-bounds-is-right-start invariant-loop decreases-loop
+part-is-right-start c = search rules
 
-part-is-right-end : tie.Need-part-is-right-end Inv-loop μ-loop
-part-is-right-end c = search needs
+part-is-right-end : tie.Need-slice-bounds-is-right-end invariant-loop decreases-loop
+part-is-right-end c = search rules
 
-is-right-requires : tie.Need-is-right-requires Inv-loop μ-loop
-is-right-requires c κs = search needs
+is-right-requires : tie.Need-is-right-requires invariant-loop decreases-loop
+is-right-requires c κs = search rules
 
-returns : tie.Need-returns Inv-loop μ-loop
-returns c = search needs
+returns : tie.Need-returns invariant-loop decreases-loop
+returns c = search rules
 
-depth-behind-requires : tie.Need-depth-behind-requires Inv-loop μ-loop
-depth-behind-requires c κs = search needs
+depth-behind-requires : tie.Need-depth-behind-requires invariant-loop decreases-loop
+depth-behind-requires c κs = search rules
 
-due-behind-requires : tie.Need-due-behind-requires Inv-loop μ-loop
-due-behind-requires c κs = search needs
+due-behind-requires : tie.Need-due-behind-requires invariant-loop decreases-loop
+due-behind-requires c κs = search rules
 
-loop-less : tie.Need-loop-less Inv-loop μ-loop
-loop-less c = search needs
+loop-less : tie.Need-loop-smaller invariant-loop decreases-loop
+loop-less c = search rules
 
-loop-again : tie.Need-loop-again Inv-loop μ-loop
-loop-again c = search needs
+loop-again : tie.Need-loop-preserved invariant-loop decreases-loop
+loop-again c = search rules
 
-returns-2 : tie.Need-returns-2 Inv-loop μ-loop
-returns-2 c = search needs
+returns-2 : tie.Need-returns-2 invariant-loop decreases-loop
+returns-2 c = search rules
 
 pub is-value-spec : {M : Type 1} → statement M
 is-value-spec =
     tie.close
     (tie.spec
-    Inv-loop
-    μ-loop
+    invariant-loop
+    decreases-loop
     loop-holds
     next-requires
     sub-is-right

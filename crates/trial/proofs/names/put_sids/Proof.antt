@@ -1,63 +1,63 @@
 -- `names::put_sids` is safe and ends: each sid takes eight bytes, and its word at least one.
 -- Assumes nothing.
-use mathlib.Core.Path.{_≡_}
-use Prim.Native.Nat.{_+_, _-_, _*_, _≤_}
+use mathlib.Core.Path.{◌≡◌}
+use Prim.Native.Nat.{◌+◌, ◌-◌, ◌*◌, ◌≤◌}
 use lib.ListN.{length}
-use borrow.Author.Needs.{needs}
-use Rattle·trial·proofs.proofs.names.put_sids.Statement.{statement}
-use Rattle·trial·proofs.proofs.names.put_sids.Tie as tie
+use borrow.Author.Rules.{rules}
+use Rattle.trial.proofs.names.put_sids.Statement.{statement}
+use Rattle.trial.proofs.names.put_sids.Tie as tie
 
-abbrev Inv-loop : tie.InvT-loop
-Inv-loop text out₀ put₀ at₀ out put at = (at ≤ length text + 1) × (put ≤ 8 * at) × (put ≤ 8 * length text) × (length out ≡ length out₀)
+abbrev invariant-loop : tie.invariant-loop
+invariant-loop text out₀ put₀ at₀ out put at = (at ≤ length text + 1) × (put ≤ 8 * at) × (put ≤ 8 * length text) × (length out ≡ length out₀)
 
-abbrev μ-loop : tie.MeasureT-loop
-μ-loop text out₀ put₀ at₀ out put at = length text - at
+abbrev decreases-loop : tie.decreases-loop
+decreases-loop text out₀ put₀ at₀ out put at = length text - at
 
-loop-holds : tie.Need-loop-holds Inv-loop μ-loop
-loop-holds c = search needs
+loop-holds : tie.Need-loop-init invariant-loop decreases-loop
+loop-holds c = search rules
 
-find-requires : tie.Need-find-requires Inv-loop μ-loop
-find-requires c κs = search needs
+find-requires : tie.Need-find-requires invariant-loop decreases-loop
+find-requires c κs = search rules
 
-sub-natural : tie.Need-sub-natural Inv-loop μ-loop
-sub-natural c = search needs
+sub-natural : tie.Need-overflow-sub-natural invariant-loop decreases-loop
+sub-natural c = search rules
 
-part-natural-start : tie.Need-part-natural-start Inv-loop μ-loop
-part-natural-start c = search needs
+part-natural-start : tie.Need-slice-bounds-natural-start invariant-loop decreases-loop
+part-natural-start c = search rules
 
-part-natural-end : tie.Need-part-natural-end Inv-loop μ-loop
-part-natural-end c = search needs
+part-natural-end : tie.Need-slice-bounds-natural-end invariant-loop decreases-loop
+part-natural-end c = search rules
 
-natural-requires : tie.Need-natural-requires Inv-loop μ-loop
-natural-requires c κs = search needs
+natural-requires : tie.Need-natural-requires invariant-loop decreases-loop
+natural-requires c κs = search rules
 
-put-sid-requires : tie.Need-put-sid-requires Inv-loop μ-loop
-put-sid-requires c κs = search needs
+put-sid-requires : tie.Need-put-sid-requires invariant-loop decreases-loop
+put-sid-requires c κs = search rules
 
-add-put : tie.Need-add-put Inv-loop μ-loop
-add-put c = search needs
+add-put : tie.Need-overflow-add-put invariant-loop decreases-loop
+add-put c = search rules
 
-add-at : tie.Need-add-at Inv-loop μ-loop
-add-at c = search needs
+add_at : tie.Need-overflow-add-at invariant-loop decreases-loop
+add_at c = search rules
 
-loop-less : tie.Need-loop-less Inv-loop μ-loop
-loop-less c = search needs
+loop-less : tie.Need-loop-smaller invariant-loop decreases-loop
+loop-less c = search rules
 
-loop-again : tie.Need-loop-again Inv-loop μ-loop
-loop-again c = search needs
+loop-again : tie.Need-loop-preserved invariant-loop decreases-loop
+loop-again c = search rules
 
-same-length : tie.Need-same-length Inv-loop μ-loop
-same-length c = search needs
+same_length : tie.Need-same-length invariant-loop decreases-loop
+same_length c = search rules
 
-returns : tie.Need-returns Inv-loop μ-loop
-returns c = search needs
+returns : tie.Need-returns invariant-loop decreases-loop
+returns c = search rules
 
 pub put-sids-spec : {M : Type 1} → statement M
 put-sids-spec =
     tie.close
     (tie.spec
-    Inv-loop
-    μ-loop
+    invariant-loop
+    decreases-loop
     loop-holds
     find-requires
     sub-natural
@@ -66,8 +66,8 @@ put-sids-spec =
     natural-requires
     put-sid-requires
     add-put
-    add-at
+    add_at
     loop-less
     loop-again
-    same-length
+    same_length
     returns)

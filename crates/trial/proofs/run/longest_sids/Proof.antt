@@ -1,8 +1,8 @@
 -- `run::longest_sids` has its length by the law of repeats.
 -- Assumes nothing.
-use Rattle·words.proofs.Repeated.{repeated}
-use Rattle·trial·proofs.proofs.run.longest_sids.Statement.{statement}
-use Rattle·trial·proofs.proofs.run.longest_sids.Tie as tie
+use Rattle.words.proofs.Repeated.{repeated}
+use Rattle.trial.proofs.run.longest_sids.Statement.{statement}
+use Rattle.trial.proofs.run.longest_sids.Tie as tie
 
 returns : tie.Need-returns
 returns c = repeated 32768 0

@@ -1,85 +1,85 @@
 -- `run::run_value` is safe and ends: each step goes on, and the stack never holds more than the bytes passed.
 -- Assumes nothing.
-use mathlib.Core.Path.{_≡_}
-use Prim.Native.Nat.{_-_, _≤_}
+use mathlib.Core.Path.{◌≡◌}
+use Prim.Native.Nat.{◌-◌, ◌≤◌}
 use lib.ListN.{length}
-use borrow.Author.Needs.{needs}
-use Rattle·trial·proofs.proofs.run.run_value.Statement.{statement}
-use Rattle·trial·proofs.proofs.run.run_value.Tie as tie
+use borrow.Author.Rules.{rules}
+use Rattle.trial.proofs.run.run_value.Statement.{statement}
+use Rattle.trial.proofs.run.run_value.Tie as tie
 
-abbrev Inv-loop : tie.InvT-loop
-Inv-loop line state₀ buf₀ sids₀ bytes₀ stack₀ annotated₀ at₀ depth₀ due₀ state buf sids bytes stack annotated at depth due =
+abbrev invariant-loop : tie.invariant-loop
+invariant-loop line state₀ buf₀ sids₀ bytes₀ stack₀ annotated₀ at₀ depth₀ due₀ state buf sids bytes stack annotated at depth due =
     (depth ≤ at) × (annotated ≤ 32768) × (length sids ≡ 32768) × (length bytes ≡ length bytes₀)
 
-abbrev μ-loop : tie.MeasureT-loop
-μ-loop line state₀ buf₀ sids₀ bytes₀ stack₀ annotated₀ at₀ depth₀ due₀ state buf sids bytes stack annotated at depth due = length line - at
+abbrev decreases-loop : tie.decreases-loop
+decreases-loop line state₀ buf₀ sids₀ bytes₀ stack₀ annotated₀ at₀ depth₀ due₀ state buf sids bytes stack annotated at depth due = length line - at
 
-loop-holds : tie.Need-loop-holds Inv-loop μ-loop
-loop-holds c = search needs
+loop-holds : tie.Need-loop-init invariant-loop decreases-loop
+loop-holds c = search rules
 
-next-requires : tie.Need-next-requires Inv-loop μ-loop
-next-requires c κs = search needs
+next-requires : tie.Need-next-requires invariant-loop decreases-loop
+next-requires c κs = search rules
 
-sub-text : tie.Need-sub-text Inv-loop μ-loop
-sub-text c = search needs
+sub-text : tie.Need-overflow-sub-text invariant-loop decreases-loop
+sub-text c = search rules
 
-part-text-start : tie.Need-part-text-start Inv-loop μ-loop
-part-text-start c = search needs
+part-text-start : tie.Need-slice-bounds-text-start invariant-loop decreases-loop
+part-text-start c = search rules
 
-part-text-end : tie.Need-part-text-end Inv-loop μ-loop
-part-text-end c = search needs
+part-text-end : tie.Need-slice-bounds-text-end invariant-loop decreases-loop
+part-text-end c = search rules
 
-sub-run-part : tie.Need-sub-run-part Inv-loop μ-loop
-sub-run-part c = search needs
+sub-run-part : tie.Need-overflow-sub-run-part invariant-loop decreases-loop
+sub-run-part c = search rules
 
-part-run-part-start : tie.Need-part-run-part-start Inv-loop μ-loop
-part-run-part-start c = search needs
+part-run-part-start : tie.Need-slice-bounds-run-part-start invariant-loop decreases-loop
+part-run-part-start c = search rules
 
-part-run-part-end : tie.Need-part-run-part-end Inv-loop μ-loop
-part-run-part-end c = search needs
+part-run-part-end : tie.Need-slice-bounds-run-part-end invariant-loop decreases-loop
+part-run-part-end c = search rules
 
-run-part-requires : tie.Need-run-part-requires Inv-loop μ-loop
-run-part-requires c κs = search needs
+run-part-requires : tie.Need-run-part-requires invariant-loop decreases-loop
+run-part-requires c κs = search rules
 
-same-length : tie.Need-same-length Inv-loop μ-loop
-same-length c = search needs
+same_length : tie.Need-same-length invariant-loop decreases-loop
+same_length c = search rules
 
-same-length-2 : tie.Need-same-length-2 Inv-loop μ-loop
-same-length-2 c = search needs
+same-length-2 : tie.Need-same-length-2 invariant-loop decreases-loop
+same-length-2 c = search rules
 
-returns : tie.Need-returns Inv-loop μ-loop
-returns c = search needs
+returns : tie.Need-returns invariant-loop decreases-loop
+returns c = search rules
 
-put-annotations-requires : tie.Need-put-annotations-requires Inv-loop μ-loop
-put-annotations-requires c κs = search needs
+put-annotations-requires : tie.Need-put-annotations-requires invariant-loop decreases-loop
+put-annotations-requires c κs = search rules
 
-depth-behind-requires : tie.Need-depth-behind-requires Inv-loop μ-loop
-depth-behind-requires c κs = search needs
+depth-behind-requires : tie.Need-depth-behind-requires invariant-loop decreases-loop
+depth-behind-requires c κs = search rules
 
-due-behind-requires : tie.Need-due-behind-requires Inv-loop μ-loop
-due-behind-requires c κs = search needs
+due-behind-requires : tie.Need-due-behind-requires invariant-loop decreases-loop
+due-behind-requires c κs = search rules
 
-loop-less : tie.Need-loop-less Inv-loop μ-loop
-loop-less c = search needs
+loop-less : tie.Need-loop-smaller invariant-loop decreases-loop
+loop-less c = search rules
 
-loop-again : tie.Need-loop-again Inv-loop μ-loop
-loop-again c = search needs
+loop-again : tie.Need-loop-preserved invariant-loop decreases-loop
+loop-again c = search rules
 
-same-length-3 : tie.Need-same-length-3 Inv-loop μ-loop
-same-length-3 c = search needs
+same-length-3 : tie.Need-same-length-3 invariant-loop decreases-loop
+same-length-3 c = search rules
 
-same-length-4 : tie.Need-same-length-4 Inv-loop μ-loop
-same-length-4 c = search needs
+same-length-4 : tie.Need-same-length-4 invariant-loop decreases-loop
+same-length-4 c = search rules
 
-returns-2 : tie.Need-returns-2 Inv-loop μ-loop
-returns-2 c = search needs
+returns-2 : tie.Need-returns-2 invariant-loop decreases-loop
+returns-2 c = search rules
 
 pub run-value-spec : {M : Type 1} → statement M
 run-value-spec =
     tie.close
     (tie.spec
-    Inv-loop
-    μ-loop
+    invariant-loop
+    decreases-loop
     loop-holds
     next-requires
     sub-text
@@ -89,7 +89,7 @@ run-value-spec =
     part-run-part-start
     part-run-part-end
     run-part-requires
-    same-length
+    same_length
     same-length-2
     returns
     put-annotations-requires

@@ -1,60 +1,60 @@
 -- `hex::is_hex` is yes of one digit or more: from each index passed on, all are digits where all of the word are.
 -- The measure is what is left of the word. Assumes nothing.
-use mathlib.Core.Path.{_≡_, refl, sym, _∙_}
+use mathlib.Core.Path.{◌≡◌, refl, sym, ◌∙◌}
 use mathlib.Core.Bool.{true, false}
-use Prim.Native.Nat.{_-_, _≤_}
+use Prim.Native.Nat.{◌-◌, ◌≤◌}
 use native.Mathlib.Omega.{arith}
 use lib.ListN.{length, drop}
-use Rattle·words·specs.specs.Hex.{areHexDigits}
-use Rattle·words·proofs.proofs.HexDigits.{not-digits, digits-further, digits-all, is-hex-by}
-use Rattle·words·proofs.proofs.hex.is_hex.Statement.{statement}
-use Rattle·words·proofs.proofs.hex.is_hex.Tie as tie
+use Rattle.words.specs.Hex.{are_hex_digits}
+use Rattle.words.proofs.HexDigits.{not_digits, digits_further, digits_all, is_hex_by}
+use Rattle.words.proofs.hex.is_hex.Statement.{statement}
+use Rattle.words.proofs.hex.is_hex.Tie as tie
 
-abbrev Inv-loop : tie.InvT-loop
-Inv-loop word i₀ i = (i ≤ length word) × (areHexDigits (drop i word) ≡ areHexDigits word)
+abbrev invariant-loop : tie.invariant-loop
+invariant-loop word i₀ i = (i ≤ length word) × (are_hex_digits (drop i word) ≡ are_hex_digits word)
 
-abbrev μ-loop : tie.MeasureT-loop
-μ-loop word i₀ i = length word - i
+abbrev decreases-loop : tie.decreases-loop
+decreases-loop word i₀ i = length word - i
 
-loop-holds : tie.Need-loop-holds Inv-loop μ-loop
+loop-holds : tie.Need-loop-init invariant-loop decreases-loop
 loop-holds c = (omega arith, refl)
 
-shared-slice-read-hex-digit : tie.Need-shared-slice-read-hex-digit Inv-loop μ-loop
+shared-slice-read-hex-digit : tie.Need-shared-slice-read-hex-digit invariant-loop decreases-loop
 shared-slice-read-hex-digit c = omega arith
 
-hex-digit-requires : tie.Need-hex-digit-requires Inv-loop μ-loop
+hex-digit-requires : tie.Need-hex-digit-requires invariant-loop decreases-loop
 hex-digit-requires c κs = tt
 
-returns : tie.Need-returns Inv-loop μ-loop
+returns : tie.Need-returns invariant-loop decreases-loop
 returns c =
-    let t = c .before .before .before .before .before .before .args .word .now in
-    let l = c .before .before .before .before .loop in
-    is-hex-by t false (sym (l .inv .1) ∙ not-digits t (l .i) (omega arith) (sym (c .before .hex-digit .ensures) ∙ c .if1 .taken))
+    let t = c.before.before.before.before.before.before.args.word.now in
+    let l = c.before.before.before.before.loop in
+    is_hex_by t false (sym l.invariant.1 ∙ not_digits t l.i (omega arith) (sym c.before.hex-digit.ensures ∙ c.if1.true))
 
-add-i : tie.Need-add-i Inv-loop μ-loop
+add-i : tie.Need-overflow-add-i invariant-loop decreases-loop
 add-i c = omega arith
 
-loop-less : tie.Need-loop-less Inv-loop μ-loop
+loop-less : tie.Need-loop-smaller invariant-loop decreases-loop
 loop-less c = omega arith
 
-loop-again : tie.Need-loop-again Inv-loop μ-loop
+loop-again : tie.Need-loop-preserved invariant-loop decreases-loop
 loop-again c =
-    let t = c .before .before .before .before .before .before .args .word .now in
-    let l = c .before .before .before .before .loop in
-    (omega arith, sym (digits-further t (l .i) (omega arith) (λ e. c .if1 .left (c .before .hex-digit .ensures ∙ e))) ∙ l .inv .1)
+    let t = c.before.before.before.before.before.before.args.word.now in
+    let l = c.before.before.before.before.loop in
+    (omega arith, sym (digits_further t l.i (omega arith) (λ e. c.if1.false (c.before.hex-digit.ensures ∙ e))) ∙ l.invariant.1)
 
-returns-2 : tie.Need-returns-2 Inv-loop μ-loop
+returns-2 : tie.Need-returns-2 invariant-loop decreases-loop
 returns-2 c =
-    let t = c .before .before .before .args .word .now in
-    let l = c .before .loop in
-    is-hex-by t true (sym (l .inv .1) ∙ digits-all t (l .i) (c .loop-test .left))
+    let t = c.before.before.before.args.word.now in
+    let l = c.before.loop in
+    is_hex_by t true (sym l.invariant.1 ∙ digits_all t l.i c.loop-test.false)
 
 pub is-hex-spec : {M : Type 1} → statement M
 is-hex-spec =
     tie.close
     (tie.spec
-    Inv-loop
-    μ-loop
+    invariant-loop
+    decreases-loop
     loop-holds
     shared-slice-read-hex-digit
     hex-digit-requires

@@ -1,18 +1,18 @@
 -- `numbers::has_minus` compares the first byte, and 0 where there is none, with a minus.
 -- Assumes nothing.
 use mathlib.Core.Path.{ap}
-use borrow.Author.Needs.{needs}
+use borrow.Author.Rules.{rules}
 use lib.Dec.{eqb}
-use Rattle·words·specs.specs.Numbers.{hasMinus}
-use Rattle·words·proofs.proofs.numbers.has_minus.Statement.{statement}
-use Rattle·words·proofs.proofs.numbers.has_minus.Tie as tie
+use Rattle.words.specs.Numbers.{has_minus}
+use Rattle.words.proofs.numbers.has_minus.Statement.{statement}
+use Rattle.words.proofs.numbers.has_minus.Tie as tie
 
 byte-at-requires : tie.Need-byte-at-requires
-byte-at-requires c κs = search needs
+byte-at-requires c κs = search rules
 
 returns : tie.Need-returns
-unfolding hasMinus
-returns c = ap (λ b. eqb b 45) (c .byte-at .ensures)
+unfolding has_minus
+returns c = ap (λ b. eqb b 45) c.byte_at.ensures
 
 pub has-minus-spec : {M : Type 1} → statement M
 has-minus-spec = tie.close (tie.spec byte-at-requires returns)
