@@ -8,7 +8,6 @@ use Rattle.encoding.specs.Headers.{annotation_bytes}
 use Rattle.encoding.proofs.Sizes.{var_uint-most}
 use Rattle.annotations.specs.Sids.{sids_of}
 use Rattle.annotations.proofs.Sids.{length-annotations}
-use borrow.Author.Rules.{rules}
 use Rattle.annotations.proofs.measure.Goals as goal
 
 pub overflow_add-whole : goal.overflow_add-whole

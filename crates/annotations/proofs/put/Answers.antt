@@ -11,20 +11,11 @@ use Rattle.buffer.specs.Laid.{placed}
 use Rattle.buffer.proofs.Laid.{placed_count, placed-most, placed-length, placed_then}
 use Rattle.annotations.specs.Sids.{sids_of}
 use Rattle.annotations.proofs.Sids.{length-annotations}
-use borrow.Author.Rules.{rules}
 use Rattle.annotations.proofs.put.Goals as goal
-
--- what the call of the first run leaves, and the room of both
-record Known (c : tie.After-write) : Type 0 where
-  whole : c.before.before.before.before.args.at + (length (var_uint_bytes c.before.before.before.before.args.sum)
-      + length (var_uints_bytes (sids_of c.before.before.before.before.args.annotations.now)))
-      ≤ length c.before.before.before.before.args.buf.now
-  first : c.write.result ≡ length (var_uint_bytes c.before.before.before.before.args.sum)
-  kept : length c.write.new.0 ≡ length c.before.before.before.before.args.buf.now
 
 pub overflow_add-at : goal.overflow_add-at
 overflow_add-at c =
-    let known : Known ⟪After-write⟫ = let a = c.args in
+    let known : record { whole : c.args.at + (length (var_uint_bytes c.args.sum) + length (var_uints_bytes (sids_of c.args.annotations.now))) ≤ length c.args.buf.now; first : c.write-first.result ≡ length (var_uint_bytes c.args.sum); kept : length c.write-first.new.buf ≡ length c.args.buf.now } = let a = c.args in
     let p = c.requires in
     let h : a.at + (length (var_uint_bytes a.sum) + length (var_uints_bytes (sids_of a.annotations.now))) ≤ length a.buf.now =
     rw p.0 (omega (arith, length-annotations (sids_of a.annotations.now))) in
@@ -37,7 +28,7 @@ overflow_add-at c =
 
 pub put_sids-rest-requires : goal.put_sids-rest-requires
 put_sids-rest-requires c =
-    let known : Known ⟪After-write⟫ = let a = c.args in
+    let known : record { whole : c.args.at + (length (var_uint_bytes c.args.sum) + length (var_uints_bytes (sids_of c.args.annotations.now))) ≤ length c.args.buf.now; first : c.write-first.result ≡ length (var_uint_bytes c.args.sum); kept : length c.write-first.new.buf ≡ length c.args.buf.now } = let a = c.args in
     let p = c.requires in
     let h : a.at + (length (var_uint_bytes a.sum) + length (var_uints_bytes (sids_of a.annotations.now))) ≤ length a.buf.now =
     rw p.0 (omega (arith, length-annotations (sids_of a.annotations.now))) in
@@ -50,7 +41,7 @@ put_sids-rest-requires c =
 
 pub overflow_add-result : goal.overflow_add-result
 overflow_add-result c =
-    let known : Known ⟪After-write⟫ = let a = c.args in
+    let known : record { whole : c.args.at + (length (var_uint_bytes c.args.sum) + length (var_uints_bytes (sids_of c.args.annotations.now))) ≤ length c.args.buf.now; first : c.write-first.result ≡ length (var_uint_bytes c.args.sum); kept : length c.write-first.new.buf ≡ length c.args.buf.now } = let a = c.args in
     let p = c.requires in
     let h : a.at + (length (var_uint_bytes a.sum) + length (var_uints_bytes (sids_of a.annotations.now))) ≤ length a.buf.now =
     rw p.0 (omega (arith, length-annotations (sids_of a.annotations.now))) in
@@ -70,7 +61,7 @@ overflow_add-result c =
 pub returns : goal.returns
 unfolding annotation_bytes
 returns c =
-    let known : Known ⟪After-write⟫ = let a = c.args in
+    let known : record { whole : c.args.at + (length (var_uint_bytes c.args.sum) + length (var_uints_bytes (sids_of c.args.annotations.now))) ≤ length c.args.buf.now; first : c.write-first.result ≡ length (var_uint_bytes c.args.sum); kept : length c.write-first.new.buf ≡ length c.args.buf.now } = let a = c.args in
     let p = c.requires in
     let h : a.at + (length (var_uint_bytes a.sum) + length (var_uints_bytes (sids_of a.annotations.now))) ≤ length a.buf.now =
     rw p.0 (omega (arith, length-annotations (sids_of a.annotations.now))) in

@@ -2,25 +2,16 @@
 -- Each turn places one sid more behind them. Assumes nothing.
 use mathlib.Core.Path.{◌≡◌, sym, ◌∙◌, ap}
 use mathlib.Core.List.{List}
-use Prim.Native.Nat.{ℕ, suc, ◌+◌, ◌-◌, ◌≤◌}
+use Prim.Native.Nat.{ℕ, suc, ◌+◌, ◌≤◌}
 use native.Mathlib.Omega.{arith}
 use native.Mathlib.Numerals.{add-one}
 use lib.ListN.{length}
-use Rattle.encoding.specs.Fields.{var_uint_bytes, var_uints_bytes}
+use Rattle.encoding.specs.Fields.{var_uint_bytes}
 use Rattle.buffer.specs.Laid.{placed}
 use Rattle.buffer.proofs.Laid.{placed_nil, placed_count, placed-length, placed_then}
-use Rattle.annotations.specs.Sids.{sid_at, sid_count, sids_of}
+use Rattle.annotations.specs.Sids.{sid_at, sid_count}
 use Rattle.annotations.proofs.Sids.{sid_bytes, sid_bytes-none, sid_bytes_more, sid_bytes_all, length-sid_bytes_more, sid_bytes_within}
-use borrow.Author.Rules.{rules}
 use Rattle.annotations.proofs.put_sids.Goals as goal
-
--- the bytes of the first n sids lie within the buffer
-within : (c : tie.At-loop invariant-loop decreases-loop) (n : ℕ) → n ≤ sid_count c.before.before.before.before.args.annotations.now →
-    c.before.before.before.before.args.at + length (sid_bytes c.before.before.before.before.args.annotations.now n)
-    ≤ length c.before.before.before.before.args.buf.now
-within c n h =
-    let a = c.before.before.before.before.args.annotations.now in
-    omega (arith, ap length (sid_bytes_all a), sid_bytes_within a n (sid_count a) h)
 
 pub loop-i-init : goal.loop-i-init
 loop-i-init c = let a = c.args in
@@ -28,13 +19,21 @@ loop-i-init c = let a = c.args in
 
 pub overflow_add-at : goal.overflow_add-at
 overflow_add-at c =
+    let within : (n : ℕ) → n ≤ sid_count c.args.annotations.now →
+    c.args.at + length (sid_bytes c.args.annotations.now n)
+    ≤ length c.args.buf.now = λ n h. let a = c.args.annotations.now in
+    omega (arith, ap length (sid_bytes_all a), sid_bytes_within a n (sid_count a) h) in
     let written_is : c.loop-i.written ≡ length (sid_bytes c.args.annotations.now c.loop-i.i) = let a = c.args in
     placed_count a.buf.now a.at (sid_bytes a.annotations.now c.loop-i.i) c.loop-i.written c.loop-i.buf c.loop-i.invariant.3
-    (within ⟪At-loop⟫ c.loop-i.i (omega arith)) in
-    omega (arith, written_is, within ⟪At-loop⟫ c.loop-i.i (omega arith))
+    (within c.loop-i.i (omega arith)) in
+    omega (arith, written_is, within c.loop-i.i (omega arith))
 
 pub overflow_add-written : goal.overflow_add-written
 overflow_add-written c =
+    let within : (n : ℕ) → n ≤ sid_count c.args.annotations.now →
+    c.args.at + length (sid_bytes c.args.annotations.now n)
+    ≤ length c.args.buf.now = λ n h. let a = c.args.annotations.now in
+    omega (arith, ap length (sid_bytes_all a), sid_bytes_within a n (sid_count a) h) in
     let turned : let a = c.args in
     ◌≡◌ {A = ℕ × List ℕ} (c.loop-i.written + c.write-written.result, c.write-written.new.buf)
     (placed a.buf.now a.at (sid_bytes a.annotations.now (suc c.loop-i.i))) = let l = c.loop-i in
@@ -42,14 +41,18 @@ overflow_add-written c =
     let s = a.annotations.now in
     rw (sid_bytes_more s l.i)
     (placed_then a.buf.now a.at (sid_bytes s l.i) l.written l.buf l.invariant.3 (var_uint_bytes (sid_at s l.i)) _ _
-    (omega (arith, within ⟪At-loop⟫ (suc l.i) (omega arith), length-sid_bytes_more s l.i))
+    (omega (arith, within (suc l.i) (omega arith), length-sid_bytes_more s l.i))
     (c.write-written.ensures ∙ ap (λ (v : ℕ). placed l.buf (a.at + l.written) (var_uint_bytes v)) c.sid_at.ensures)) in
     let a = c.args in
-    let w = within ⟪At-loop⟫ (suc c.loop-i.i) (omega arith) in
+    let w = within (suc c.loop-i.i) (omega arith) in
     omega (arith, placed_count a.buf.now a.at (sid_bytes a.annotations.now (suc c.loop-i.i)) _ _ (turned) w)
 
 pub loop-i-preserved : goal.loop-i-preserved
 loop-i-preserved c =
+    let within : (n : ℕ) → n ≤ sid_count c.args.annotations.now →
+    c.args.at + length (sid_bytes c.args.annotations.now n)
+    ≤ length c.args.buf.now = λ n h. let a = c.args.annotations.now in
+    omega (arith, ap length (sid_bytes_all a), sid_bytes_within a n (sid_count a) h) in
     let turned : let a = c.args in
     ◌≡◌ {A = ℕ × List ℕ} (c.loop-i.written + c.write-written.result, c.write-written.new.buf)
     (placed a.buf.now a.at (sid_bytes a.annotations.now (suc c.loop-i.i))) = let l = c.loop-i in
@@ -57,7 +60,7 @@ loop-i-preserved c =
     let s = a.annotations.now in
     rw (sid_bytes_more s l.i)
     (placed_then a.buf.now a.at (sid_bytes s l.i) l.written l.buf l.invariant.3 (var_uint_bytes (sid_at s l.i)) _ _
-    (omega (arith, within ⟪At-loop⟫ (suc l.i) (omega arith), length-sid_bytes_more s l.i))
+    (omega (arith, within (suc l.i) (omega arith), length-sid_bytes_more s l.i))
     (c.write-written.ensures ∙ ap (λ (v : ℕ). placed l.buf (a.at + l.written) (var_uint_bytes v)) c.sid_at.ensures)) in
     (omega arith, omega arith, omega arith, rw add-one (turned))
 

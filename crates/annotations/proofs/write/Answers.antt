@@ -5,7 +5,6 @@ use native.Mathlib.Omega.{arith}
 use Rattle.encoding.specs.Headers.{annotation_bytes}
 use Rattle.buffer.proofs.Laid.{placed_full, no_room, room}
 use Rattle.annotations.specs.Sids.{sids_of}
-use borrow.Author.Rules.{rules}
 use Rattle.annotations.proofs.write.Goals as goal
 
 pub returns-then-not-has_room : goal.returns-then-not-has_room

@@ -6,7 +6,6 @@ use Rattle.encoding.specs.Headers.{annotation_bytes}
 use Rattle.buffer.proofs.Laid.{no_room, room}
 use Rattle.annotations.specs.Sids.{sids_of}
 use Rattle.annotations.proofs.Prefix.{placed_before-fits, placed_before_full}
-use borrow.Author.Rules.{rules}
 use Rattle.annotations.proofs.write_before.Goals as goal
 
 pub returns-then-not-has_room : goal.returns-then-not-has_room

@@ -13,7 +13,6 @@ use Rattle.encoding.proofs.Headers.{length_header, header_most}
 use Rattle.annotations.specs.Sids.{sids_of}
 use Rattle.annotations.specs.Prefix.{prefix_bytes}
 use Rattle.annotations.proofs.Prefix.{length_prefix, placed_before-fits, placed_before_full}
-use borrow.Author.Rules.{rules}
 use Rattle.annotations.proofs.write_prefix.Goals as goal
 
 -- the header's size and the annotations' make the prefix
