@@ -7,7 +7,7 @@ ghost use Rattle.read_bodies.specs.Places.{groups_at, var_uint_at, var_int_at, s
 use reading::{Decimal, Number, Refusal, Symbol};
 
 // A sign and a magnitude, and the place behind them.
-#[derive(Drop)]
+#[derive(Clone, Copy)]
 pub enum VarInt {
     Is {
         negative: bool,
@@ -18,7 +18,7 @@ pub enum VarInt {
 }
 
 // A number of 64 bits, or a larger one.
-#[derive(Drop)]
+#[derive(Clone, Copy)]
 pub enum Small {
     Is(u64),
     Not,
