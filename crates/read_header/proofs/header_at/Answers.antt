@@ -22,7 +22,7 @@ returns-then-s-at-2 c =
     header_at c.args.out c.args.s.now c.args.at ≡ cond (leb (c.args.at + 1 + b % 16) (length c.args.s.now)) (H.Is b (c.args.at + 1) (c.args.at + 1 + b % 16)) (H.No c.args.out) =
         header_here c.args.out c.args.s.now c.args.at (omega arith)
     ∙ headed-usual c.args.out c.args.s.now c.args.at (get_or c.args.s.now c.args.at 0)
-    (sym c.is_usual.ensures ∙ not-false c.is_usual.result c.if-not-is_usual.false-raw) in
+    (sym c.is_usual.ensures ∙ c.if-not-is_usual.false) in
     let a = c.args in
     sym (usual_is ∙ rw (lt-leb (a.at + 1 + get_or a.s.now a.at 0 % 16) (length a.s.now) (omega arith)) refl)
 
@@ -32,6 +32,6 @@ returns c =
     header_at c.args.out c.args.s.now c.args.at ≡ cond (leb (c.args.at + 1 + b % 16) (length c.args.s.now)) (H.Is b (c.args.at + 1) (c.args.at + 1 + b % 16)) (H.No c.args.out) =
         header_here c.args.out c.args.s.now c.args.at (omega arith)
     ∙ headed-usual c.args.out c.args.s.now c.args.at (get_or c.args.s.now c.args.at 0)
-    (sym c.is_usual.ensures ∙ not-false c.is_usual.result c.if-not-is_usual.false-raw) in
+    (sym c.is_usual.ensures ∙ c.if-not-is_usual.false) in
     let a = c.args in
     sym (usual_is ∙ rw (le-leb (a.at + 1 + get_or a.s.now a.at 0 % 16) (length a.s.now) (omega arith)) refl)
