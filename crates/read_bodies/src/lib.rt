@@ -1,5 +1,6 @@
 // The numbers in a scalar's body, and the bodies that are one number or two: decimals, symbols and negative ints.
 #![tactic(auto)]
+
 ghost use Rattle.std.specs.Prelude.{◌≡◌, Bool, ℕ, ◌+◌, ◌*◌, ◌/◌, ◌%◌, ◌<◌, ◌≤◌, eqb, length};
 ghost use Rattle.ion.specs.Fields.{uint};
 ghost use Rattle.reading.specs.Bodies.{decimal_in, symbol_in};

@@ -1,5 +1,6 @@
 // A timestamp's body: offset, UTC fields and seconds fraction.
 #![tactic(auto)]
+
 ghost use Rattle.std.specs.Prelude.{◌≡◌, ◌&&◌, List, [], ◌∷◌, ℕ, ◌≤◌, eqb, length, take, drop};
 ghost use Rattle.ion.specs.Value.{signed};
 ghost use Rattle.ion.specs.Fields.{int_field};

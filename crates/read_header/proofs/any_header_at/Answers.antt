@@ -19,7 +19,7 @@ pub returns-then-is_impossible : goal.returns-then-is_impossible
 returns-then-is_impossible c =
     let inside : c.args.at < length c.args.s.now = omega arith in
     let here : header_at c.args.out c.args.s.now c.args.at ≡ headed c.args.out c.args.s.now c.args.at (get_or c.args.s.now c.args.at 0) =
-        header_here c.args.out c.args.s.now c.args.at inside in
+    header_here c.args.out c.args.s.now c.args.at inside in
     let a = c.args in
     sym (here ∙ headed-impossible a.out a.s.now a.at (get_or a.s.now a.at 0) (sym c.is_impossible.ensures ∙ c.if-is_impossible.true))
 
@@ -27,7 +27,7 @@ pub returns-then-is_alone : goal.returns-then-is_alone
 returns-then-is_alone c =
     let inside : c.args.at < length c.args.s.now = omega arith in
     let here : header_at c.args.out c.args.s.now c.args.at ≡ headed c.args.out c.args.s.now c.args.at (get_or c.args.s.now c.args.at 0) =
-        header_here c.args.out c.args.s.now c.args.at inside in
+    header_here c.args.out c.args.s.now c.args.at inside in
     let a = c.args in
     sym (here
     ∙ headed-alone a.out a.s.now a.at (get_or a.s.now a.at 0) (sym c.is_impossible.ensures ∙ c.if-is_impossible.false)
@@ -37,11 +37,11 @@ pub returns-in_default : goal.returns-in_default
 returns-in_default c =
     let inside : c.args.at < length c.args.s.now = omega arith in
     let here : header_at c.args.out c.args.s.now c.args.at ≡ headed c.args.out c.args.s.now c.args.at (get_or c.args.s.now c.args.at 0) =
-        header_here c.args.out c.args.s.now c.args.at inside in
+    header_here c.args.out c.args.s.now c.args.at inside in
     let by_length :
-        header_at c.args.out c.args.s.now c.args.at
-        ≡ framed_by c.args.out c.args.s.now (get_or c.args.s.now c.args.at 0) (var_uint_at c.args.out c.args.s.now (c.args.at + 1)) =
-        here ∙ headed-measured c.args.out c.args.s.now c.args.at (get_or c.args.s.now c.args.at 0)
+    header_at c.args.out c.args.s.now c.args.at
+    ≡ framed_by c.args.out c.args.s.now (get_or c.args.s.now c.args.at 0) (var_uint_at c.args.out c.args.s.now (c.args.at + 1)) =
+    here ∙ headed-measured c.args.out c.args.s.now c.args.at (get_or c.args.s.now c.args.at 0)
     (sym c.is_impossible.ensures ∙ c.if-is_impossible.false) (sym c.is_alone.ensures ∙ c.if-is_alone.false)
     (sym c.is_measured.ensures ∙ c.if-is_measured.true) in
     let a = c.args in
@@ -60,11 +60,11 @@ pub returns-then-is_measured : goal.returns-then-is_measured
 returns-then-is_measured c =
     let inside : c.args.at < length c.args.s.now = omega arith in
     let here : header_at c.args.out c.args.s.now c.args.at ≡ headed c.args.out c.args.s.now c.args.at (get_or c.args.s.now c.args.at 0) =
-        header_here c.args.out c.args.s.now c.args.at inside in
+    header_here c.args.out c.args.s.now c.args.at inside in
     let by_length :
-        header_at c.args.out c.args.s.now c.args.at
-        ≡ framed_by c.args.out c.args.s.now (get_or c.args.s.now c.args.at 0) (var_uint_at c.args.out c.args.s.now (c.args.at + 1)) =
-        here ∙ headed-measured c.args.out c.args.s.now c.args.at (get_or c.args.s.now c.args.at 0)
+    header_at c.args.out c.args.s.now c.args.at
+    ≡ framed_by c.args.out c.args.s.now (get_or c.args.s.now c.args.at 0) (var_uint_at c.args.out c.args.s.now (c.args.at + 1)) =
+    here ∙ headed-measured c.args.out c.args.s.now c.args.at (get_or c.args.s.now c.args.at 0)
     (sym c.is_impossible.ensures ∙ c.if-is_impossible.false) (sym c.is_alone.ensures ∙ c.if-is_alone.false)
     (sym c.is_measured.ensures ∙ c.if-is_measured.true) in
     let length_is : var_uint_at c.args.out c.args.s.now (c.args.at + 1) ≡ N.Is c.in-Is.value c.in-Is.next = sym c.var_uint-field.ensures ∙ c.in-Is.is in
@@ -78,7 +78,7 @@ pub returns : goal.returns
 returns c =
     let inside : c.args.at < length c.args.s.now = omega arith in
     let here : header_at c.args.out c.args.s.now c.args.at ≡ headed c.args.out c.args.s.now c.args.at (get_or c.args.s.now c.args.at 0) =
-        header_here c.args.out c.args.s.now c.args.at inside in
+    header_here c.args.out c.args.s.now c.args.at inside in
     let a = c.args in
     let b = get_or a.s.now a.at 0 in
     ◌∙◌ {b = framed a.out a.s.now b (b % 16) (a.at + 1)}

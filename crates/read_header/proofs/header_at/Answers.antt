@@ -6,7 +6,7 @@ use mathlib.Core.Path.{◌≡◌, refl, sym, ◌∙◌}
 use mathlib.Core.Bool.{cond}
 use lib.Dec.{leb}
 use lib.ListN.{length, get_or}
-use borrow.Author.Tests.{le-leb, lt-leb, not-false}
+use borrow.Author.Tests.{le-leb, lt-leb}
 use Rattle.reading.specs.declared.Header.TheVariants as H
 use Rattle.reading.specs.Headers.{header_at}
 use Rattle.read_header.proofs.Headers.{header_out, header_here}
@@ -20,7 +20,7 @@ pub returns-then-s-at-2 : goal.returns-then-s-at-2
 returns-then-s-at-2 c =
     let usual_is : let b = get_or c.args.s.now c.args.at 0 in
     header_at c.args.out c.args.s.now c.args.at ≡ cond (leb (c.args.at + 1 + b % 16) (length c.args.s.now)) (H.Is b (c.args.at + 1) (c.args.at + 1 + b % 16)) (H.No c.args.out) =
-        header_here c.args.out c.args.s.now c.args.at (omega arith)
+    header_here c.args.out c.args.s.now c.args.at (omega arith)
     ∙ headed-usual c.args.out c.args.s.now c.args.at (get_or c.args.s.now c.args.at 0)
     (sym c.is_usual.ensures ∙ c.if-not-is_usual.false) in
     let a = c.args in
@@ -30,7 +30,7 @@ pub returns : goal.returns
 returns c =
     let usual_is : let b = get_or c.args.s.now c.args.at 0 in
     header_at c.args.out c.args.s.now c.args.at ≡ cond (leb (c.args.at + 1 + b % 16) (length c.args.s.now)) (H.Is b (c.args.at + 1) (c.args.at + 1 + b % 16)) (H.No c.args.out) =
-        header_here c.args.out c.args.s.now c.args.at (omega arith)
+    header_here c.args.out c.args.s.now c.args.at (omega arith)
     ∙ headed-usual c.args.out c.args.s.now c.args.at (get_or c.args.s.now c.args.at 0)
     (sym c.is_usual.ensures ∙ c.if-not-is_usual.false) in
     let a = c.args in

@@ -19,7 +19,7 @@ returns-then-s-from c = let a = c.args in
 pub returns-then-are_sids : goal.returns-then-are_sids
 returns-then-are_sids c =
     let sids_told : c.are_sids.result ≡ is_some (sids_of (slice c.args.from (c.args.from + c.args.n) c.args.s.now)) =
-        c.are_sids.ensures ∙ ap (λ l. is_some (sids_of l)) (part_slice c.args.s.now c.args.from (c.args.from + c.args.n) (omega arith) (omega arith)) in
+    c.are_sids.ensures ∙ ap (λ l. is_some (sids_of l)) (part_slice c.args.s.now c.args.from (c.args.from + c.args.n) (omega arith) (omega arith)) in
     let a = c.args in
     c.wrapped_value.ensures
     ∙ (rw (
@@ -31,6 +31,6 @@ returns-then-are_sids c =
 pub returns : goal.returns
 returns c =
     let sids_told : c.are_sids.result ≡ is_some (sids_of (slice c.args.from (c.args.from + c.args.n) c.args.s.now)) =
-        c.are_sids.ensures ∙ ap (λ l. is_some (sids_of l)) (part_slice c.args.s.now c.args.from (c.args.from + c.args.n) (omega arith) (omega arith)) in
+    c.are_sids.ensures ∙ ap (λ l. is_some (sids_of l)) (part_slice c.args.s.now c.args.from (c.args.from + c.args.n) (omega arith) (omega arith)) in
     let a = c.args in
     rw (le-leb 1 a.n (omega arith), le-leb (a.from + a.n) (length a.s.now) (omega arith), sym sids_told ∙ c.if-are_sids.false) refl

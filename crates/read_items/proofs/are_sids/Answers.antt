@@ -20,10 +20,10 @@ returns-then-groups-gt-MAX_BEFORE_GROUP c = let l = c.loop-i in
 
 pub loop-i-preserved : goal.loop-i-preserved
 loop-i-preserved c = let l = c.loop-i in let s = c.args.part.now in (
-      omega arith,
-      l.invariant.1 ∙ sids_more l.whole l.groups s l.i c.wide-b.result (omega arith) c.wide-b.ensures.0 (omega arith)
-          ∙ ap (λ (g : ℕ). sids_from (leb 0x80 c.wide-b.result) g (drop (l.i + 1) s)) (sym c.with_group-groups.ensures),
-    )
+  omega arith,
+  l.invariant.1 ∙ sids_more l.whole l.groups s l.i c.wide-b.result (omega arith) c.wide-b.ensures.0 (omega arith)
+      ∙ ap (λ (g : ℕ). sids_from (leb 0x80 c.wide-b.result) g (drop (l.i + 1) s)) (sym c.with_group-groups.ensures),
+)
 
 pub returns : goal.returns
 returns c = let l = c.loop-i in

@@ -35,21 +35,21 @@ pub returns-then-s-at-2 : goal.returns-then-s-at-2
 returns-then-s-at-2 c =
     let sequence : is_sequence c.args.parent ≡ true = sym c.is_sequence.ensures ∙ c.if-not-is_sequence.false in
     let short : is_short_int (get_or c.args.s.now c.args.at 0) ≡ true =
-        sym c.is_short_int.ensures ∙ c.if-not-is_short_int.false in
+    sym c.is_short_int.ensures ∙ c.if-not-is_short_int.false in
     let a = c.args in
     end_cut a.s.now a.parent a.at sequence c.if-s-at.false c.if-b-eq-INT_ZERO.false short c.if-s-at-2.true
 
 pub bounds-s-at-2 : goal.bounds-s-at-2
 bounds-s-at-2 c =
     let short : is_short_int (get_or c.args.s.now c.args.at 0) ≡ true =
-        sym c.is_short_int.ensures ∙ c.if-not-is_short_int.false in
+    sym c.is_short_int.ensures ∙ c.if-not-is_short_int.false in
     let a = c.args in omega (arith, (short_int (get_or a.s.now a.at 0) short).least)
 
 pub returns-then-s-at-eq0 : goal.returns-then-s-at-eq0
 returns-then-s-at-eq0 c =
     let sequence : is_sequence c.args.parent ≡ true = sym c.is_sequence.ensures ∙ c.if-not-is_sequence.false in
     let short : is_short_int (get_or c.args.s.now c.args.at 0) ≡ true =
-        sym c.is_short_int.ensures ∙ c.if-not-is_short_int.false in
+    sym c.is_short_int.ensures ∙ c.if-not-is_short_int.false in
     let a = c.args in
     end_zeros a.s.now a.parent a.at sequence c.if-s-at.false c.if-b-eq-INT_ZERO.false short c.if-s-at-2.false c.if-s-at-eq0.true
 
@@ -57,6 +57,6 @@ pub returns : goal.returns
 returns c =
     let sequence : is_sequence c.args.parent ≡ true = sym c.is_sequence.ensures ∙ c.if-not-is_sequence.false in
     let short : is_short_int (get_or c.args.s.now c.args.at 0) ≡ true =
-        sym c.is_short_int.ensures ∙ c.if-not-is_short_int.false in
+    sym c.is_short_int.ensures ∙ c.if-not-is_short_int.false in
     let a = c.args in
     end_is a.s.now a.parent a.at sequence c.if-s-at.false c.if-b-eq-INT_ZERO.false short c.if-s-at-2.false c.if-s-at-eq0.false

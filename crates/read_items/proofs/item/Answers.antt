@@ -21,9 +21,9 @@ pub returns-in_default : goal.returns-in_default
 unfolding item_at
 returns-in_default c =
     let item_inside :
-        item_at c.args.s.now c.args.parent c.args.least c.args.depth c.args.at
-        ≡ named c.args.s.now c.args.parent c.args.least c.args.depth (name_at c.args.s.now c.args.parent c.args.at) =
-        rw (le-ltb (length c.args.s.now) c.args.at (omega arith), ne_eqb c.args.at (length c.args.s.now) c.if-at-s.false) refl in
+    item_at c.args.s.now c.args.parent c.args.least c.args.depth c.args.at
+    ≡ named c.args.s.now c.args.parent c.args.least c.args.depth (name_at c.args.s.now c.args.parent c.args.at) =
+    rw (le-ltb (length c.args.s.now) c.args.at (omega arith), ne_eqb c.args.at (length c.args.s.now) c.if-at-s.false) refl in
     let a = c.args in
     ap I.No (c.number_refusal.ensures ∙ ap number_refusal c.in_default.is)
     ∙ ap (named a.s.now a.parent a.least a.depth) (sym c.in_default.is ∙ c.name_at-name.ensures) ∙ sym item_inside
@@ -32,9 +32,9 @@ pub returns : goal.returns
 unfolding item_at
 returns c =
     let item_inside :
-        item_at c.args.s.now c.args.parent c.args.least c.args.depth c.args.at
-        ≡ named c.args.s.now c.args.parent c.args.least c.args.depth (name_at c.args.s.now c.args.parent c.args.at) =
-        rw (le-ltb (length c.args.s.now) c.args.at (omega arith), ne_eqb c.args.at (length c.args.s.now) c.if-at-s.false) refl in
+    item_at c.args.s.now c.args.parent c.args.least c.args.depth c.args.at
+    ≡ named c.args.s.now c.args.parent c.args.least c.args.depth (name_at c.args.s.now c.args.parent c.args.at) =
+    rw (le-ltb (length c.args.s.now) c.args.at (omega arith), ne_eqb c.args.at (length c.args.s.now) c.if-at-s.false) refl in
     let a = c.args in
     c.named_item.ensures ∙ ap (named a.s.now a.parent a.least a.depth) (sym c.in-Is.is ∙ c.name_at-name.ensures)
     ∙ sym item_inside

@@ -23,7 +23,7 @@ pub returns-then-is_container-depth : goal.returns-then-is_container-depth
 returns-then-is_container-depth c =
     let rises : falls c.args.parent c.args.least c.args.kind c.args.name ≡ false = sym c.name_falls.ensures ∙ c.if-name_falls.false in
     let body_is_read : reads c.args.kind (slice c.args.start c.args.stop c.args.s.now) ≡ true =
-        sym c.body_reads.ensures ∙ c.if-not-body_reads.false in
+    sym c.body_reads.ensures ∙ c.if-not-body_reads.false in
     let a = c.args in
     judged-deep a.s.now a.parent a.least a.depth a.name a.from a.to a.kind a.start a.stop
     rises body_is_read
@@ -33,7 +33,7 @@ pub returns : goal.returns
 returns c =
     let rises : falls c.args.parent c.args.least c.args.kind c.args.name ≡ false = sym c.name_falls.ensures ∙ c.if-name_falls.false in
     let body_is_read : reads c.args.kind (slice c.args.start c.args.stop c.args.s.now) ≡ true =
-        sym c.body_reads.ensures ∙ c.if-not-body_reads.false in
+    sym c.body_reads.ensures ∙ c.if-not-body_reads.false in
     let a = c.args in
     judged_is a.s.now a.parent a.least a.depth a.name a.from a.to a.kind a.start a.stop
     rises body_is_read

@@ -20,7 +20,7 @@ unwrap-held-requires c = let a = c.args in
 pub returns-in_default-held : goal.returns-in_default-held
 returns-in_default-held c =
     let held_is : c.unwrap-held.result ≡ unwrapped c.args.s.now (head_in c.args.s.now c.args.parent c.args.at) =
-        c.unwrap-held.ensures ∙ ap (unwrapped c.args.s.now) (sym c.in-Is.is ∙ c.head_in-h.ensures) in
+    c.unwrap-held.ensures ∙ ap (unwrapped c.args.s.now) (sym c.in-Is.is ∙ c.head_in-h.ensures) in
     let a = c.args in
     ap I.No (c.wrapped_refusal.ensures ∙ ap wrapped_refusal c.in_default-held.is)
     ∙ ap (judged a.s.now a.parent a.least a.depth a.name) (sym c.in_default-held.is ∙ held_is)
@@ -28,15 +28,15 @@ returns-in_default-held c =
 pub judge-requires : goal.judge-requires
 judge-requires c =
     let held_is : c.unwrap-held.result ≡ unwrapped c.args.s.now (head_in c.args.s.now c.args.parent c.args.at) =
-        c.unwrap-held.ensures ∙ ap (unwrapped c.args.s.now) (sym c.in-Is.is ∙ c.head_in-h.ensures) in
+    c.unwrap-held.ensures ∙ ap (unwrapped c.args.s.now) (sym c.in-Is.is ∙ c.head_in-h.ensures) in
     let told : Held c.args.at (length c.args.s.now) c.in-Is-held.sids c.in-Is-held.sids_end c.in-Is-held.inner_start c.in-Is-held.inner_stop =
-        unwrapped_bounds c.args.s.now c.args.at (head_in c.args.s.now c.args.parent c.args.at) (λ x y z p. head_bounds c.args.s.now c.args.parent c.args.at x y z p) _ _ _ _ _
+    unwrapped_bounds c.args.s.now c.args.at (head_in c.args.s.now c.args.parent c.args.at) (λ x y z p. head_bounds c.args.s.now c.args.parent c.args.at x y z p) _ _ _ _ _
     (sym held_is ∙ c.in-Is-held.is) in
     let w = told in (w.body, w.within)
 
 pub returns : goal.returns
 returns c =
     let held_is : c.unwrap-held.result ≡ unwrapped c.args.s.now (head_in c.args.s.now c.args.parent c.args.at) =
-        c.unwrap-held.ensures ∙ ap (unwrapped c.args.s.now) (sym c.in-Is.is ∙ c.head_in-h.ensures) in
+    c.unwrap-held.ensures ∙ ap (unwrapped c.args.s.now) (sym c.in-Is.is ∙ c.head_in-h.ensures) in
     let a = c.args in
     c.judge.ensures ∙ ap (judged a.s.now a.parent a.least a.depth a.name) (sym c.in-Is-held.is ∙ held_is)

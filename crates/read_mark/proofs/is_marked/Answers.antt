@@ -22,25 +22,25 @@ overflow_cast-year c = let a = c.args in omega (arith, year_inside a.year c.if-y
 pub overflow_cast-month : goal.overflow_cast-month
 overflow_cast-month c =
     let fields : Time c.args.year c.args.month c.args.day c.args.hour c.args.minute c.args.second =
-        time c.args.year c.args.month c.args.day c.args.hour c.args.minute c.args.second c.args.count c.requires c.if-count-lt5.false in
+    time c.args.year c.args.month c.args.day c.args.hour c.args.minute c.args.second c.args.count c.requires c.if-count-lt5.false in
     omega (arith, fields.month)
 
 pub overflow_cast-day : goal.overflow_cast-day
 overflow_cast-day c =
     let fields : Time c.args.year c.args.month c.args.day c.args.hour c.args.minute c.args.second =
-        time c.args.year c.args.month c.args.day c.args.hour c.args.minute c.args.second c.args.count c.requires c.if-count-lt5.false in
+    time c.args.year c.args.month c.args.day c.args.hour c.args.minute c.args.second c.args.count c.requires c.if-count-lt5.false in
     omega (arith, fields.day)
 
 pub overflow_cast-hour : goal.overflow_cast-hour
 overflow_cast-hour c =
     let fields : Time c.args.year c.args.month c.args.day c.args.hour c.args.minute c.args.second =
-        time c.args.year c.args.month c.args.day c.args.hour c.args.minute c.args.second c.args.count c.requires c.if-count-lt5.false in
+    time c.args.year c.args.month c.args.day c.args.hour c.args.minute c.args.second c.args.count c.requires c.if-count-lt5.false in
     omega (arith, fields.hour)
 
 pub overflow_cast-minute : goal.overflow_cast-minute
 overflow_cast-minute c =
     let fields : Time c.args.year c.args.month c.args.day c.args.hour c.args.minute c.args.second =
-        time c.args.year c.args.month c.args.day c.args.hour c.args.minute c.args.second c.args.count c.requires c.if-count-lt5.false in
+    time c.args.year c.args.month c.args.day c.args.hour c.args.minute c.args.second c.args.count c.requires c.if-count-lt5.false in
     omega (arith, fields.minute)
 
 pub is_local_outside-requires : goal.is_local_outside-requires

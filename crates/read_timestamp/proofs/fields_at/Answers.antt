@@ -17,7 +17,7 @@ loop-count-init c = gathered_none _ _ c.requires
 pub returns-in_default : goal.returns-in_default
 returns-in_default c =
     let inside : (c.loop-count.count < 6) × (c.loop-count.i < length c.args.body.now) =
-        let b = both {a = ltb c.loop-count.count 6} c.loop-count-test.true in
+    let b = both {a = ltb c.loop-count.count 6} c.loop-count-test.true in
     (ltb-true c.loop-count.count 6 b.0, ltb-true c.loop-count.i (length c.args.body.now) b.1) in
     let a = c.args in let h = inside in
     gathered_no a.body.now a.at c.loop-count.f c.loop-count.count c.loop-count.i c.loop-count.invariant h.0 h.1
@@ -26,35 +26,35 @@ returns-in_default c =
 pub offset_bounds-f-count : goal.offset_bounds-f-count
 offset_bounds-f-count c =
     let inside : (c.loop-count.count < 6) × (c.loop-count.i < length c.args.body.now) =
-        let b = both {a = ltb c.loop-count.count 6} c.loop-count-test.true in
+    let b = both {a = ltb c.loop-count.count 6} c.loop-count-test.true in
     (ltb-true c.loop-count.count 6 b.0, ltb-true c.loop-count.i (length c.args.body.now) b.1) in
     let h = inside in omega arith
 
 pub bounds-f-count : goal.bounds-f-count
 bounds-f-count c =
     let inside : (c.loop-count.count < 6) × (c.loop-count.i < length c.args.body.now) =
-        let b = both {a = ltb c.loop-count.count 6} c.loop-count-test.true in
+    let b = both {a = ltb c.loop-count.count 6} c.loop-count-test.true in
     (ltb-true c.loop-count.count 6 b.0, ltb-true c.loop-count.i (length c.args.body.now) b.1) in
     inside.0
 
 pub overflow_add-count : goal.overflow_add-count
 overflow_add-count c =
     let inside : (c.loop-count.count < 6) × (c.loop-count.i < length c.args.body.now) =
-        let b = both {a = ltb c.loop-count.count 6} c.loop-count-test.true in
+    let b = both {a = ltb c.loop-count.count 6} c.loop-count-test.true in
     (ltb-true c.loop-count.count 6 b.0, ltb-true c.loop-count.i (length c.args.body.now) b.1) in
     let h = inside in omega arith
 
 pub loop-count-smaller : goal.loop-count-smaller
 loop-count-smaller c =
     let inside : (c.loop-count.count < 6) × (c.loop-count.i < length c.args.body.now) =
-        let b = both {a = ltb c.loop-count.count 6} c.loop-count-test.true in
+    let b = both {a = ltb c.loop-count.count 6} c.loop-count-test.true in
     (ltb-true c.loop-count.count 6 b.0, ltb-true c.loop-count.i (length c.args.body.now) b.1) in
     let h = inside in omega arith
 
 pub loop-count-preserved : goal.loop-count-preserved
 loop-count-preserved c =
     let inside : (c.loop-count.count < 6) × (c.loop-count.i < length c.args.body.now) =
-        let b = both {a = ltb c.loop-count.count 6} c.loop-count-test.true in
+    let b = both {a = ltb c.loop-count.count 6} c.loop-count-test.true in
     (ltb-true c.loop-count.count 6 b.0, ltb-true c.loop-count.i (length c.args.body.now) b.1) in
     let a = c.args in let h = inside in gathered_more a.body.now a.at c.loop-count.f c.loop-count.count c.loop-count.i c.loop-count.invariant h.0
     h.1 c.in-Is.value c.in-Is.next

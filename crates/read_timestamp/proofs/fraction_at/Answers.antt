@@ -22,7 +22,7 @@ pub slice_bounds-coefficient_fits-count : goal.slice_bounds-coefficient_fits-cou
 slice_bounds-coefficient_fits-count c =
     let exponent : FieldAt c.args.body.now c.args.at (var_int (drop c.args.at c.args.body.now)) (signed c.in-Is.negative c.in-Is.magnitude)
     c.in-Is.next =
-        var_int_is c.args.body.now c.args.at c.in-Is.negative c.in-Is.magnitude c.in-Is.next
+    var_int_is c.args.body.now c.args.at c.in-Is.negative c.in-Is.magnitude c.in-Is.next
     (sym c.var_int-exponent.ensures ∙ c.in-Is.is) in
     exponent.within
 
@@ -30,7 +30,7 @@ pub slice_bounds-coefficient_fits-start : goal.slice_bounds-coefficient_fits-sta
 slice_bounds-coefficient_fits-start c =
     let exponent : FieldAt c.args.body.now c.args.at (var_int (drop c.args.at c.args.body.now)) (signed c.in-Is.negative c.in-Is.magnitude)
     c.in-Is.next =
-        var_int_is c.args.body.now c.args.at c.in-Is.negative c.in-Is.magnitude c.in-Is.next
+    var_int_is c.args.body.now c.args.at c.in-Is.negative c.in-Is.magnitude c.in-Is.next
     (sym c.var_int-exponent.ensures ∙ c.in-Is.is) in
     exponent.within
 
@@ -38,7 +38,7 @@ pub returns-then-not-coefficient_fits : goal.returns-then-not-coefficient_fits
 returns-then-not-coefficient_fits c =
     let exponent : FieldAt c.args.body.now c.args.at (var_int (drop c.args.at c.args.body.now)) (signed c.in-Is.negative c.in-Is.magnitude)
     c.in-Is.next =
-        var_int_is c.args.body.now c.args.at c.in-Is.negative c.in-Is.magnitude c.in-Is.next
+    var_int_is c.args.body.now c.args.at c.in-Is.negative c.in-Is.magnitude c.in-Is.next
     (sym c.var_int-exponent.ensures ∙ c.in-Is.is) in
     fraction_refused c.args.body.now c.args.at (omega arith) c.in-Is.negative c.in-Is.magnitude c.in-Is.next exponent
     _ c.coefficient_fits.ensures (ap not c.if-not-coefficient_fits.true)
@@ -47,7 +47,7 @@ pub returns-then-negative-magnitude : goal.returns-then-negative-magnitude
 returns-then-negative-magnitude c =
     let exponent : FieldAt c.args.body.now c.args.at (var_int (drop c.args.at c.args.body.now)) (signed c.in-Is.negative c.in-Is.magnitude)
     c.in-Is.next =
-        var_int_is c.args.body.now c.args.at c.in-Is.negative c.in-Is.magnitude c.in-Is.next
+    var_int_is c.args.body.now c.args.at c.in-Is.negative c.in-Is.magnitude c.in-Is.next
     (sym c.var_int-exponent.ensures ∙ c.in-Is.is) in
     fraction-digits c.args.body.now c.args.at (omega arith) c.in-Is.negative c.in-Is.magnitude c.in-Is.next exponent
     _ c.coefficient_fits.ensures (ap not c.if-not-coefficient_fits.false) c.if-negative-magnitude.true
@@ -56,7 +56,7 @@ pub returns : goal.returns
 returns c =
     let exponent : FieldAt c.args.body.now c.args.at (var_int (drop c.args.at c.args.body.now)) (signed c.in-Is.negative c.in-Is.magnitude)
     c.in-Is.next =
-        var_int_is c.args.body.now c.args.at c.in-Is.negative c.in-Is.magnitude c.in-Is.next
+    var_int_is c.args.body.now c.args.at c.in-Is.negative c.in-Is.magnitude c.in-Is.next
     (sym c.var_int-exponent.ensures ∙ c.in-Is.is) in
     fraction_zero c.args.body.now c.args.at (omega arith) c.in-Is.negative c.in-Is.magnitude c.in-Is.next exponent
     _ c.coefficient_fits.ensures (ap not c.if-not-coefficient_fits.false) c.if-negative-magnitude.false

@@ -19,7 +19,7 @@ returns-then-end-at c =
     let prefix : length (take c.args.end c.args.s.now) ≡ c.args.end = length-take-le c.args.end c.args.s.now c.if-s-end.false in
     let within : (walk_in c.args.s.now c.args.end c.args.parent c.args.least c.args.depth c.args.at).1
     ≡ (walk_from (suc (length c.args.s.now)) (take c.args.end c.args.s.now) c.args.parent c.args.least c.args.depth c.args.at).1 =
-        rw (le-leb c.args.end (length c.args.s.now) c.if-s-end.false) refl in
+    rw (le-leb c.args.end (length c.args.s.now) c.if-s-end.false) refl in
     let a = c.args in
     walk-past_the_end (suc (length a.s.now)) (omega arith) (take a.end a.s.now) a.parent a.least a.depth a.at
     (omega (arith, prefix))
@@ -41,5 +41,5 @@ returns c =
     let prefix : length (take c.args.end c.args.s.now) ≡ c.args.end = length-take-le c.args.end c.args.s.now c.if-s-end.false in
     let within : (walk_in c.args.s.now c.args.end c.args.parent c.args.least c.args.depth c.args.at).1
     ≡ (walk_from (suc (length c.args.s.now)) (take c.args.end c.args.s.now) c.args.parent c.args.least c.args.depth c.args.at).1 =
-        rw (le-leb c.args.end (length c.args.s.now) c.if-s-end.false) refl in
+    rw (le-leb c.args.end (length c.args.s.now) c.if-s-end.false) refl in
     c.body.ensures (suc (length c.args.s.now)) (omega (arith, prefix)) ∙ sym within
