@@ -1,12 +1,11 @@
 -- The items of a body by what the rule says of the item at each place; what an item holds, by its type byte. Assumes nothing.
-use Rattle.std.proofs.Common.{◌≡◌, ℕ, ◌+◌, ◌-◌, ◌<◌, ◌≤◌, true, false, List, length, take, refl, sym, ap, ◌∙◌, arith, rules}
+use Rattle.std.proofs.Common.{ℕ, ◌-◌, true, false, List, sym, ap, ◌∙◌, arith}
 use Rattle.std.specs.Prelude.{not}
 use Rattle.std.proofs.Math.Seq.{length-take-le}
 use Rattle.reading.specs.Scalars.{scalar_in}
 use Rattle.reading.specs.Bodies.{mark_in}
 use Rattle.read_items.proofs.Bounds.{item_bounds}
 use Rattle.read_items.proofs.Parts.{part_slice}
-use Rattle.unpadded.specs.Rule.{unpadded_from, content_by}
 use Rattle.unpadded.proofs.Steps.{at-end, no_item, at_pad, wrong_content, goes_past, content_inside, content_leaf}
 use Rattle.unpadded.proofs.+are_unpadded_is_content.Goals as goal
 
@@ -75,8 +74,8 @@ are_unpadded-returns t c =
 
 -- ---- what an item holds
 
-pub is_content-slice_bounds-are_unpadded-stop : goal.is_content-slice_bounds-are_unpadded-stop
-is_content-slice_bounds-are_unpadded-stop t c = sym (length-take-le c.args.stop c.args.s.now c.requires.1.0)
+pub is_content-slice_bounds-are_unpadded-end : goal.is_content-slice_bounds-are_unpadded-end
+is_content-slice_bounds-are_unpadded-end t c = sym (length-take-le c.args.stop c.args.s.now c.requires.1.0)
 
 pub is_content-overflow_add-depth : goal.is_content-overflow_add-depth
 is_content-overflow_add-depth t c =
