@@ -9,9 +9,9 @@ returns-in-No c = rw c.in-No.is (ap (λ (k : ℕ). (k, c.args.lent.now)) c.numbe
 
 pub returns-in-Is : goal.returns-in-Is
 returns-in-Is c = rw (
-      c.in-Is.is,
-      sym c.bit_of.ensures,
-      sym c.bit_of-in-Is.ensures,
-      sym c.bit_of-in-Is-2.ensures,
-    )
+  c.in-Is.is,
+  sym c.bit_of.ensures,
+  sym c.bit_of-in-Is.ensures,
+  sym c.bit_of-in-Is-2.ensures,
+)
     c.accept_thirteen.ensures
