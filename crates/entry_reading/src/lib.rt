@@ -1,5 +1,7 @@
 // The entry points of the reader: a lent stream and numbers in, numbers in a lent slice out.
 // Each answers 0, or the refusal's number, and then leaves the slice as it was; `gm_read_rest` puts a refusal's place there.
+#![tactic(auto)]
+
 ghost use Rattle.std.specs.Prelude.{◌≡◌};
 ghost use Rattle.reading.specs.declared.Refusal.TheVariants.{NotIon};
 ghost use Rattle.reading.specs.Headers.{var_uint_at};

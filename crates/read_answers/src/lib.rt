@@ -1,4 +1,6 @@
 // The reader's answers as numbers in a lent slice: 0 where it reads, and else the refusal's number.
+#![tactic(auto)]
+
 ghost use Rattle.std.specs.Prelude.{◌≡◌, List, [], ◌∷◌, ℕ};
 ghost use Rattle.reading.specs.Refusals.{number};
 ghost use Rattle.read_answers.specs.Answers.{Answered, stored, laid, accepts, bit, itemAnswer, readingAnswer, numberAnswer, decimalAnswer};

@@ -1,4 +1,6 @@
 // The numbers in a scalar's body, and the bodies that are one number or two: decimals, symbols and negative ints.
+#![tactic(auto)]
+
 ghost use Rattle.std.specs.Prelude.{◌≡◌, Bool, ℕ, ◌+◌, ◌*◌, ◌/◌, ◌%◌, ◌<◌, ◌≤◌, eqb, length};
 ghost use Rattle.ion.specs.Fields.{uint};
 ghost use Rattle.reading.specs.Bodies.{decimal_in, symbol_in};
@@ -7,7 +9,7 @@ ghost use Rattle.read_bodies.specs.Places.{groups_at, var_uint_at, var_int_at, s
 use reading::{Decimal, Number, Refusal, Symbol};
 
 // A sign and a magnitude, and the place behind them.
-#[derive(Drop)]
+#[derive(Clone, Copy)]
 pub enum VarInt {
     Is {
         negative: bool,
@@ -18,7 +20,7 @@ pub enum VarInt {
 }
 
 // A number of 64 bits, or a larger one.
-#[derive(Drop)]
+#[derive(Clone, Copy)]
 pub enum Small {
     Is(u64),
     Not,

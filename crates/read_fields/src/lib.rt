@@ -1,4 +1,6 @@
 // A VarUInt at a place, taken apart: its number and the place behind it, or why it does not read.
+#![tactic(auto)]
+
 ghost use Rattle.std.specs.Prelude.{◌≡◌, drop};
 ghost use Rattle.reading.specs.Headers.{var_uint_from, var_uint_at};
 ghost use Rattle.read_fields.specs.Refused.{number_refusal};

@@ -2,7 +2,7 @@
 -- Assumes nothing.
 use Prim.Native.Nat.{ℕ, ◌+◌, ◌≤◌, ◌<◌}
 use mathlib.Core.Path.{◌≡◌, refl}
-use mathlib.Core.List.{List, ◌∷◌}
+use mathlib.Core.List.{List}
 use lib.ListN.{length, get_or, drop, drop_of_length-le, get_or-eq_default}
 use borrow.Author.Tests.{eq-eqb, ne_eqb}
 use Rattle.reading.specs.declared.Refusal.TheVariants.{NotIon, CutShort}

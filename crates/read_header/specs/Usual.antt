@@ -1,6 +1,6 @@
 -- The type bytes that most headers have: the low four bits say a length that the type may have.
 -- Assumes nothing.
-use Rattle.std.specs.Prelude.{ℕ, ◌/◌, ◌%◌, Bool, cond, ◌&&◌, ◌||◌, ltb, leb, eqb}
+use Rattle.std.specs.Prelude.{ℕ, ◌/◌, ◌%◌, Bool, cond, ◌&&◌, ltb, leb, eqb}
 
 -- the least of them by the type code; 14 is none, where low bits say other things than lengths too
 abbrev pub least_length : ℕ → ℕ

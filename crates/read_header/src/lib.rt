@@ -1,4 +1,6 @@
 // One header, taken apart: its type byte and where its body starts and stops, or why it does not read.
+#![tactic(auto)]
+
 ghost use Rattle.std.specs.Prelude.{◌≡◌, ◌≤◌, length};
 ghost use Rattle.reading.specs.Headers.{impossible, alone, measured, never, framed, header_at, marker_at, top_header_at};
 ghost use Rattle.read_header.specs.Refused.{header_refusal};

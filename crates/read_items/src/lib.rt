@@ -1,4 +1,6 @@
 // One item of a stream or of a body: its name, its header, what a wrapper holds, and whether its content reads.
+#![tactic(auto)]
+
 ghost use Rattle.std.specs.Prelude.{◌≡◌, ◌+◌, ◌<◌, ◌≤◌, length};
 ghost use Rattle.std.proofs.Math.Seq.{slice};
 ghost use Rattle.reading.specs.declared.Refusal.TheVariants.{NotIon};

@@ -12,7 +12,6 @@ use Rattle.ion.specs.Fields.{var_int, var_uints}
 use Rattle.ion.specs.Scalars.{offset_of, are_fields, fraction_at, timestamp_of, scalar_of}
 use Rattle.ion.proofs.Tests.{by_cases}
 use Rattle.reading.specs.declared.Timestamp.{Timestamp}
-use Rattle.reading.specs.declared.Timestamp.TheVariants as T
 use Rattle.reading.specs.Bodies.{timestamp_in, mark_in, shown_in}
 use Rattle.reading.specs.Told.{timestamp_told}
 use Rattle.reading.proofs.Whole.{timestamp_whole}

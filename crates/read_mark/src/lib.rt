@@ -1,4 +1,6 @@
 // A timestamp's body with the out-of-calendar mark: its UTC year, or its local year where it has a time, is outside 1 to 9999.
+#![tactic(auto)]
+
 ghost use Rattle.std.specs.Prelude.{◌≡◌, true, not, [], ◌∷◌, take, pos, ◌+ℤ◌};
 ghost use Rattle.ion.specs.Value.{signed};
 ghost use Rattle.ion.specs.Fields.{number};

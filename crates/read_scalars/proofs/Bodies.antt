@@ -20,7 +20,7 @@ use Rattle.reading.specs.declared.Symbol.TheVariants as Y
 use Rattle.reading.specs.declared.Timestamp.TheVariants as T
 use Rattle.reading.specs.Bodies.{decimal_from, decimal_in, fractioned, exponent_from, fraction_from, fields_from, offset_from, timestamp_in, symbol_in}
 use Rattle.reading.specs.Scalars.{bool_of, float_in, is_some}
-use Rattle.read_timestamp.proofs.Coefficients.{checked, suc_not_zero}
+use Rattle.read_timestamp.proofs.Coefficients.{suc_not_zero}
 use Rattle.read_scalars.specs.Answers.{is_decimal, is_timestamp, is_symbol}
 
 pub bool_reads : (l : ℕ) → ltb l 2 ≡ is_some (bool_of l)

@@ -1,4 +1,6 @@
 // Whether a body reads as the scalar that its type byte says, for every type byte.
+#![tactic(auto)]
+
 ghost use Rattle.std.specs.Prelude.{◌≡◌, ◌||◌, ℕ, eqb};
 ghost use Rattle.reading.specs.Scalars.{is_some, scalar_in};
 ghost use Rattle.read_scalars.specs.Answers.{is_decimal, is_timestamp, is_symbol};

@@ -7,7 +7,7 @@ use mathlib.Core.Bool.{false, ◌&&◌}
 use mathlib.Core.List.{List, [], ◌∷◌, ◌++◌, append_assoc, append-nil}
 use mathlib.Core.Option.{Option, none, some, none-ne-some, some-injective}
 use lib.Dec.{ltb}
-use lib.ListN.{length, get_or, set, take, drop, replicate, length-append, length-replicate, length-drop, drop_of_length-le}
+use lib.ListN.{length, get_or, set, take, drop, replicate, length-append, length-drop, drop_of_length-le}
 use lib.Seq.{set_at, drop-drop}
 use borrow.Author.Tests.{lt-ltb, ltb-false}
 use Rattle.ion.specs.Chain.{◌>>=◌}

@@ -1,4 +1,6 @@
 // A timestamp's body: offset, UTC fields and seconds fraction.
+#![tactic(auto)]
+
 ghost use Rattle.std.specs.Prelude.{◌≡◌, ◌&&◌, List, [], ◌∷◌, ℕ, ◌≤◌, eqb, length, take, drop};
 ghost use Rattle.ion.specs.Value.{signed};
 ghost use Rattle.ion.specs.Fields.{int_field};
@@ -12,7 +14,7 @@ use read_bodies::VarInt;
 use reading::{Number, Refusal, Timestamp};
 
 // How many fields there are, the fields, 0 where there is none, and the place behind them.
-#[derive(Drop)]
+#[derive(Clone, Copy)]
 enum Fields {
     Are {
         count: u8,
@@ -28,7 +30,7 @@ enum Fields {
 }
 
 // How many digits the fraction has, 0 where there is none, and where their coefficient starts.
-#[derive(Drop)]
+#[derive(Clone, Copy)]
 enum Fraction {
     Is { digits: u64, coefficient: usize },
     No,

@@ -2,20 +2,17 @@
 -- Assumes nothing.
 use Prim.Native.Nat.{ℕ, zero, suc, ◌+◌, ◌-◌, ◌≤◌, ◌<◌}
 use native.Mathlib.Omega.{arith}
-use mathlib.Core.Path.{◌≡◌, refl, sym, ◌∙◌, ap}
-use mathlib.Core.Bool.{cond}
-use mathlib.Core.List.{List, [], ◌∷◌}
+use mathlib.Core.Path.{◌≡◌, refl}
+use mathlib.Core.List.{List}
 use lib.Dec.{leb}
 use lib.ListN.{length, take}
 use lib.Seq.{length-take-le, take-take}
 use borrow.Author.Tests.{le-leb, leb-true}
 use Rattle.ion.proofs.Tests.{by_cases}
-use Rattle.reading.specs.declared.Refusal.TheVariants.{PastTheEnd}
 use Rattle.reading.specs.declared.Item.{Item}
 use Rattle.reading.specs.declared.Item.TheVariants as I
-use Rattle.reading.specs.Items.{opens, raised, item_at}
-use Rattle.reading.specs.Scalars.{sids_of}
-use Rattle.reading.specs.Walk.{Walk, ◌and_then◌, name_in, annotations, leaf_walk, container_walk, item_walk, step_walk, walk_from, walk_in}
+use Rattle.reading.specs.Items.{raised, item_at}
+use Rattle.reading.specs.Walk.{Walk, step_walk, walk_from, walk_in}
 use Rattle.read_items.proofs.Bounds.{item_bounds}
 use Rattle.reader.specs.Values.{next_in}
 use Rattle.reader.specs.ByItems.{WalkByItems}

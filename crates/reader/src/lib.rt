@@ -1,4 +1,6 @@
 // The walk over the bytes of a stream or of a body: item by item to the end, containers entered, up to the first item that does not read.
+#![tactic(auto)]
+
 ghost use Rattle.std.specs.Prelude.{◌≡◌, ℕ, ◌+◌, ◌-◌, ◌≤◌, length};
 ghost use Rattle.reading.specs.Walk.{walk_from, walk_in};
 ghost use Rattle.reader.specs.Values.{ended_at, ended, past, value_at, next_in};

@@ -1,14 +1,13 @@
 -- The definitions of the reader on streams of bytes, with the answers that document 02, Item 1, gives: each rule once, by computing.
 -- Assumes nothing.
-use Prim.Native.Nat.{ℕ, ◌+◌, ◌^◌}
+use Prim.Native.Nat.{ℕ}
 use mathlib.Core.Path.{◌≡◌, refl}
-use mathlib.Core.Bool.{Bool, true, false}
-use mathlib.Core.List.{List, [], ◌∷◌, ◌++◌}
-use mathlib.Core.Option.{Option, none, some}
-use lib.ListN.{replicate}
-use lib.IntN.{pos, negsuc}
+use mathlib.Core.Bool.{true}
+use mathlib.Core.List.{List, [], ◌∷◌}
+use mathlib.Core.Option.{none, some}
+use lib.IntN.{pos}
 use lib.Ieee.{of_bits}
-use Rattle.ion.specs.Value.{null, bool, int, symbol, ion_null, ion_list, ion_struct}
+use Rattle.ion.specs.Value.{bool, int, ion_list, ion_struct}
 use Rattle.ion.specs.Fields.{groups, var_uint, var_uints, big_endian, var_int, int_field}
 use Rattle.ion.specs.Text.{begun, utf8_from, utf8}
 use Rattle.ion.specs.Scalars.{float_of, decimal_of, timestamp_of, are_fields, is_coefficient, fraction_of, fraction_at, scalar_of}
@@ -18,7 +17,7 @@ use Rattle.reading.specs.declared.Reading.TheVariants as R
 use Rattle.reading.specs.Headers.{var_uint_from, var_uint_at, header_at, marked, marker_at, top_header_at}
 use Rattle.reading.specs.Scalars.{code_from, body_of, scalar_in, sids_of}
 use Rattle.reading.specs.Items.{wrapped_at, item_at}
-use Rattle.reading.specs.Walk.{Event, marker, leaf, begins, ends, Walk, walk_from, walk_in, walk}
+use Rattle.reading.specs.Walk.{marker, leaf, begins, ends, Walk, walk_from, walk_in, walk}
 
 -- the walk with all that it calls, to be unfolded by one name
 unfoldable pub walk_whole : List ℕ → ℕ → Walk

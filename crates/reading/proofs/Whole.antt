@@ -2,7 +2,7 @@
 -- Assumes nothing.
 use Prim.Native.Nat.{ℕ, zero, suc, ◌+◌, ◌-◌, ◌*◌, ◌%◌, ◌^◌}
 use native.Mathlib.Omega.{arith}
-use mathlib.Core.Path.{◌≡◌, refl, sym, ◌∙◌, ap, ap₂, subst}
+use mathlib.Core.Path.{◌≡◌, refl, sym, ◌∙◌, ap, ap₂}
 use mathlib.Core.Bool.{Bool, true, false, false≢true, ◌&&◌}
 use mathlib.Core.List.{List, [], ◌∷◌, ◌++◌, append_assoc}
 use mathlib.Core.Option.{Option, none, some}
@@ -10,21 +10,13 @@ use lib.Dec.{ltb, eqb}
 use lib.ListN.{length, take, drop, get_or, length-append}
 use lib.Seq.{drop_at}
 use borrow.Author.Tests.{eqb-true}
-use Rattle.ion.specs.Value.{decimal_code, timestamp_code, symbol_code, Signed, signed, Fraction, no_fraction, fraction, Scalar, decimal, timestamp, symbol}
+use Rattle.ion.specs.Value.{Signed, signed, Fraction, no_fraction, fraction, decimal, timestamp}
 use Rattle.ion.specs.Chain.{◌>>=◌, check}
 use Rattle.ion.specs.Fields.{uint, int_field, groups, in_u64, var_uint, var_uints, is_i64, give_sign, var_int, number}
 use Rattle.ion.specs.Fields.{is_negative as sign_at}
 use Rattle.ion.specs.Scalars.{offset_of, are_fields, is_coefficient, fraction_of, fraction_at, decimal_of, timestamp_of, scalar_of}
 use Rattle.ion.proofs.Tests.{by_cases}
-use Rattle.reading.specs.declared.Refusal.{Refusal}
-use Rattle.reading.specs.declared.Decimal.{Decimal}
-use Rattle.reading.specs.declared.Decimal.TheVariants as D
-use Rattle.reading.specs.declared.Timestamp.{Timestamp}
-use Rattle.reading.specs.declared.Timestamp.TheVariants as T
-use Rattle.reading.specs.declared.Symbol.{Symbol}
-use Rattle.reading.specs.declared.Symbol.TheVariants as S
-use Rattle.reading.specs.Scalars.{is_some}
-use Rattle.reading.specs.Told.{decimal_told, fraction_in, timestamp_told, symbol_told, KnownTold, DecimalWhole, TimestampWhole, MarkWhole, SymbolWhole}
+use Rattle.reading.specs.Told.{decimal_told, fraction_in, timestamp_told, KnownTold, DecimalWhole, TimestampWhole, MarkWhole, SymbolWhole}
 use Rattle.reading.specs.Bodies.{magnitude, decimal_from, decimal_in, stamped, fractioned, exponent_from, fraction_from, fields_from, offset_from}
 use Rattle.reading.specs.Bodies.{timestamp_in, mark_in, shown_in, symbol_in}
 

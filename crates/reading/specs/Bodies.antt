@@ -1,13 +1,12 @@
 -- The bodies of decimals, timestamps and symbols, taken apart: what a caller needs to have the scalar whole, by the functions of the grammar.
 -- Numbers past what is given here stay where they are in the body, as an Int from a place on.
 -- Assumes nothing.
-use Rattle.std.specs.Prelude.{ℕ, zero, suc, ◌-◌, ◌^◌, Bool, true, false, cond, List, [], ◌∷◌, ltb, eqb, length, get_or}
+use Rattle.std.specs.Prelude.{ℕ, zero, suc, ◌-◌, ◌^◌, Bool, true, false, cond, List, [], ◌∷◌, ltb, length, get_or}
 use Rattle.std.proofs.Math.Option.{Option, none, some}
 use Rattle.ion.specs.Value.{Signed, signed, Fraction, no_fraction, fraction, Scalar}
 use Rattle.ion.specs.Fields.{uint, int_field, var_uints, var_int}
 use Rattle.ion.specs.Scalars.{are_fields, fraction_of, timestamp_of}
 use Rattle.mark.specs.OutOfCalendar.{is_marked}
-use Rattle.reading.specs.declared.Refusal.{Refusal}
 use Rattle.reading.specs.declared.Refusal.TheVariants.{NotIon}
 use Rattle.reading.specs.declared.Decimal.{Decimal}
 use Rattle.reading.specs.declared.Decimal.TheVariants as D

@@ -2,10 +2,9 @@
 -- The bytes s reach to the end of what the item stands in. That is given by its type byte, `parent`, which is 0 for the stream itself:
 -- no container has that type byte.
 -- Assumes nothing.
-use Rattle.std.specs.Prelude.{ℕ, ◌+◌, ◌/◌, ◌%◌, Bool, true, false, cond, ◌&&◌, ◌||◌, not, List, ltb, leb, eqb, length, take}
+use Rattle.std.specs.Prelude.{ℕ, ◌+◌, Bool, cond, ◌&&◌, ◌||◌, not, List, ltb, leb, eqb, length, take}
 use Rattle.std.proofs.Math.Seq.{slice}
-use Rattle.reading.specs.declared.Refusal.{Refusal}
-use Rattle.reading.specs.declared.Refusal.TheVariants.{PastTheEnd, TooDeep, NotIon, CutShort}
+use Rattle.reading.specs.declared.Refusal.TheVariants.{PastTheEnd, TooDeep, NotIon}
 use Rattle.reading.specs.declared.Number.{Number}
 use Rattle.reading.specs.declared.Number.TheVariants as N
 use Rattle.reading.specs.declared.Header.{Header}

@@ -1,7 +1,7 @@
 -- What the answers about a scalar's body tell: put together, they are the scalar. The statements; the proofs are in proofs/Whole.antt.
 -- Ints, floats, strings and lobs need no more than their type byte and their body.
 -- Assumes nothing.
-use Rattle.std.specs.Prelude.{ℕ, zero, suc, ◌≡◌, Bool, List, [], ◌∷◌, take, drop}
+use Rattle.std.specs.Prelude.{ℕ, zero, suc, ◌≡◌, List, [], ◌∷◌, take, drop}
 use Rattle.std.proofs.Math.Option.{Option, none, some}
 use Rattle.ion.specs.Value.{decimal_code, timestamp_code, symbol_code, signed, Fraction, no_fraction, fraction, Scalar, decimal, timestamp, symbol}
 use Rattle.ion.specs.Fields.{int_field, number}

@@ -1,13 +1,12 @@
 -- The walk (document 02, Item 1): the items from a place to the end of the bytes, containers entered, up to the first header that does not read;
 -- and what a reading is as a list of such events.
 -- Assumes nothing.
-use Rattle.std.specs.Prelude.{ℕ, zero, suc, ◌+◌, ◌/◌, Bool, true, false, cond, List, [], ◌∷◌, ◌++◌, ltb, leb, eqb, length, take}
+use Rattle.std.specs.Prelude.{ℕ, zero, suc, ◌+◌, cond, List, [], ◌∷◌, ◌++◌, ltb, leb, length, take}
 use Rattle.std.proofs.Math.Option.{Option, none, some}
 use Rattle.std.proofs.Math.Seq.{slice}
 use Rattle.ion.specs.Value as Ion
 use Rattle.ion.specs.Value.{Scalar, IonType, ion_list, ion_sexp, ion_struct, SequenceType, list, sexp, Tree, scalar, sequence, struct, Members}
 use Rattle.ion.specs.Value.{no_members, member, Fields, no_fields, field}
-use Rattle.reading.specs.declared.Refusal.{Refusal}
 use Rattle.reading.specs.declared.Refusal.TheVariants.{PastTheEnd}
 use Rattle.reading.specs.declared.Item.{Item}
 use Rattle.reading.specs.declared.Item.TheVariants as I

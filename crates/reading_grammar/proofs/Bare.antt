@@ -2,9 +2,9 @@
 -- Assumes nothing.
 use Prim.Native.Nat.{ℕ, ◌+◌, ◌*◌, ◌/◌, ◌%◌, ◌≤◌, ◌<◌}
 use native.Mathlib.Omega.{arith}
-use mathlib.Core.Path.{◌≡◌, refl, sym, ap}
+use mathlib.Core.Path.{◌≡◌, refl}
 use mathlib.Core.Logic.{◌≢◌}
-use mathlib.Core.Bool.{Bool, true, false, cond}
+use mathlib.Core.Bool.{true, false, cond}
 use mathlib.Core.List.{List, [], ◌∷◌, ◌++◌}
 use mathlib.Core.Option.{Option, some, none-ne-some}
 use lib.Dec.{ltb, eqb}
@@ -20,12 +20,10 @@ use Rattle.ion.specs.Fields.{VarUInt, uint, big_endian, var_int, var_uints, grou
 use Rattle.ion.specs.Scalars.{scalar_of, timestamp_of, are_fields, float_of}
 use Rattle.ion.specs.Grammar.{Header, sorted}
 use Rattle.ion.proofs.Tests.{by_cases}
-use Rattle.reading.specs.declared.Refusal.{Refusal}
-use Rattle.reading.specs.declared.Header.TheVariants as H
-use Rattle.reading.specs.Headers.{impossible, alone, header_at}
+use Rattle.reading.specs.Headers.{impossible, alone}
 use Rattle.reading.specs.Scalars.{scalar_in, body_of}
 use Rattle.reading.specs.Items.{is_pad, is_marker, is_wrapper, opens, reads, has_names, is_sorted_struct, is_stream}
-use Rattle.reading.specs.Walk.{Event, leaf, begins, ends, tree_events, tree_depth, member_events, field_events, members_depth, fields_depth, Walk, shows}
+use Rattle.reading.specs.Walk.{Event, begins, ends, tree_events, tree_depth, member_events, field_events, members_depth, fields_depth, Walk, shows}
 use Rattle.reading.specs.Walk.{container_type, container_walk, leaf_walk, walk_from}
 use Rattle.reading_grammar.proofs.Tests.{contrary}
 use Rattle.reading_grammar.proofs.Places.{Rest}

@@ -57,7 +57,7 @@ pub first : {c : TypeCode} {n : ℕ} {h : List ℕ} → Header c n h → First c
 first {c} {n} (short lt) = record { nibble = n; is = refl; small = omega arith; not_one = λ p. p; not_zero = λ p. p }
 first {c} {n} (long e) = record { nibble = 14; is = refl; small = omega arith; not_one = λ p q. omega arith; not_zero = λ p q. omega arith }
 
-pub plain_header : (out : Refusal) {s : List ℕ} {at : ℕ} {c : TypeCode} {h : List ℕ} (body r : List ℕ) (start stop : ℕ)
+pub plain_header : (out : Refusal) {s : List ℕ} {at : ℕ} {c : TypeCode} (body : List ℕ) {h : List ℕ} (r : List ℕ) (start stop : ℕ)
     → Header c (length body) h → Usual (high_bits c) (length body) → start ≡ at + length h → stop ≡ start + length body → Rest s at (h ++ (body ++ r))
     → header_at out s at ≡ H.Is (get_or h 0 0) start stop
 plain_header out {s} {at} {c} body r start stop (short lt) u e f x =

@@ -1,48 +1,35 @@
 -- A walk that comes to its end shows a reading: by recursion over the fuel.
 -- Assumes nothing.
-use Prim.Native.Nat.{ℕ, zero, suc, ◌+◌, ◌/◌, ◌%◌, ◌≤◌, ◌<◌}
+use Prim.Native.Nat.{ℕ, zero, suc, ◌+◌, ◌≤◌, ◌<◌}
 use native.Mathlib.Omega.{arith}
 use mathlib.Core.Path.{◌≡◌, refl, sym, ◌∙◌, ap, subst}
-use mathlib.Core.Bool.{Bool, true, false, cond, ◌&&◌}
+use mathlib.Core.Bool.{Bool, true, false, cond}
 use mathlib.Core.List.{List, [], ◌∷◌, ◌++◌}
-use mathlib.Core.Option.{Option, none, some}
-use lib.Dec.{ltb, leb, eqb}
-use lib.ListN.{length, take, drop, get_or, length-append, length-drop}
-use lib.Seq.{slice, take-length}
-use borrow.Author.Tests.{ltb-true, ltb-false, le-ltb, lt-ltb, le-leb, lt-leb, leb-false, ne_eqb}
-use Rattle.ion.specs.Value.{Scalar, IonType, ion_list, ion_sexp, ion_struct, list, sexp, Value, scalar, sequence, struct, Members, no_members, member}
-use Rattle.ion.specs.Value.{Fields, no_fields, field, Item, marker, value}
+use mathlib.Core.Option.{none, some}
+use lib.Dec.{ltb, leb}
+use lib.ListN.{length, drop, length-append, length-drop}
+use lib.Seq.{take-length}
+use borrow.Author.Tests.{ltb-false, le-leb}
+use Rattle.ion.specs.Value.{Scalar, no_members, member}
+use Rattle.ion.specs.Value.{no_fields, field, Item, marker, value}
 use Rattle.ion.specs.Fields.{VarUInt}
-use Rattle.ion.specs.Grammar.{sorted, padding, bare, one, members, fields, stream, ◌⟶◌, members_end, members_pad, members-next, fields_end}
+use Rattle.ion.specs.Grammar.{sorted, members, fields, stream, ◌⟶◌, members_end, members_pad, members-next, fields_end}
 use Rattle.ion.specs.Grammar.{fields_pad, fields-next, stream_end, stream_pad, stream_marker, stream_next}
-use Rattle.ion.proofs.Tests.{by_cases, both, and-true}
-use Rattle.reading.specs.declared.Refusal.{Refusal}
+use Rattle.ion.proofs.Tests.{by_cases, and-true}
 use Rattle.reading.specs.declared.Refusal.TheVariants.{NotIon}
-use Rattle.reading.specs.declared.Number.TheVariants as N
-use Rattle.reading.specs.declared.Header.{Header as Head}
-use Rattle.reading.specs.declared.Header.TheVariants as H
-use Rattle.reading.specs.declared.Wrapped.TheVariants as W
 use Rattle.reading.specs.declared.Item.{Item as Found}
 use Rattle.reading.specs.declared.Item.TheVariants as I
-use Rattle.reading.specs.declared.Reading.{Reading}
 use Rattle.reading.specs.declared.Reading.TheVariants as R
-use Rattle.reading.specs.Headers.{impossible, header_at, marker_at, top_header_at}
-use Rattle.reading.specs.Scalars.{scalar_in}
-use Rattle.reading.specs.Items.{is_pad, is_marker, opens, is_stream, has_names, is_sorted_struct, falls, reads, raised, head_in, unwrapped, item_at}
+use Rattle.reading.specs.Items.{is_pad, is_stream, has_names, is_sorted_struct, falls, raised, item_at}
 use Rattle.reading.specs.Walk as Shown
 use Rattle.reading.specs.Walk.{Event, leaf, begins, ends, tree_events, member_events, field_events, stream_events, tree_depth, members_depth, fields_depth}
 use Rattle.reading.specs.Walk.{stream_depth, higher, Walk, before, ◌and_then◌, shows, name_in, container_type, leaf_walk, container_walk, item_walk}
 use Rattle.reading.specs.Walk.{step_walk, walk_from, walk_in, walk}
 use Rattle.reading_grammar.specs.Exact.{WalkIsReading}
-use Rattle.reading_grammar.proofs.Tests.{contrary, some_of}
+use Rattle.reading_grammar.proofs.Tests.{contrary}
 use Rattle.reading_grammar.proofs.Places.{Rest, rest-length, rest-next}
 use Rattle.reading_grammar.proofs.Numbers.{found_number, number_injective}
-use Rattle.reading_grammar.proofs.TypeBytes as K
-use Rattle.reading_grammar.proofs.Framing.{Framing}
-use Rattle.reading_grammar.proofs.Derived.{pad_reading, scalar_reading, Opening, opening, list_reading, sexp_reading, struct_reading}
-use Rattle.reading_grammar.proofs.Unwrapped.{Valued, found_value}
-use Rattle.reading_grammar.proofs.Items.{Judged, item_judged, item_end, marked-bytes}
-use Rattle.reading_grammar.proofs.Steps.{out_in, pad_shows-none}
+use Rattle.reading_grammar.proofs.Items.{item_judged, item_end}
 use Rattle.reading_grammar.proofs.Values.{refused_not_whole, then_whole, MembersRead, FieldsRead, MembersSound, FieldsSound, ItemRead, a_pad}
 use Rattle.reading_grammar.proofs.Values.{a_value, a_marker, item_read}
 

@@ -1,1 +1,2 @@
 // The walk of the crate reading shows exactly the readings of the grammar: theorems, no function.
+#![tactic(auto)]

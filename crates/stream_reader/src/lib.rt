@@ -1,10 +1,12 @@
 // A reader holds the stream that is lent to it and a position in it. The work is done by functions over a plain slice and a number.
+#![tactic(auto)]
+
 ghost use Rattle.std.specs.Prelude.{◌≡◌};
 ghost use Rattle.stream_reader.specs.Top.{top_item, top_reading};
 
 use reading::{Item, Reading};
 
-#[derive(Drop)]
+#[derive(Clone, Copy)]
 pub struct Reader<'a> {
     pub stream: &'a [u8],
     pub position: usize,

@@ -12,14 +12,14 @@ use lib.ListN.{length}
 use borrow.Author.Tests.{ne_eqb, eqb-true, eqb-false}
 use Rattle.ion.specs.Value.{TypeCode, null_code, bool_code, positive_code, negative_code, float_code, decimal_code, timestamp_code, symbol_code}
 use Rattle.ion.specs.Value.{string_code, clob_code, blob_code, list_code, sexp_code, struct_code, annotation_code, high_bits, null_type, IonType}
-use Rattle.ion.specs.Value.{Signed, signed, Scalar, null, bool, float, finite, decimal, symbol, string}
+use Rattle.ion.specs.Value.{Signed, signed, Scalar, null, decimal, symbol, string}
 use Rattle.ion.specs.Chain.{◌>>=◌, check}
 use Rattle.ion.specs.Fields.{uint, int_field, var_int, number}
 use Rattle.ion.specs.Text.{utf8}
-use Rattle.ion.specs.Scalars.{int_of, decimal_of, scalar_of, timestamp_of}
+use Rattle.ion.specs.Scalars.{int_of, decimal_of, scalar_of}
 use Rattle.ion.proofs.Tests.{by_cases}
 use Rattle.mark.specs.OutOfCalendar.{is_marked}
-use Rattle.reading.specs.Scalars.{code_from, code_of, bool_of, float_in, body_of, scalar_in}
+use Rattle.reading.specs.Scalars.{code_from, bool_of, float_in, body_of, scalar_in}
 use Rattle.reading.specs.Bodies.{mark_in, shown_in}
 
 -- a timestamp that is not null

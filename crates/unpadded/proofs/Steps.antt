@@ -1,31 +1,27 @@
 -- The rule at one place, for any fuel above none: at the end, at an item that it stops at, and behind one that it goes past.
 -- Assumes nothing.
-use Prim.Native.Nat.{ℕ, zero, suc, ◌+◌, ◌-◌, ◌≤◌, ◌<◌}
+use Prim.Native.Nat.{ℕ, suc, ◌+◌, ◌-◌, ◌≤◌, ◌<◌}
 use native.Mathlib.Omega.{arith}
 use mathlib.Core.Path.{◌≡◌, refl}
 use mathlib.Core.Bool.{Bool, true, false, not}
-use mathlib.Core.List.{List, [], ◌∷◌}
-use mathlib.Core.Logic.{⊎_elim}
+use mathlib.Core.List.{List}
 use lib.ListN.{length, take}
 use lib.Seq.{slice}
-use types.Run.{OneOf}
-use denote.Enum.Declared.{tag_of}
 use borrow.Author.Tests.{eq-eqb, ne_eqb}
 use Rattle.reading.specs.declared.Item.{Item}
 use Rattle.reading.specs.declared.Item.TheVariants as I
 use Rattle.reading.specs.Items.{is_pad, opens, item_at}
 use Rattle.reading.specs.Scalars.{scalar_in}
 use Rattle.reading.specs.Bodies.{mark_in}
-use Rattle.reading.specs.contracts.Item.{the_type}
 use Rattle.read_items.proofs.Fuel.{fuelled}
 use Rattle.unpadded.specs.Rule.{step_is, unpadded_from, content_by, is_whole, is_one_value}
 
 -- the variants that are no item
 stops_at : (go : List ℕ → ℕ → ℕ → ℕ → ℕ → Bool) (s : List ℕ) (parent least depth : ℕ) (i : Item)
-    → OneOf (1 ∷ 2 ∷ []) (tag_of the_type i) → false ≡ step_is go s parent least depth i
+    → ((n a b k x y : ℕ) → i ≡ I.Is n a b k x y → ⊥) → false ≡ step_is go s parent least depth i
 stops_at go s parent least depth I.End k = refl
 stops_at go s parent least depth (I.No r) k = refl
-stops_at go s parent least depth (I.Is name from to b start stop) k = absurd (⊎_elim (λ e. omega arith) (λ e. omega arith) k)
+stops_at go s parent least depth (I.Is name from to b start stop) k = absurd (k name from to b start stop refl)
 
 module _ (f : ℕ) (some : 1 ≤ f) (s : List ℕ) (parent least depth at : ℕ) where
   pub at-end : at ≡ length s → true ≡ unpadded_from f s parent least depth at
@@ -33,7 +29,8 @@ module _ (f : ℕ) (some : 1 ≤ f) (s : List ℕ) (parent least depth at : ℕ)
   at-end e = fuelled (λ g. true ≡ unpadded_from g s parent least depth at) f some (λ g p. rw (eq-eqb at (length s) e) refl)
 
   module _ (inside : at < length s) where
-    pub no_item : (i : Item) → i ≡ item_at s parent least depth at → OneOf (1 ∷ 2 ∷ []) (tag_of the_type i) → false ≡ unpadded_from f s parent least depth at
+    pub no_item : (i : Item) → i ≡ item_at s parent least depth at → ((n a b k x y : ℕ) → i ≡ I.Is n a b k x y → ⊥)
+        → false ≡ unpadded_from f s parent least depth at
     unfolding unpadded_from
     no_item i e k = fuelled (λ g. false ≡ unpadded_from g s parent least depth at) f some
         (λ g p. rw (ne_eqb at (length s) (λ q. omega arith), ← e) (stops_at (λ t p l d j. unpadded_from g t p l d j) s parent least depth i k))

@@ -1,7 +1,7 @@
 -- Whether the items from a place on read, none of them a NOP pad and none an out-of-calendar timestamp, containers entered: by what the reader
 -- answers at each place. The crate unpadded_grammar shows that the grammar says the same.
 -- Assumes nothing.
-use Rattle.std.specs.Prelude.{ℕ, zero, suc, ◌+◌, Bool, true, false, cond, ◌&&◌, ◌||◌, not, List, eqb, length, take}
+use Rattle.std.specs.Prelude.{ℕ, zero, suc, ◌+◌, Bool, false, cond, ◌&&◌, ◌||◌, not, List, eqb, length, take}
 use Rattle.std.proofs.Math.Seq.{slice}
 use Rattle.reading.specs.declared.Item.{Item}
 use Rattle.reading.specs.declared.Item.TheVariants as I

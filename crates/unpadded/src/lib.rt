@@ -1,4 +1,6 @@
 // Whether bytes are one value without NOP pad and without out-of-calendar timestamp, by the items that the reader finds.
+#![tactic(auto)]
+
 ghost use Rattle.std.specs.Prelude.{◌≡◌, true, ℕ, ◌+◌, ◌-◌, ◌<◌, ◌≤◌, length};
 ghost use Rattle.reading.specs.Scalars.{scalar_in};
 ghost use Rattle.reading.specs.Bodies.{mark_in};

@@ -1,0 +1,11 @@
+-- `answer_number` meets its contract: case by case.
+-- Assumes nothing.
+use mathlib.Core.Path.{ap}
+use Prim.Native.Nat.{ℕ}
+use Rattle.read_answers.proofs.answer_number.Goals as goal
+
+pub returns-in-No : goal.returns-in-No
+returns-in-No c = rw c.in-No.is (ap (λ (k : ℕ). (k, c.args.lent.now)) c.number_of.ensures)
+
+pub returns-in-Is : goal.returns-in-Is
+returns-in-Is c = rw c.in-Is.is c.accept_two.ensures
