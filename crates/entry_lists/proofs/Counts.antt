@@ -8,12 +8,10 @@ use mathlib.Core.Bool.{Bool}
 use mathlib.Core.List.{List, [], ◌∷◌}
 use lib.Dec.{eqb}
 use lib.ListN.{length, get_or}
-use Rattle.buffer.specs.Laid.{laid}
-use Rattle.buffer.proofs.Laid.{length-laid}
 use Rattle.ion.specs.Grammar.{Reads}
 use Rattle.machine.specs.declared.Container.{Container}
 use Rattle.machine.specs.Call.{Call, write, name, opening, closing, abandonment, version_marker, taking, emptying}
-use Rattle.machine.specs.Machine.{Config, no_container, innermost_first, open_containers, innermost_members, fits, rule_of, checks, Verdict, accepted}
+use Rattle.machine.specs.Machine.{Config, no_container, innermost_first, innermost_members, fits, checks, Verdict, accepted}
 use Rattle.machine.specs.Machine.{refused, verdict, is_accepted, after, Outcome, run, started}
 use Rattle.machine.specs.Counts.{Answers, no_answers, answers_accepted, answers_step, answers_after, after_all}
 use Rattle.machine.proofs.Steps.{none_failing}
@@ -21,7 +19,7 @@ use Rattle.machine.proofs.Counts.{members-answered}
 use Rattle.machine.proofs.Fitting.{own_states_fit}
 use Rattle.steps.proofs.Run.{run_accepted}
 use Rattle.steps.proofs.Members.{members_few}
-use Rattle.state_bytes.specs.StateBytes.{four, state_of, four_bytes, entered, numbers, numbers_laid, answered_by, answered}
+use Rattle.state_bytes.specs.StateBytes.{four, state_of, entered, numbers, numbers_laid, answered_by, answered}
 use Rattle.entry_numbers.specs.EntryCall.{call_of, HostCall}
 use Rattle.entry_lists.specs.Demands.{Lent, config_of, lent_started, members_laid, lent_answers_after, EntryMembersAnswered, lent_after_all, EntryOwnStatesFit}
 use Rattle.entry_lists.proofs.Bytes.{number-laid}

@@ -7,10 +7,8 @@ use mathlib.Core.List.{List, [], ◌∷◌}
 use lib.ListN.{replicate}
 use lib.IntN.{pos, negsuc}
 use Rattle.buffer.specs.Laid.{laid, placed}
-use Rattle.encoding.specs.Digits.{digits}
 use Rattle.encoding.specs.Stream.{stream_bytes}
 use Rattle.annotations.specs.Sids.{least_first, sid_at, sids_up_to, sids_of}
-use Rattle.machine.specs.Machine.{run}
 use Rattle.machine.specs.Demands.{ReadsOnlyAs}
 use Rattle.machine.specs.Counts.{counts, no_answers}
 use Rattle.machine.proofs.Whole.{machine_whole}

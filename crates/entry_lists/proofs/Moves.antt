@@ -1,7 +1,7 @@
 -- What closings move through the entry points: the machine's sum, since every list of calls over lent bytes runs as the machine does,
 -- and four bytes hold a number that is at most the buffer's length.
 -- Assumes nothing.
-use Prim.Native.Nat.{ℕ, ◌+◌, ◌*◌, ◌^◌, ◌<◌, ◌≤◌}
+use Prim.Native.Nat.{ℕ, ◌+◌, ◌^◌, ◌<◌, ◌≤◌}
 use native.Mathlib.Omega.{arith}
 use mathlib.Core.Path.{◌≡◌, refl, sym, ◌∙◌, ap, ap₂}
 use mathlib.Core.Bool.{Bool, not, ◌&&◌, and-false}
@@ -10,14 +10,13 @@ use lib.Dec.{eqb}
 use lib.ListN.{length}
 use Rattle.machine.specs.Call.{Call, write, name, opening, closing, abandonment, version_marker, taking, emptying}
 use Rattle.machine.specs.Machine.{Config, checks, rule_of, Verdict, accepted, refused, verdict, is_accepted, after, figures_if, Outcome, run, started}
-use Rattle.machine.specs.Demands.{joined}
 use Rattle.machine.specs.Moves.{moved_sum, is_closing, is_abandonment, nothing_abandoned}
 use Rattle.machine.proofs.Steps.{none_failing}
 use Rattle.machine.proofs.Moves.{moved_room, moved_at_most}
 use Rattle.state_bytes.specs.StateBytes.{four, state_of, entered}
 use Rattle.steps.proofs.Run.{run_accepted}
 use Rattle.entry_numbers.specs.EntryCall.{call_of, HostCall}
-use Rattle.entry_lists.specs.Demands.{Lent, config_of, lent_started, lent_joined, moved_laid, moved_if, lent_moved_sum, lent_nothing_abandoned, EntryMovedAtMost}
+use Rattle.entry_lists.specs.Demands.{Lent, config_of, lent_started, moved_laid, moved_if, lent_moved_sum, lent_nothing_abandoned, EntryMovedAtMost}
 use Rattle.entry_lists.proofs.Bytes.{number-laid}
 use Rattle.entry_lists.proofs.Steps.{Sound, Spells, answer_is, lent_by}
 use Rattle.entry_lists.proofs.Demands.{calls, joined_is, step, spells, run_of}

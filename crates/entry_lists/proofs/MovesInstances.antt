@@ -8,7 +8,6 @@ use mathlib.Core.List.{List, [], ◌∷◌}
 use lib.ListN.{length, replicate}
 use Rattle.buffer.specs.Laid.{laid, placed}
 use Rattle.annotations.specs.Sids.{least_first, sid_at, sids_up_to, sids_of}
-use Rattle.machine.specs.Machine.{run}
 use Rattle.machine.proofs.Whole.{machine_whole}
 use Rattle.machine.proofs.MovesInstances.{nines}
 use Rattle.state_bytes.specs.StateBytes.{state_size, state_of, containers_from, stored_head, stored_container, stored_members, entered, numbers_laid, answered}
