@@ -15,7 +15,7 @@ use Rattle.reading_grammar.proofs.Walked.{higher_within, reading_is_walked}
 use Rattle.unpadded.specs.Rule.{is_one_value}
 use Rattle.unpadded_grammar.proofs.Exact.{found_is_one, one_is_found}
 use Rattle.unpadded_grammar.proofs.Depth.{shallow}
-use Rattle.small_values.specs.Order.{◌∈◌, Lists}
+use Rattle.small_values.specs.Order.{Lists}
 use Rattle.small_values.specs.Set.{SmallValue}
 use Rattle.small_values.specs.Listing.{next_of, next_by, of_size, small_values, SmallValuesListed, ReaderAgrees, ToldByReader}
 use Rattle.small_values.proofs.Order.{lists_join, lists_same}

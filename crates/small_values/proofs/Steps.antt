@@ -1,8 +1,8 @@
 -- The next small value, from a number on: that number, or the next one from the number behind it; and the limits of the sizes.
 -- Assumes nothing.
-use Prim.Native.Nat.{ℕ, zero, suc, ◌+◌, ◌-◌, ◌<◌, ◌≤◌}
+use Prim.Native.Nat.{ℕ, suc, ◌+◌, ◌-◌, ◌<◌, ◌≤◌}
 use native.Mathlib.Omega.{arith}
-use mathlib.Core.Path.{◌≡◌, refl, ap}
+use mathlib.Core.Path.{◌≡◌, refl}
 use mathlib.Core.Bool.{true, false}
 use borrow.Author.Tests.{lt-leb}
 use Rattle.encoding.specs.Digits.{low_digits}
