@@ -1,4 +1,6 @@
 // Bytes laid into a lent buffer. Each function that puts bytes tests its room itself: it answers how many bytes it put, and puts all or none.
+#![tactic(auto)]
+
 ghost use Rattle.std.specs.Prelude.{◌≡◌, List, [], ◌∷◌, ℕ, ◌+◌, leb};
 ghost use Rattle.buffer.specs.Laid.{placed};
 

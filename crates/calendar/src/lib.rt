@@ -1,4 +1,6 @@
 // The Gregorian calendar: the days of a month, and the days and minutes counted from the year 0 on.
+#![tactic(auto)]
+
 ghost use Rattle.std.specs.Prelude.{◌≡◌};
 ghost use Rattle.ion.specs.Calendar.{is_leap_year, days_in_month, days_before_month, days_before_year, minute_number};
 

@@ -1,5 +1,7 @@
 // Decimals: document 01's module binary/decimal. A body is the exponent as a VarInt, then the coefficient as an Int; positive zero with exponent 0 has none.
 // The coefficient is given as a sign and a big-endian magnitude, whose leading zero bytes do not count.
+#![tactic(auto)]
+
 ghost use Rattle.std.specs.Prelude.{◌≡◌, List, ℕ, ◌+◌, ◌≤◌, length};
 ghost use Rattle.buffer.specs.Laid.{placed};
 ghost use Rattle.encoding.specs.Decimal.{decimal_body};

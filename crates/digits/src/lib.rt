@@ -1,4 +1,6 @@
 // Digits of a number in a base, and the bits that tell how many there are.
+#![tactic(auto)]
+
 ghost use Rattle.std.specs.Prelude.{◌≡◌, List, ℕ, ◌+◌, ◌-◌};
 ghost use Rattle.std.specs.Int.Count.{count_leading_zeros};
 ghost use Rattle.encoding.specs.Digits.{low_digits};

@@ -14,7 +14,7 @@ use Rattle.ion.specs.Value.{Fraction, no_fraction, fraction}
 use Rattle.ion.specs.Calendar.{is_month, is_day, is_calendar_year}
 use Rattle.ion.specs.Scalars.{is_year, are_fields}
 use Rattle.ion.proofs.Tests.{by_cases, both}
-use Rattle.encoding.specs.Timestamp.{TimestampRule, field_rules, offset_rules, fraction_rules, local_rules, utc_year_rules, timestamp_rules, first_bad}
+use Rattle.encoding.specs.Timestamp.{TimestampRule, field_rules, offset_rules, fraction_rules, local_rules, utc_year_rules, first_bad}
 use Rattle.encoding.specs.Timestamp.{is_none, is_precision, utc, is_local_timestamp, is_timestamp}
 
 -- year 1 to 9999

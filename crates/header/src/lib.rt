@@ -1,4 +1,6 @@
 // The header of a value: the type code in the high four bits; the length in the low four, or from 14 on E there and a VarUInt behind.
+#![tactic(auto)]
+
 ghost use Rattle.std.specs.Prelude.{◌≡◌, List, ℕ, ◌*◌, ◌/◌, length};
 ghost use Rattle.encoding.specs.Headers.{header_bytes};
 ghost use Rattle.buffer.specs.Laid.{placed};

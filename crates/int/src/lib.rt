@@ -1,4 +1,6 @@
 // Int: a UInt with the sign in the top bit of the first byte; where the magnitude takes that bit, a byte with the sign alone goes before it.
+#![tactic(auto)]
+
 ghost use Rattle.std.specs.Prelude.{◌≡◌, false, List, ◌∷◌, ℕ, length};
 ghost use Rattle.encoding.specs.Fields.{uint_bytes, trimmed, int_bytes};
 ghost use Rattle.buffer.specs.Laid.{placed};

@@ -1,4 +1,5 @@
 // The writer's state, by value. What each call does to it and to the lent buffer is defined in specs/; no function runs here.
+#![tactic(auto)]
 
 // Check 1: a longer buffer is refused.
 pub const LONGEST_BUFFER: usize = 16_777_215;

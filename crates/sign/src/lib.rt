@@ -1,4 +1,6 @@
 // The sign and the magnitude of an i64.
+#![tactic(auto)]
+
 ghost use Rattle.std.specs.Prelude.{◌≡◌, not, nat_abs};
 ghost use Rattle.std.specs.Int.Signed.{non_neg};
 

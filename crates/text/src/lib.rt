@@ -1,4 +1,6 @@
 // UTF-8 by RFC 3629, section 4: what `write_string` asks of its bytes.
+#![tactic(auto)]
+
 ghost use Rattle.std.specs.Prelude.{◌≡◌, ℕ, List, ◌∷◌};
 ghost use Rattle.ion.specs.Text.{characters, begun, utf8, utf8_from};
 ghost use Rattle.text.specs.Due.{due, asked, ascii};

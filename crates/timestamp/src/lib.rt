@@ -1,5 +1,7 @@
 // Timestamps: document 01's modules types/timestamp and binary/timestamp.
 // A field is 32 bits wide and never cut: a year of 70000 is a bad year.
+#![tactic(auto)]
+
 ghost use Rattle.std.specs.Prelude.{◌≡◌, true, cond, ◌&&◌, List, [], ℕ, ◌+◌, ◌%◌, ◌^◌, ◌≤◌, ◌<◌, ltb, leb, length, nat_abs};
 ghost use Rattle.buffer.specs.Laid.{placed};
 ghost use Rattle.encoding.specs.Fields.{var_uint_bytes, var_uints_bytes};

@@ -1,4 +1,6 @@
 // UInt: big-endian bytes without leading zero bytes.
+#![tactic(auto)]
+
 ghost use Rattle.std.specs.Prelude.{◌≡◌, List, ℕ, ◌+◌, ◌*◌, ◌/◌, length};
 ghost use Rattle.encoding.specs.Fields.{uint_bytes, fixed_bytes, trimmed, or_zero};
 ghost use Rattle.encoding.specs.Headers.{framed_bytes};

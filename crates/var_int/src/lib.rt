@@ -1,4 +1,6 @@
 // VarInt: a VarUInt whose first byte holds six bits of the magnitude below the sign.
+#![tactic(auto)]
+
 ghost use Rattle.std.specs.Prelude.{◌≡◌, false, List, ℕ, length};
 ghost use Rattle.ion.specs.Value.{signed};
 ghost use Rattle.encoding.specs.Fields.{var_int_bytes};

@@ -1,4 +1,6 @@
 // VarUInt: seven bits a byte, most significant first, the end flag on the last. It is stored from the last byte to the first.
+#![tactic(auto)]
+
 ghost use Rattle.std.specs.Prelude.{◌≡◌, List, ℕ, length};
 ghost use Rattle.encoding.specs.Fields.{var_uint_bytes};
 ghost use Rattle.buffer.specs.Laid.{placed};

@@ -1,7 +1,7 @@
 -- `buffer::copy` meets its contract. The loop's invariant: the first `i` bytes of `src` are laid at `at`.
 -- Each turn lays one byte more behind them. Assumes nothing.
 use mathlib.Core.Path.{◌≡◌, refl, sym, ◌∙◌, ap}
-use Prim.Native.Nat.{◌+◌, ◌-◌, ◌≤◌}
+use Prim.Native.Nat.{◌+◌}
 use native.Mathlib.Omega.{arith}
 use native.Mathlib.Numerals.{add-one}
 use lib.ListN.{length, take, get_or, length-set}

@@ -1,13 +1,9 @@
 -- `buffer::copy` meets its contract. The loop's invariant: the first `i` bytes of `src` are laid at `at`.
 -- Each turn lays one byte more behind them. Assumes nothing.
-use mathlib.Core.Path.{◌≡◌, refl, sym, ◌∙◌, ap}
+use mathlib.Core.Path.{◌≡◌}
 use Prim.Native.Nat.{◌+◌, ◌-◌, ◌≤◌}
-use native.Mathlib.Omega.{arith}
-use native.Mathlib.Numerals.{add-one}
-use lib.ListN.{length, take, get_or, length-set}
-use lib.Seq.{take-suc, take_all, length-take-le}
+use lib.ListN.{length, take}
 use Rattle.buffer.specs.Laid.{laid}
-use Rattle.buffer.proofs.Laid.{laid_nil, laid_snoc, placed_full, placed_by, no_room, room}
 use Rattle.buffer.proofs.copy.Given as goal
 
 abbrev pub invariant-loop-i : goal.invariant-loop-i

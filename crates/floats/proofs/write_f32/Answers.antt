@@ -10,6 +10,6 @@ returns-then-is_positive_zero_f32 c = rw (float32_zero _ (eqb-true _ 0 (sym c.is
 
 pub returns : goal.returns
 returns c = rw (
-      float32_other _ (eqb-false _ 0 (sym c.is_positive_zero_f32.ensures ∙ c.if-is_positive_zero_f32.false)),
-      ← c.bits_of_f32.ensures,
-    ) c.write_sized-2.ensures
+  float32_other _ (eqb-false _ 0 (sym c.is_positive_zero_f32.ensures ∙ c.if-is_positive_zero_f32.false)),
+  ← c.bits_of_f32.ensures,
+) c.write_sized-2.ensures

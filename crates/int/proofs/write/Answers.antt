@@ -21,6 +21,7 @@ module _ (s : Bool) (m : List ℕ) (r : ℕ) (h : r < length m) (e : r + length 
   clear k =
       ap (λ (l : List ℕ). (0x80 * bool_byte s + get_or m r 0) ∷ l) (rest_part m (r + 1) ∙ ap (λ (n : ℕ). drop n m) (add-one r))
       ∙ rw (trimmed_cons m r h e, top_bit_is s) (sym (int_clear (get_or m r 0) (drop (suc r) m) s k))
+
   taken : 0x80 ≤ get_or m r 0 → 0x80 * bool_byte s ∷ take (length m - r) (drop r m) ≡ int_bytes s (trimmed m)
   taken k =
       ap (λ (l : List ℕ). 0x80 * bool_byte s ∷ l) (trimmed-part m r e)

@@ -18,17 +18,21 @@ use Rattle.uint.proofs.write_framed.Goals as goal
 module _ (code n : ℕ) (h : n < 2 ^ 64) where
   framed : framed_bytes code (uint_bytes n) ≡ (code + length (uint_bytes n)) ∷ uint_bytes n
   framed = framed_short code (uint_bytes n) (omega (arith, uint-most n h))
+
   -- the type byte alone
   alone : n ≡ 0 → code ∷ [] ≡ framed_bytes code (uint_bytes n)
   alone z = rw (framed, uint-zero n z, add-zero)
+
   module _ (b : List ℕ) (at : ℕ) where
     -- no room for the whole
     full : length b < at + (1 + length (uint_bytes n)) → ◌≡◌ {A = ℕ × List ℕ} (0, b) (placed b at (framed_bytes code (uint_bytes n)))
     full k = sym (placed_full b at (framed_bytes code (uint_bytes n)) (omega (arith, ap length framed)))
+
     -- what the UInt leaves
     module _ (size : ℕ) (l : List ℕ) (e : ◌≡◌ {A = ℕ × List ℕ} (size, l) (placed b (at + 1) (uint_bytes n))) where
       none : 0 < n → size ≡ 0 → ◌≡◌ {A = ℕ × List ℕ} (0, l) (placed b at (framed_bytes code (uint_bytes n)))
       none p z = let q = placed-none b (at + 1) (uint_bytes n) size l e z (uint_least n p) in rw q.1 (full (omega (arith, q.0)))
+
       before : (size ≡ 0 → ⊥) → ◌≡◌ {A = ℕ × List ℕ} (1 + size, set l at (code + size)) (placed b at (framed_bytes code (uint_bytes n)))
       before some =
           let q = placed-some b (at + 1) (uint_bytes n) size l e some in
