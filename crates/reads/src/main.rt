@@ -1,9 +1,7 @@
-// Walks streams of standard input through the reader's entry points, and their top level through `stream_reader`. A line: the stream in hex, or a
-// minus where it is empty, and the position that is read from. Its answer is in the words of compare/src/reading/text.rs. A line that begins with
+// Walks streams of standard input through the reader's entry points. A line: the stream in hex, or a minus where it is empty, and the position
+// that is read from. Its answer is what the walk shows and how it ended, in the words of compare/src/reading/text.rs. A line that begins with
 // `#` is its own answer.
-mod endings;
 mod numbers;
-mod top;
 mod values;
 mod walk;
 

@@ -2,9 +2,7 @@
 ghost use Rattle.std.specs.Prelude.{◌≤◌, length};
 ghost use Rattle.reads.specs.Standing.{Standing};
 
-use crate::endings::{Ending, print_ending};
 use crate::numbers::{print, print_number};
-use crate::top::print_top;
 use crate::values::{print_refusal, print_value};
 use entry_reading::{gm_read_item, gm_read_rest, gm_read_sid};
 use words::least;
@@ -45,6 +43,13 @@ struct Walk {
     position: usize,
     depth: usize,
     holders: [Holder; MOST_OPEN + 1],
+}
+
+// How a walk ended: a refusal's number, or 0, and the place.
+#[derive(Drop)]
+struct Ending {
+    refusal: u8,
+    place: usize,
 }
 
 // No refusal: the turns ran out before the walk ended.
@@ -246,6 +251,15 @@ fn walked(stream: &[u8], position: usize) -> Ending
     }
 }
 
+fn print_ending(ending: Ending) {
+    if ending.refusal == 0 {
+        return print(b"whole");
+    }
+    print_refusal(ending.refusal);
+    print(b"@");
+    print_number(ending.place as u64);
+}
+
 // How `gm_read_rest` says that a walk ends.
 fn rest(stream: &[u8], position: usize) -> Ending {
     let mut place = [0u64; 1];
@@ -256,12 +270,19 @@ fn rest(stream: &[u8], position: usize) -> Ending {
     }
 }
 
-// Prints what the walk from a position shows, and how it ended; then how `gm_read_rest` and the reader at top level say that it ends.
+fn are_same(a: Ending, b: Ending) -> bool {
+    (a.refusal == b.refusal) & ((a.refusal == 0) | (a.place == b.place))
+}
+
+// Prints what the walk from a position shows, and how it ended; behind it the ending by `gm_read_rest`, if that is another.
 pub(crate) fn print_walk(stream: &[u8], position: usize)
     requires { length stream.now ≤ 8192 }
 {
-    print_ending(walked(stream, position));
-    print(b"; rest ");
-    print_ending(rest(stream, position));
-    print_top(stream, position);
+    let ending = walked(stream, position);
+    print_ending(ending);
+    let whole = rest(stream, position);
+    if !are_same(ending, whole) {
+        print(b" but rest ");
+        print_ending(whole);
+    }
 }
