@@ -45,7 +45,7 @@ fn write_timestamp(
         field(text, 5),
         field(text, 6),
         field(text, 7),
-        !check::same(offset, b"?") as u8,
+        (offset != b"?".as_slice()) as u8,
         numbers::i32_of(offset),
         (words == 10) as u8,
         field(text, 8),
@@ -80,7 +80,7 @@ fn call(
             state,
             buf,
             annotations,
-            check::same(first, b"1") as u8,
+            (first == b"1".as_slice()) as u8,
         ),
         walk::I64 => goatminute::gm_write_i64(state, buf, annotations, numbers::i64_of(first)),
         walk::INT => goatminute::gm_write_int(

@@ -2,6 +2,7 @@
 #![tactic(auto)]
 
 pub mod hex;
+pub mod input;
 pub mod numbers;
 
 ghost use Rattle.std.specs.Prelude.{◌≡◌, [], ◌+◌, ◌≤◌, min, max, length, drop, get_or};
