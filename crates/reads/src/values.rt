@@ -61,17 +61,14 @@ fn print_offset(rt: &impl Print, known: bool, negative: bool, minutes: u64) -> i
 
 // Of the fields the first `count`.
 fn print_fields(rt: &impl Print, fields: &[u64], count: u64) -> io::Result<()> {
-    let mut i: usize = 0;
-    while i < fields.len() {
+    for (i, field) in fields.iter().enumerate() {
         if count <= i as u64 {
             return Ok(());
         }
         if 0 < i {
             print!(rt; ",")?;
         }
-        let field = fields[i];
         print!(rt; "{field}")?;
-        i += 1;
     }
     Ok(())
 }

@@ -78,9 +78,7 @@ fn opens(kind: u8) -> bool {
 // Prints the sids that fill a part. Each has a byte at least, so as many turns do.
 fn print_annotations(rt: &impl Print, sids: &[u8]) -> io::Result<()> {
     let mut at: usize = 0;
-    let mut turns = sids.len();
-    while 0 < turns {
-        turns -= 1;
+    for _ in 0..sids.len() {
         if sids.len() <= at {
             return Ok(());
         }
@@ -231,9 +229,8 @@ fn walked(rt: &impl Print, stream: &[u8], position: usize) -> io::Result<Ending>
     requires { length stream.now ≤ 8192 }
 {
     let mut walk = start(stream.len(), position);
-    let mut turns = 2 * stream.len() + 1;
-    while 0 < turns {
-        turns -= 1;
+    let turns = 2 * stream.len() + 1;
+    for _ in 0..turns {
         let mut item = [0u64; 6];
         let refusal = read_item(stream, walk, &mut item);
         if (refusal != 0) | ends(walk, &item) {
