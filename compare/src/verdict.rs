@@ -120,15 +120,34 @@ mod tests {
     #[test]
     fn bytes_must_be_the_same() {
         assert_eq!(judge("(bool 1)", "11", "11"), Verdict::Equal);
-        for (ours, rust) in
-            [("10", "11"), ("1111", "11"), ("11", "1111"), ("!12", "11"), ("!12", "!12"), ("!12", "?form"), ("11", "?err")]
-        {
+        assert_eq!(judge("(bool 1)", "10", "11"), Verdict::Different);
+        assert_eq!(judge("(bool 1)", "", ""), Verdict::Different);
+        assert_eq!(judge("(bool 1)", "!12", "11"), Verdict::Different);
+        assert_eq!(judge("(bool 1)", "!12", "?form"), Verdict::Different);
+        assert_eq!(judge("(bool 1)", "11", "?err"), Verdict::Different);
+    }
+
+    #[test]
+    fn other_bytes_and_answers_that_are_no_hex() {
+        for (ours, rust) in [("1111", "11"), ("11", "1111"), ("!12", "!12")] {
             assert_eq!(judge("(bool 1)", ours, rust), Verdict::Different, "{ours} {rust}");
         }
-        // the same answer of both that is no hex
-        for answer in ["", "1", "111", "1g", "1A", "A1", "11 ", "0x11"] {
+        // the same answer of both
+        for answer in ["1", "111", "1g", "1A", "A1", "11 ", "0x11"] {
             assert_eq!(judge("(bool 1)", answer, answer), Verdict::Different, "{answer}");
         }
+    }
+
+    #[test]
+    fn refusals_must_have_their_number() {
+        assert_eq!(judge("(bool 2)", "!12", "?form bool"), Verdict::Equal);
+        assert_eq!(judge("(bool 2)", "!11", "?form bool"), Verdict::Different);
+        assert_eq!(judge("(bool 2)", "!12", "?err bool"), Verdict::Different);
+        assert_eq!(judge("(int -0)", "!5", "?hold zero"), Verdict::Equal);
+        assert_eq!(judge("(int -0)", "!6", "?hold zero"), Verdict::Different);
+        assert_eq!(judge("(int -0)", "!5", "2100"), Verdict::Different);
+        assert_eq!(judge("(symbol \"go\")", "!11", "?err text"), Verdict::Equal);
+        assert_eq!(judge("(symbol \"go\")", "!11", "?panic"), Verdict::Different);
     }
 
     /// Each fault by its number and the class of the Rust's reason, and by no other.
@@ -166,9 +185,14 @@ mod tests {
     fn of_several_faults_the_first_answers() {
         let line = "(list (symbol \"go\") (int -0))";
         assert_eq!(judge(line, "!11", "?hold zero"), Verdict::Equal);
+        assert_eq!(judge(line, "!5", "?hold zero"), Verdict::Different);
+    }
+
+    #[test]
+    fn of_several_faults_the_rust_may_answer_another() {
+        let line = "(list (symbol \"go\") (int -0))";
         assert_eq!(judge(line, "!11", "?err text"), Verdict::Equal);
         assert_eq!(judge(line, "!11", "?form"), Verdict::Different);
-        assert_eq!(judge(line, "!5", "?hold zero"), Verdict::Different);
     }
 
     #[test]
@@ -183,6 +207,13 @@ mod tests {
         let long = format!("(int {})", "0".repeat(4091));
         assert_eq!(judge(&long, "!12", "2100"), Verdict::Parted(Intent::Length));
         assert_eq!(judge(&long, "2100", "2100"), Verdict::Different);
+    }
+
+    #[test]
+    fn parted_by_intent_where_the_rust_has_bytes() {
+        let no_digits = "(ts ? 2000 1 1 0 0 0 0 0)";
+        let deep = format!("{}{}", "(list ".repeat(32) + "(list", ")".repeat(33));
+        let long = format!("(int {})", "0".repeat(4091));
         for (line, ours) in [(no_digits, "!7"), (&deep, "!4"), (&long, "!12")] {
             for rust in ["?form", "?hold", "?err", "", "1", "1G"] {
                 assert_eq!(judge(line, ours, rust), Verdict::Different, "{line} {rust}");

@@ -70,7 +70,6 @@ fn not_of_the_form() {
     refused(12, &["", " ", "(bool 01)", "(bool 1) ", " (bool 1)", "(bool 1)\r", "(bool  1)"]);
     refused(12, &["(list )", "(clob )", "(blob 0)", "(blob 00 00)", "(int FF)", "(int)", "(int -)"]);
     refused(12, &["(i64 +5)", "(i64 --5)", "(f32 3fc0000)", "(f64 -3ff8000000000000)"]);
-    refused(12, &["(f32 3fc000000)", "(f64 3ff80000000000000)", "(f32)", "(f64 3ff800000000000)"]);
     refused(12, &["(symbol \"\")", "(symbol \"Go\")", "(symbol \"g1\")", "(symbol -0)"]);
     refused(12, &["(ann (10) (ann (11) (bool 1)))", "(ann () (ann () (bool 1)))", "(ann (10))"]);
     refused(12, &["(struct (4 (bool 1))(5 (bool 1)))", "(struct (-0 (bool 1)))"]);
@@ -78,6 +77,11 @@ fn not_of_the_form() {
     refused(12, &["(ts ? -0)", "(ts ? 2000 1 1 0 0 0 1 -0)", "(ts ? 2000 1 1 0 0 0 1 0 0)"]);
     accepted(&["(list)", "(sexp)", "(struct)", "(clob)", "(ann () (bool 1))"]);
     accepted(&["(ann (10) (list (ann (11) (bool 1))))"]);
+}
+
+#[test]
+fn floats_of_too_many_digits_or_too_few() {
+    refused(12, &["(f32 3fc000000)", "(f64 3ff80000000000000)", "(f32)", "(f64 3ff800000000000)"]);
 }
 
 #[test]
@@ -104,20 +108,29 @@ fn lines_over_4096_bytes() {
     accepted(&[&int(4090)]);
     refused(12, &[&int(4091)]);
     assert_eq!(faults(int(4091).as_bytes()), [Fault::Length]);
-    // The faults behind it count too: the Rust has no limit.
-    assert_eq!(faults(format!("(list (int -0) {})", int(4091)).as_bytes()), [Fault::Length, Fault::NegativeZero]);
     refused(12, &[&"(".repeat(5000)]);
+}
+
+/// The faults behind the length count too: the Rust has no limit.
+#[test]
+fn faults_of_lines_over_4096_bytes() {
+    let long = format!("(list (int -0) (int {}))", "0".repeat(4091));
+    assert_eq!(faults(long.as_bytes()), [Fault::Length, Fault::NegativeZero]);
 }
 
 #[test]
 fn thirty_two_open() {
     accepted(&[&nested(32, "(bool 1)"), &nested(32, "(null list)"), &nested(31, "(list) (list)")]);
     refused(4, &[&nested(33, "(bool 1)"), &nested(32, "(list)"), &nested(584, "(bool 1)")]);
+    // Wrappers do not count.
+    accepted(&[&format!("{}(bool 1){}", "(ann (10) (sexp ".repeat(32), "))".repeat(32))]);
+}
+
+#[test]
+fn siblings_of_each_kind_are_not_open_together() {
     for empty in [" (list)", " (sexp)", " (struct)"] {
         accepted(&[&format!("(list{})", empty.repeat(40))]);
     }
-    // Wrappers do not count.
-    accepted(&[&format!("{}(bool 1){}", "(ann (10) (sexp ".repeat(32), "))".repeat(32))]);
 }
 
 #[test]
@@ -142,11 +155,7 @@ fn timestamps() {
     accepted(&["(ts ? 1)", "(ts ? 9999)", "(ts ? 2000 12)", "(ts ? 2000 2 29)"]);
     refused(7, &["(ts ? 0)", "(ts ? 10000)", "(ts ? 70000)", "(ts ? 2000 0)", "(ts ? 2000 13)"]);
     refused(7, &["(ts ? 1900 2 29)", "(ts ? 2100 2 29)", "(ts ? 2001 2 29)", "(ts ? 2000 2 30)"]);
-    refused(7, &["(ts ? 2000 1 0)", "(ts ? 2000 1 32)", "(ts ? 2000 12 32)"]);
-    for month in 1..=12 {
-        let last_is_31 = [1, 3, 5, 7, 8, 10, 12].contains(&month);
-        assert_eq!(number(format!("(ts ? 2000 {month} 31)").as_bytes()), (!last_is_31).then_some(7), "{month}");
-    }
+    refused(7, &["(ts ? 2000 4 31)", "(ts ? 2000 1 0)", "(ts ? 2000 1 32)"]);
     accepted(&["(ts ? 2000 1 31 23 59 59)", "(ts 1439 9999 12 31 23 59)", "(ts -1439 1 1 1 0 0)"]);
     refused(7, &["(ts ? 2000 1 1 24 0)", "(ts ? 2000 1 1 0 60)", "(ts ? 2000 1 1 0 0 60)"]);
     refused(7, &["(ts 1440 2000 1 1 0 0)", "(ts -1440 2000 1 1 0 0)"]);
@@ -158,6 +167,15 @@ fn timestamps() {
     assert_eq!(faults(b"(ts ? 2000 1 1 0 0 0 0 0)"), [Fault::NoFractionDigits]);
     assert_eq!(faults(b"(ts ? 2000 1 1 0 0 0 0 1)"), [Fault::Timestamp]);
     assert_eq!(faults(b"(ts ? 2000 1 1 0 0 60 0 0)"), [Fault::Timestamp]);
+}
+
+#[test]
+fn each_month_has_its_last_day() {
+    refused(7, &["(ts ? 2000 12 32)"]);
+    for month in 1..=12 {
+        let last_is_31 = [1, 3, 5, 7, 8, 10, 12].contains(&month);
+        assert_eq!(number(format!("(ts ? 2000 {month} 31)").as_bytes()), (!last_is_31).then_some(7), "{month}");
+    }
 }
 
 /// Document 02, Item 2: 7 covers a UTC year outside 1 to 9999, after the local fields.

@@ -33,6 +33,16 @@ fn each_intent_is_counted_by_itself() {
 
 #[test]
 fn differences() {
+    for (at, ours) in
+        ["10\n!12\n!12\n!5\n!7\n!11\n", "11\n!11\n!12\n!5\n!7\n!11\n", "11\n!12\n!12\n!7\n!7\n!11\n"].iter().enumerate()
+    {
+        let (content, printed) = judge(&format!("different-{at}"), &[LINES, ours, RUST]);
+        assert!(!content && printed.ends_with("6 lines, 1 differences\n"), "{printed}");
+    }
+}
+
+#[test]
+fn differences_are_said() {
     for (at, (ours, said)) in [
         ("10\n!12\n!12\n!5\n!7\n!11\n", "line 1: (bool 1)\n  ours 10\n  Rust 11\n  the documents bytes\n"),
         ("11\n!11\n!12\n!5\n!7\n!11\n", "line 2: (bool 2)\n  ours !11\n  Rust ?form bool\n  the documents !12\n"),
@@ -41,7 +51,7 @@ fn differences() {
     .iter()
     .enumerate()
     {
-        let (content, printed) = judge(&format!("different-{at}"), &[LINES, ours, RUST]);
+        let (content, printed) = judge(&format!("said-{at}"), &[LINES, ours, RUST]);
         assert!(!content && printed.starts_with(said) && printed.ends_with("6 lines, 1 differences\n"), "{printed}");
     }
 }
@@ -77,16 +87,19 @@ fn left_out() {
 fn short_and_long_files() {
     let short = OURS.strip_suffix("!11\n").expect("six lines");
     let long = format!("{OURS}11\n");
-    let long_rust = format!("{RUST}11\n");
-    for (name, files, lines) in [
-        ("short", [LINES, short, RUST], 5),
-        ("short-rust", [LINES, OURS, "11\n"], 1),
-        ("long", [LINES, &long, RUST], 6),
-        ("long-rust", [LINES, OURS, &long_rust], 6),
-    ] {
+    for (name, files, lines) in
+        [("short", [LINES, short, RUST], 5), ("short-rust", [LINES, OURS, "11\n"], 1), ("long", [LINES, &long, RUST], 6)]
+    {
         let (content, printed) = judge(name, &files);
         assert!(!content && printed.ends_with(&format!("\n{lines} lines, 1 differences\n")), "{printed}");
     }
+}
+
+#[test]
+fn a_long_file_of_the_rust() {
+    let long_rust = format!("{RUST}11\n");
+    let (content, printed) = judge("long-rust", &[LINES, OURS, &long_rust]);
+    assert!(!content && printed.ends_with("\n6 lines, 1 differences\n"), "{printed}");
 }
 
 #[test]
@@ -104,7 +117,23 @@ const RUST_STREAM: &str = "e00100ea11e00100eab22105\n";
 
 #[test]
 fn streams() {
-    let (content, printed) = judge("stream", &[LINES, OURS, RUST, STREAM, OUR_STREAM, RUST_STREAM]);
+    let stream = "value (bool 1)\nmarker\nvalue (list (i64 5))\n";
+    let ours = "e00100ea\n11\ne00100ea\nb22105\n";
+    let rust = "e00100ea11e00100eab22105\n";
+    let (content, printed) = judge("stream", &[LINES, OURS, RUST, stream, ours, rust]);
+    assert!(content && printed.ends_with("\n9 lines, 0 differences\n"), "{printed}");
+    let moved = "e00100ea\ne00100ea\n11\nb22105\n";
+    assert!(!judge("stream-order", &[LINES, OURS, RUST, stream, moved, rust]).0);
+    let short = "e00100ea\n11\ne00100ea\n";
+    let (content, printed) = judge("stream-short", &[LINES, OURS, RUST, stream, short, rust]);
+    assert!(!content && printed.ends_with("\n8 lines, 1 differences\n"), "{printed}");
+    let more = "e00100ea11e00100eab2210511\n";
+    assert!(!judge("stream-long", &[LINES, OURS, RUST, stream, ours, more]).0);
+}
+
+#[test]
+fn streams_that_differ() {
+    let (content, printed) = judge("stream-items", &[LINES, OURS, RUST, STREAM, OUR_STREAM, RUST_STREAM]);
     assert!(content && printed.ends_with("\n9 lines, 0 differences\n"), "{printed}");
     assert!(printed.contains("\n3 stream items\n"), "{printed}");
     // What differs, where the judge sees it, and how many items it has looked at by then.

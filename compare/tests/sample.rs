@@ -44,8 +44,7 @@ fn the_trial_program_has_the_sample() {
     let stdin = std::fs::read(format!("{folder}/stdin")).expect("crates/trial/stdin");
     let stdout = std::fs::read_to_string(format!("{folder}/stdout")).expect("crates/trial/stdout");
     let lines = sample::lines();
-    // The last line has no line feed.
-    assert!(stdin == lines.join(&b'\n'), "scripts/make-sample makes it again");
+    assert!(stdin == [lines.join(&b'\n'), b"\n".to_vec()].concat(), "scripts/make-sample makes it again");
     assert_eq!(stdout.lines().count(), lines.len());
     for (line, answer) in lines.iter().zip(stdout.lines()) {
         let refused = answer.strip_prefix('!').map(|digits| digits.parse().expect("a number"));

@@ -9,7 +9,7 @@ pub enum Refusal {
     BufferTooLong,
     /// The state does not fit the buffer or itself; of a reader, the position is past the stream's end.
     StateUnfit,
-    /// The call cannot stand here; through a writer of this crate also if a container inside it is open whose writer was leaked.
+    /// The call cannot stand here.
     Misplaced,
     /// [`MOST_OPEN`](crate::MOST_OPEN) containers are open.
     TooDeep,

@@ -144,15 +144,12 @@ pub type Writer<'b> = StreamWriter<&'b mut [u8]>;
 /// # }
 /// ```
 ///
-/// # Depth
+/// # Leaked writers
 ///
-/// A writer stands at a depth: one that was started outside all containers, one that was resumed in the innermost container that its
-/// state has open, and a container's writer in its container. A call that meets another depth is refused by 3 and alters nothing, and a
-/// writer dropped there abandons nothing. It is met where a container's writer was leaked (`mem::forget`): its container is still open.
+/// A container whose writer was leaked (`mem::forget`) stays open, and calls go on inside it, also those of the writers around it.
 /// [`close_innermost`](StreamWriter::close_innermost) and [`abandon_innermost`](StreamWriter::abandon_innermost) end it.
 pub struct StreamWriter<B> {
     state: State,
-    depth: u8,
     buf: B,
 }
 
@@ -170,8 +167,7 @@ impl<B: AsRef<[u8]> + AsMut<[u8]>> StreamWriter<B> {
     /// A state of 296 bytes cannot be resumed: the version that kept it has to finish its stream.
     #[must_use]
     pub fn resume(state: State, buf: B) -> Self {
-        let depth = state.bytes[DEPTH];
-        StreamWriter { state, depth, buf }
+        StreamWriter { state, buf }
     }
 
     /// The state, to be kept.
@@ -206,19 +202,12 @@ impl<B: AsRef<[u8]> + AsMut<[u8]>> StreamWriter<B> {
 
     /// Closes the innermost container where no writer of its own can: it was open in the state that was resumed, or its writer was leaked.
     pub fn close_innermost(&mut self) -> Result<Closed, Refusal> {
-        self.end(sys::close)
+        sys::close(&mut self.state.bytes, self.buf.as_mut())
     }
 
     /// Abandons the innermost container where no writer of its own can, as [`close_innermost`](StreamWriter::close_innermost) closes it.
     pub fn abandon_innermost(&mut self) -> Result<(), Refusal> {
-        self.end(sys::abandon)
-    }
-
-    /// A container that was resumed leaves the writer in the one around it; a leaked one leaves it where it stands.
-    fn end<T>(&mut self, end: impl FnOnce(&mut [u8], &mut [u8]) -> Result<T, Refusal>) -> Result<T, Refusal> {
-        let ended = end(&mut self.state.bytes, self.buf.as_mut())?;
-        self.depth = self.depth.min(self.state.bytes[DEPTH]);
-        Ok(ended)
+        sys::abandon(&mut self.state.bytes, self.buf.as_mut())
     }
 
     #[inline]
@@ -235,38 +224,25 @@ impl<B: AsRef<[u8]> + AsMut<[u8]>> fmt::Debug for StreamWriter<B> {
     }
 }
 
-/// State and buffer of a writer, and the depth at which it stands.
+/// State and buffer of a writer.
 struct Standing<'w> {
     state: &'w mut [u8; STATE_SIZE],
     buf: &'w mut [u8],
-    depth: u8,
 }
 
-/// The answer of an entry point that is lent state and buffer, where the state has the depth that the writer stands at. Else the call is
-/// misplaced, and not made. By the number, so that both refusals are one case of the caller's.
+/// The answer of an entry point that is lent state and buffer.
 macro_rules! call {
     ($at:expr, $entry:ident($($argument:expr),*)) => {
-        answer(match $at.state[DEPTH] == $at.depth {
-            true => sys::$entry($at.state, $at.buf, $($argument),*),
-            false => const { Refusal::Misplaced.number() },
-        })
+        answer(sys::$entry($at.state, $at.buf, $($argument),*))
     };
 }
 
-impl<'w> Standing<'w> {
-    /// In the container that was just opened.
-    #[inline(always)]
-    fn inside(self) -> Open<'w> {
-        let depth = self.state[DEPTH];
-        Open(Standing { depth, ..self })
-    }
-
+impl Standing<'_> {
     #[inline]
     fn value_writer(&mut self) -> ValueWriter<'_, 'static> {
         ValueWriter::new(Standing {
             state: self.state,
             buf: self.buf,
-            depth: self.depth,
         })
     }
 
@@ -399,21 +375,21 @@ impl<'w> ValueWriter<'w, '_> {
     #[inline(always)]
     pub fn list_writer(self) -> Result<ListWriter<'w>, Refusal> {
         call!(self.at, gm_open_list(self.annotations))?;
-        Ok(ListWriter(self.at.inside()))
+        Ok(ListWriter(Open(self.at)))
     }
 
     /// Opens an s-expression.
     #[inline(always)]
     pub fn sexp_writer(self) -> Result<SexpWriter<'w>, Refusal> {
         call!(self.at, gm_open_sexp(self.annotations))?;
-        Ok(SexpWriter(self.at.inside()))
+        Ok(SexpWriter(Open(self.at)))
     }
 
     /// Opens a struct.
     #[inline(always)]
     pub fn struct_writer(self) -> Result<StructWriter<'w>, Refusal> {
         call!(self.at, gm_open_struct(self.annotations))?;
-        Ok(StructWriter(self.at.inside()))
+        Ok(StructWriter(Open(self.at)))
     }
 
     #[inline]
@@ -551,19 +527,18 @@ impl<B: AsRef<[u8]> + AsMut<[u8]>> WriteValues for StreamWriter<B> {
         ValueWriter::new(Standing {
             state: &mut self.state.bytes,
             buf: self.buf.as_mut(),
-            depth: self.depth,
         })
     }
 }
 
 /// An open container, abandoned when it is dropped. The writer that it borrows can make no call until then, so the innermost
-/// container is this one, unless a writer inside it was leaked.
+/// container is this one, unless a writer inside it was leaked: then calls go on inside the leaked one.
 struct Open<'w>(Standing<'w>);
 
 impl Drop for Open<'_> {
     #[inline]
     fn drop(&mut self) {
-        // Refused only inside a container whose writer was leaked, which no writer that is dropped may end.
+        // Refused only if the state was unfit from the start, and then there is nothing to give back.
         let _ = call!(self.0, gm_abandon());
     }
 }

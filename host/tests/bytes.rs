@@ -1,5 +1,7 @@
 //! The bytes of each call, at the edges that document 01 names and beside them.
-use goatminute::{sys, Closed, Coefficient, Decimal, IonType, Refusal, Timestamp, ValueWriter, WriteValues, Writer, STATE_SIZE};
+use goatminute::{
+    sys, Closed, Coefficient, Decimal, IonType, Refusal, StreamWriter, Timestamp, ValueWriter, WriteValues, Writer, STATE_SIZE,
+};
 
 const MARKER: [u8; 4] = [0xE0, 0x01, 0x00, 0xEA];
 
@@ -293,10 +295,18 @@ fn lengths_of_four_var_uint_sizes() {
         let mut writer = Writer::new(&mut buf).unwrap();
         writer.write_blob(&blob).unwrap();
         assert_eq!(writer.finished().len(), 4 + header.len() + length);
-        assert_eq!(writer.used(), 4 + header.len() + length);
         assert_eq!(&buf[4..4 + header.len()], header);
         assert_eq!(&buf[4 + header.len()..4 + header.len() + length], blob);
         assert!(buf[4 + header.len() + length..].iter().all(|&byte| byte == 0xEE));
+    }
+}
+
+#[test]
+fn used_counts_headers_of_every_size() {
+    for (length, header) in [(16_383, 3), (16_384, 4), (2_097_151, 4), (2_097_152, 5)] {
+        let mut writer = StreamWriter::new(vec![0xEE; length + 16]).unwrap();
+        writer.write_blob(&vec![0x5A; length]).unwrap();
+        assert_eq!(writer.used(), 4 + header + length);
     }
 }
 

@@ -76,6 +76,18 @@ fn refused_close_abandons() {
 }
 
 #[test]
+fn leaked_container_stays_open() {
+    let mut buf = [0xEE; 64];
+    let mut writer = Writer::new(&mut buf).unwrap();
+    std::mem::forget(writer.list_writer().unwrap());
+    assert!(writer.finished().is_empty());
+    writer.write_bool(true).unwrap();
+    let (mut state, buf) = writer.into_parts();
+    assert_eq!(sys::close(state.as_mut_bytes(), buf).unwrap().size, 2);
+    assert_eq!(sys::finished(state.as_bytes(), buf)[4..], [0xB1, 0x11]);
+}
+
+#[test]
 fn annotations_need_not_outlive_the_opening() {
     let mut buf = [0xEE; 64];
     let mut writer = Writer::new(&mut buf).unwrap();

@@ -497,12 +497,20 @@ fn writer_refuses_as_the_entries_do() {
     let unfit = State::from_bytes([0xFF; STATE_SIZE]);
     let mut writer = Writer::resume(unfit.clone(), &mut buf);
     assert_eq!(writer.write_bool(true), Err(Refusal::StateUnfit));
+    assert!(writer.list_writer().is_err());
+    assert!(writer.finished().is_empty());
+    assert_eq!(writer.state(), &unfit);
+}
+
+#[test]
+fn calls_of_the_stream_refuse_an_unfit_state() {
+    let mut buf = [0xEE; 10];
+    let unfit = State::from_bytes([0xFF; STATE_SIZE]);
+    let mut writer = Writer::resume(unfit.clone(), &mut buf);
     assert_eq!(writer.empty(), Err(Refusal::StateUnfit));
     assert_eq!(writer.write_version_marker(), Err(Refusal::StateUnfit));
     assert_eq!(writer.close_innermost(), Err(Refusal::StateUnfit));
     assert_eq!(writer.abandon_innermost(), Err(Refusal::StateUnfit));
-    assert!(writer.list_writer().is_err());
-    assert!(writer.finished().is_empty());
     assert_eq!(writer.state(), &unfit);
 }
 

@@ -91,11 +91,7 @@ impl Tally {
 
     fn same<T: PartialEq + Debug>(&mut self, what: &'static str, ours: Result<T, crate::Odd>, model: T) -> Result<(), String> {
         *self.compared.entry(what).or_default() += 1;
-        match ours {
-            Ok(ours) if ours == model => Ok(()),
-            Ok(ours) => Err(format!("{what}\n  ours  {ours:?}\n  model {model:?}")),
-            Err(odd) => Err(format!("{what}\n  ours  {odd}\n  model {model:?}")),
-        }
+        same(what, ours, model)
     }
 
     /// The items from a place on, by their parts, and the rest from there.
@@ -130,6 +126,14 @@ impl Tally {
     }
 }
 
+fn same<T: PartialEq + Debug>(what: &str, ours: Result<T, crate::Odd>, model: T) -> Result<(), String> {
+    match ours {
+        Ok(ours) if ours == model => Ok(()),
+        Ok(ours) => Err(format!("{what}\n  ours  {ours:?}\n  model {model:?}")),
+        Err(odd) => Err(format!("{what}\n  ours  {odd}\n  model {model:?}")),
+    }
+}
+
 #[cfg(test)]
 mod tests {
     use super::*;
@@ -138,11 +142,16 @@ mod tests {
     fn what_differs_is_counted() {
         let mut tally = Tally::default();
         for (ours, model, differences) in [(Ok(1), 1, 0), (Ok(1), 2, 1), (Err("odd".into()), 1, 2)] {
-            tally.hold(b"", 0, |tally| tally.same("number", ours, model));
+            tally.count(b"", 0, same("number", ours, model));
             assert_eq!(tally.differences, differences);
         }
-        for _ in 0..PRINTED {
-            tally.count(b"", 0, Err("odd".into()));
+    }
+
+    #[test]
+    fn what_differs_is_counted_beyond_what_is_printed() {
+        let mut tally = Tally::default();
+        for _ in 0..PRINTED + 2 {
+            tally.hold(b"", 0, |tally| tally.same("number", Ok(1), 2));
         }
         assert_eq!(tally.differences, PRINTED + 2);
     }

@@ -6,15 +6,10 @@
 //! their number in hex, or nothing, and the word `out-of-calendar` behind one that is; `s` symbol; `u` string, `c` clob and `o` blob, their bytes in hex. Magnitudes and coefficients
 //! are without leading zero bytes. A name stands before its value with `=`, each annotation with `::`. The last word is how the walk
 //! ended: `whole`, or `!`, the number, `@` and the place.
-//!
-//! An answer of the program `reads` is a walk and, each behind `; `: `rest` and how the stream is said to end from the position on by
-//! `gm_read_rest`; `top` and how by `stream_reader::read_rest`; `passed` and how many items `stream_reader::next_item` passes, containers not
-//! entered, up to the first that does not read, and how the stream is said to end behind them by `stream_reader::read_rest`.
 
 use std::fmt::{self, Display, Formatter, Write};
 
-use super::walk::top_level;
-use super::{walk, Container, Ending, Event, Float, Fraction, Scalar, Timestamp};
+use super::{Container, Ending, Event, Float, Fraction, Scalar, Timestamp};
 use crate::value::{Signed, Type};
 
 pub fn line(events: &[Event], ending: Ending) -> String {
@@ -24,13 +19,6 @@ pub fn line(events: &[Event], ending: Ending) -> String {
     }
     write!(line, "{ending}").expect("a string takes all");
     line
-}
-
-/// What `reads` answers of a stream and a position.
-pub fn answer(stream: &[u8], position: usize) -> String {
-    let (events, ending) = walk(stream, position);
-    let (passed, behind) = top_level(stream, position);
-    format!("{}; rest {ending}; top {ending}; passed {passed} {behind}", line(&events, ending))
 }
 
 impl Display for Event {

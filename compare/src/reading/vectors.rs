@@ -1,6 +1,7 @@
 //! Streams for a program that replays them: by rule, with the position that is read from.
 
 use super::text::{self, Hex};
+use super::walk;
 
 /// One rule: what it says, and streams in hex that meet it, `@` and a position behind those that are not read from 0.
 struct Rule {
@@ -245,8 +246,9 @@ pub fn lines() -> Vec<String> {
 }
 
 pub fn line(stream: &[u8], position: usize) -> String {
+    let (events, ending) = walk(stream, position);
     let hex = if stream.is_empty() { "-".to_string() } else { Hex(stream).to_string() };
-    format!("{hex} {position} {}", text::answer(stream, position))
+    format!("{hex} {position} {}", text::line(&events, ending))
 }
 
 /// Bytes by their hex digits; spaces between them do not count.

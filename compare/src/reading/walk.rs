@@ -44,21 +44,6 @@ pub fn rest(stream: &[u8], place: Place) -> (Vec<Event>, Ending) {
     (events, ending)
 }
 
-/// The items of the stream itself from a position on, containers not entered: how many are passed up to the first that does not read, and
-/// how it ends there.
-pub fn top_level(stream: &[u8], position: usize) -> (usize, Ending) {
-    let mut place = Place::in_stream(stream, position);
-    let mut passed = 0;
-    loop {
-        match item(stream, place) {
-            Ok(Some(found)) => place.position = found.body.end,
-            Ok(None) => return (passed, Ending::Whole),
-            Err(refusal) => return (passed, Ending::Refused { refusal, place: place.position }),
-        }
-        passed += 1;
-    }
-}
-
 fn walk_from(stream: &[u8], mut place: Place, events: &mut Vec<Event>) -> Result<(), (Refusal, usize)> {
     while let Some(found) = item(stream, place).map_err(|refusal| (refusal, place.position))? {
         place.position = found.body.end;

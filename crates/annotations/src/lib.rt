@@ -93,7 +93,7 @@ fn sids_size(annotations: &[u8]) -> usize
 }
 
 // The sum of the sids' lengths, and the bytes that the annotations take: the sum as a VarUInt, then the sids.
-#[derive(Drop)]
+#[derive(Clone, Copy)]
 struct Sizes {
     sum: usize,
     whole: usize,

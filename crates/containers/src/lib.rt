@@ -13,7 +13,7 @@ use annotations::WRAPPER;
 const RESERVE: usize = 2;
 
 // What a close answers: the used length on return, and how many bytes moved.
-#[derive(Drop)]
+#[derive(Clone, Copy)]
 pub struct Closing {
     pub used: usize,
     pub moved: usize,

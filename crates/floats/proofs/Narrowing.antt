@@ -11,7 +11,7 @@ use borrow.Author.Tests.{leb-true, leb-false, eqb-true, eqb-false, ne_eqb}
 use lib.Count.{count_trailing_zeros}
 use lib.Dec.{T, lit<, lit≤, leb, ltb, eqb, leb→le, ltb→lt}
 use lib.IntN.{ℤ, pos, negsuc}
-use lib.Pow.{pow_pos, pow-add, pow_mono, pow-lt, shl_lt, shl-shr, shr_lt}
+use lib.Pow.{pow_pos, pow-add, pow_mono, shl_lt, shl-shr, shr_lt}
 use lib.Ieee.{Float, nan, inf, fin, binary32, binary64, up, down, odd, is_nan, top, of_fields, of_bits, to_bits}
 use lib.Ieee.{fits as holds}
 use lib.Ieee.Bits.{is_true}

@@ -36,7 +36,7 @@ const GREATEST: u64 = 1150;
 const MORE_DIGITS: u64 = 29;
 
 // Whether binary32 holds the value of an f64 exactly, and its bits there.
-#[derive(Drop)]
+#[derive(Clone, Copy)]
 pub enum Narrowed {
     Exact(u32),
     No,

@@ -5,26 +5,25 @@ use Prim.Native.Nat.{ℕ, suc, ◌+◌}
 use native.Mathlib.Omega.{arith}
 use native.Mathlib.Nat.{add-zero, zero-add}
 use mathlib.Core.Path.{◌≡◌, refl, sym, ◌∙◌, ap}
-use mathlib.Core.Bool.{true≢false, false≢true}
+use mathlib.Core.Bool.{false≢true}
 use mathlib.Core.List.{List, [], ◌∷◌, ◌++◌, append_assoc, append-nil}
 use mathlib.Core.Option.{Option, none, some}
 use lib.ListN.{length, length-append}
 use Rattle.ion.specs.Value.{Tree, scalar, sequence, struct, Members, no_members, member, Fields, no_fields, field, Item, marker, value}
 use Rattle.ion.proofs.Maps.{map_tree, map_members, map_fields, map_items}
-use Rattle.encoding.specs.Argument.{Argument, argument_bytes, argument_checks, meaning}
+use Rattle.encoding.specs.Argument.{Argument, argument_checks, meaning}
 use Rattle.encoding.proofs.Writable.{NoneHolds}
-use Rattle.machine.specs.declared.Container.{Container}
 use Rattle.machine.specs.Call.{ContainerType, sequence_type, struct_type, Call, write, name, opening, closing, abandonment, version_marker, taking, emptying}
 use Rattle.machine.specs.Machine.{Config, open_containers, is_open, outer, live, lacks_name, innermost_members, rule_of, checks, effect, Verdict}
 use Rattle.machine.specs.Machine.{accepted, refused, verdict, is_accepted, figures_if, after, run, started}
 use Rattle.machine.specs.Model.{Open, open_sequence, open_struct, Model, opened, set_aside, closed, add_member, add_field, add, close, abandon}
 use Rattle.machine.specs.Model.{spell, model_step, started_model}
-use Rattle.machine.specs.Demands.{flushed, joined, model_after, spelled, written}
+use Rattle.machine.specs.Demands.{flushed, model_after, written}
 use Rattle.machine.specs.Counts.{how_many, how_many_pairs, Counted, tree_counts, members_counts, fields_counts, counts_from, counts, Answers}
 use Rattle.machine.specs.Counts.{next_place, answers_with, answers_closed, answers_abandoned, answers_accepted, answers_step, answers_after}
 use Rattle.machine.specs.Counts.{MembersAnswered}
 use Rattle.machine.proofs.Invariant.{is_some, inside_struct, NamesAside, members_of, containers_of, outside}
-use Rattle.machine.proofs.Steps.{none_failing, Passed, passed, Invariant, can}
+use Rattle.machine.proofs.Steps.{none_failing, passed, Invariant, can}
 use Rattle.machine.proofs.Meaning.{spelled_is}
 use Rattle.machine.proofs.Demands.{step_arguments, call_keeps, start_keeps, demand3}
 

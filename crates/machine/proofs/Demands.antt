@@ -16,7 +16,7 @@ use Rattle.encoding.proofs.Writable.{WritableItems}
 use Rattle.encoding.proofs.Stream.{stream_bytes-reads}
 use Rattle.machine.specs.Call.{Call, TypedCall, AllTyped}
 use Rattle.machine.specs.Machine.{Config, open_containers, is_open, rule_of, effect, longest_buffer, checks, Verdict, accepted, refused, verdict}
-use Rattle.machine.specs.Machine.{is_accepted, if_accepted, after, start_lines, start_verdict, started, splice, taken}
+use Rattle.machine.specs.Machine.{is_accepted, if_accepted, after, start_lines, start_verdict, started, splice}
 use Rattle.machine.specs.Model.{Open, Model, model_step, started_model}
 use Rattle.machine.specs.Demands.{part_of, flushed, joined, model_after, spelled, written, Demand2, Demand3}
 use Rattle.machine.proofs.Invariant.{containers_of, WritableOf}

@@ -16,7 +16,7 @@ use Rattle.encoding.specs.Stream.{tree_bytes, members_bytes, fields_bytes}
 use Rattle.encoding.proofs.Least.{tree_some, annotation_least}
 use Rattle.machine.specs.Call.{ContainerType, sequence_type, struct_type, Call}
 use Rattle.machine.specs.Machine.{Config, open_containers, in_struct, container_code, reserve, header_place, container_fits, containers_fit, fits}
-use Rattle.machine.specs.Machine.{most_open, accepted, start_verdict, started, after}
+use Rattle.machine.specs.Machine.{most_open, started, after}
 use Rattle.machine.specs.Model.{Open, open_sequence, open_struct, Model, set_aside, started_model}
 use Rattle.machine.specs.Counts.{how_many, how_many_pairs, after_all, OwnStatesFit}
 use Rattle.machine.specs.Demands.{flushed}

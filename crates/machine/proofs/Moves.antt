@@ -5,7 +5,7 @@ use Prim.Native.Nat.{ℕ, zero, suc, ◌+◌, ◌-◌, ◌*◌, ◌≤◌}
 use native.Mathlib.Omega.{arith}
 use native.Mathlib.Nat.{suc-mul, mul-add, mul-le-mul_left}
 use mathlib.Core.Path.{◌≡◌, refl, sym, ◌∙◌, ap, ap₂}
-use mathlib.Core.Bool.{Bool, true, false, true≢false, false≢true, not, ◌&&◌, ◌||◌, and-true}
+use mathlib.Core.Bool.{true, false, true≢false, false≢true, not, ◌&&◌, ◌||◌, and-true}
 use mathlib.Core.List.{List, [], ◌∷◌, ◌++◌}
 use lib.Dec.{leb, eqb}
 use lib.ListN.{length, take, drop, length-append, length-drop, length-take}
@@ -14,7 +14,7 @@ use borrow.Author.Tests.{leb-false, eqb-true, eqb-false, eq-eqb, ne_eqb, not-tru
 use Rattle.ion.specs.Value.{annotation_code}
 use Rattle.ion.proofs.Tests.{by_cases, both}
 use Rattle.encoding.specs.Headers.{type_byte, header_bytes, framed_bytes}
-use Rattle.encoding.specs.Argument.{Argument, argument_checks}
+use Rattle.encoding.specs.Argument.{Argument}
 use Rattle.encoding.proofs.Writable.{NoneHolds}
 use Rattle.encoding.proofs.Headers.{framed_longer}
 use Rattle.machine.specs.declared.Container.{Container}
@@ -22,15 +22,15 @@ use Rattle.machine.specs.Call.{Call, write, name, opening, closing, abandonment,
 use Rattle.machine.specs.Machine.{Config, most_open, innermost_first, open_containers, is_open, outer, closed_bytes, closed_innermost, length_if_moved}
 use Rattle.machine.specs.Machine.{moved_bytes, innermost_moved, innermost_start, live, effect, container_fits, containers_fit, lacks_name, rule_of}
 use Rattle.machine.specs.Machine.{checks, Verdict, accepted, refused, verdict, is_accepted, if_accepted, figures_if, after, run, started}
-use Rattle.machine.specs.Model.{Model, model_step, started_model}
+use Rattle.machine.specs.Model.{Model, started_model}
 use Rattle.machine.specs.Demands.{part_of, flushed, joined, model_after}
 use Rattle.machine.specs.Moves.{moved_sum, is_abandonment, nothing_abandoned, MovedAtMost}
 use Rattle.machine.proofs.Invariant.{or_false, container_at}
 use Rattle.machine.proofs.Splice.{counted_first, opened_containers, counted_containers, closed_containers}
-use Rattle.machine.proofs.Steps.{none_failing, Passed, passed, Invariant, length-live, taken_live}
+use Rattle.machine.proofs.Steps.{none_failing, passed, Invariant, length-live, taken_live}
 use Rattle.machine.proofs.Meaning.{stack_is}
 use Rattle.machine.proofs.Demands.{step_arguments, call_keeps, none_left, start_keeps}
-use Rattle.machine.proofs.Fit.{Fit, fit}
+use Rattle.machine.proofs.Fit.{fit}
 use Rattle.machine.proofs.Fitting.{invariant_chain}
 
 -- ---- one closing

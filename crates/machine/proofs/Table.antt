@@ -19,7 +19,6 @@ use Rattle.encoding.specs.Timestamp.{is_timestamp}
 use Rattle.encoding.specs.Headers.{annotated_bytes}
 use Rattle.encoding.specs.Argument.{Argument, write_null, write_bool, write_i64, write_int, write_f32, write_f64, write_decimal, write_timestamp, write_symbol}
 use Rattle.encoding.specs.Argument.{write_string, write_clob, write_blob, argument_bytes, argument_checks}
-use Rattle.machine.specs.declared.Refusal.{Refusal}
 use Rattle.machine.specs.declared.Refusal.TheVariants.{BufferTooLong, StateUnfit, Misplaced, TooDeep, NegativeZero}
 use Rattle.machine.specs.declared.Refusal.TheVariants.{NotUtf8, BadTimestamp, DecimalTooLong, NoRoom}
 use Rattle.machine.specs.Call.{Call, sequence_type, write, name, opening, closing, abandonment, version_marker, taking, emptying}

@@ -19,7 +19,7 @@ pub const MARKER: [u8; 4] = [0xE0, 0x01, 0x00, 0xEA];
 // An open container: where it starts, where the reserve of its header lies, its type code (B0 for a list, C0 for an s-expression, D0 for a struct),
 // and how many direct members it has; a struct counts its name and value pairs.
 // Without annotations the header lies at the start; with them it lies behind the wrapper's reserve and the annotations.
-#[derive(Drop)]
+#[derive(Clone, Copy)]
 pub struct Container {
     pub start: usize,
     pub header: usize,
@@ -29,7 +29,7 @@ pub struct Container {
 
 // The used length of the lent buffer, how many containers are open, whether a field name waits for its value, and the containers, outermost first.
 // The records from `depth` on mean nothing.
-#[derive(Drop)]
+#[derive(Clone, Copy)]
 pub struct State {
     pub used: usize,
     pub depth: usize,
@@ -38,7 +38,7 @@ pub struct State {
 }
 
 // Why a call is refused: the lines of the table "Checks by place". The definition `number` gives each its number.
-#[derive(Drop)]
+#[derive(Clone, Copy)]
 pub enum Refusal {
     BufferTooLong,
     StateUnfit,
@@ -51,14 +51,14 @@ pub enum Refusal {
     NoRoom,
 }
 
-#[derive(Drop)]
+#[derive(Clone, Copy)]
 pub enum Answer {
     Accepted,
     Refused(Refusal),
 }
 
 // What a call answers: whether it is accepted, and the state to hand to the next call.
-#[derive(Drop)]
+#[derive(Clone, Copy)]
 pub struct Written {
     pub answer: Answer,
     pub state: State,
@@ -66,7 +66,7 @@ pub struct Written {
 
 // What a closing answers: the same, how many bytes the closed container takes, headers and annotations counted, how many members it has,
 // and how many bytes moved: the body's, if the body moved, and the annotations', if these moved. All three are 0 where it is refused.
-#[derive(Drop)]
+#[derive(Clone, Copy)]
 pub struct Closed {
     pub answer: Answer,
     pub state: State,

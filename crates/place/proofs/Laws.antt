@@ -9,7 +9,7 @@ use mathlib.Core.List.{List, [], ◌∷◌}
 use lib.Dec.{leb, eqb, eqb-suc-zero}
 use lib.ListN.{get_or}
 use borrow.Author.Tests.{leb-true, eqb-true, le-leb, lt-leb, eq-eqb}
-use Rattle.ion.proofs.Tests.{by_cases, both}
+use Rattle.ion.proofs.Tests.{both}
 use Rattle.machine.specs.declared.Container.{Container}
 use Rattle.machine.specs.declared.State.{State}
 use Rattle.machine.specs.Machine.{most_open, no_container, innermost_first, open_containers, is_open, in_struct, container_fits, containers_fit, fits}

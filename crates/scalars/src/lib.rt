@@ -8,7 +8,7 @@ ghost use Rattle.encoding.specs.Argument.{code_of_null, code_of_sign, checked_by
 ghost use Rattle.buffer.specs.Laid.{placed};
 ghost use Rattle.scalars.specs.Types.{type_of, scalar_argument};
 
-#[derive(Drop)]
+#[derive(Clone, Copy)]
 pub enum IonType {
     Null,
     Bool,
@@ -26,7 +26,7 @@ pub enum IonType {
 }
 
 // The scalars that no check refuses. Floats are given by their value or by their bits.
-#[derive(Drop)]
+#[derive(Clone, Copy)]
 pub enum Scalar {
     Null(IonType),
     Bool(bool),

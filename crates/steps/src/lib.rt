@@ -14,7 +14,7 @@ use decimal::MAX_BODY;
 use machine::{Answer, Container, LIST, MOST_OPEN, Refusal, SEXP, STRUCT, State, Written};
 use timestamp::Timestamp;
 
-#[derive(Drop)]
+#[derive(Clone, Copy)]
 pub enum ContainerType {
     List,
     Sexp,

@@ -2,12 +2,9 @@
 -- By what each write puts behind those before it. Assumes nothing.
 use Prim.Native.Nat.{ℕ, ◌+◌, ◌-◌, ◌%◌, ◌≤◌, ◌<◌}
 use native.Mathlib.Omega.{arith}
-use mathlib.Core.Path.{◌≡◌, refl, sym, ◌∙◌, ap}
-use mathlib.Core.List.{List, [], ◌∷◌, ◌++◌, append_assoc, append-nil}
+use mathlib.Core.Path.{◌≡◌, refl, ◌∙◌}
+use mathlib.Core.List.{List, [], ◌∷◌, ◌++◌, append-nil}
 use lib.ListN.{length}
-use types.Run.{OneOf, miss}
-use denote.Enum.Declared.{tag_of}
-use Rattle.timestamp.specs.contracts.Precision.{the_type}
 use Rattle.encoding.specs.Fields.{var_uint_bytes, var_uints_bytes, AllBelow}
 use Rattle.buffer.specs.Laid.{placed}
 use Rattle.buffer.proofs.Laid.{placed_then, placed_count, placed-length}
@@ -75,10 +72,9 @@ module _ (b : List ℕ) (at y : ℕ) where
       rw (g, var_uints_snoc (y ∷ ns) (n % 128)) (placed_then b at xs k l e ys r l' (omega arith) (rw (← q) e'))
 
 -- no other precision is left
-pub only_second : (p : Precision) → OneOf (1 ∷ 2 ∷ 3 ∷ 4 ∷ []) (tag_of the_type p) → OneOf (0 ∷ 2 ∷ 3 ∷ 4 ∷ []) (tag_of the_type p) →
-    OneOf (0 ∷ 1 ∷ 3 ∷ 4 ∷ []) (tag_of the_type p) → OneOf (0 ∷ 1 ∷ 2 ∷ 4 ∷ []) (tag_of the_type p) → p ≡ Second
-only_second Year a b c d = absurd (miss (1 ∷ 2 ∷ 3 ∷ 4 ∷ []) 0 tt a)
-only_second Month a b c d = absurd (miss (0 ∷ 2 ∷ 3 ∷ 4 ∷ []) 1 tt b)
-only_second Day a b c d = absurd (miss (0 ∷ 1 ∷ 3 ∷ 4 ∷ []) 2 tt c)
-only_second Minute a b c d = absurd (miss (0 ∷ 1 ∷ 2 ∷ 4 ∷ []) 3 tt d)
+pub only_second : (p : Precision) → (p ≡ Year → ⊥) → (p ≡ Month → ⊥) → (p ≡ Day → ⊥) → (p ≡ Minute → ⊥) → p ≡ Second
+only_second Year a b c d = absurd (a refl)
+only_second Month a b c d = absurd (b refl)
+only_second Day a b c d = absurd (c refl)
+only_second Minute a b c d = absurd (d refl)
 only_second Second a b c d = refl

@@ -1,6 +1,6 @@
 -- The UTC fields of a timestamp that keeps the local rules of check 7 are small, and they are those that its body has.
 -- By the fields of the grammar, which they are. Assumes nothing.
-use Prim.Native.Nat.{ℕ, ◌≤◌, ◌<◌}
+use Prim.Native.Nat.{ℕ, ◌<◌}
 use native.Mathlib.Omega.{arith}
 use mathlib.Core.Path.{◌≡◌, refl}
 use mathlib.Core.Bool.{true}

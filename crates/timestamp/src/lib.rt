@@ -11,7 +11,7 @@ ghost use Rattle.timestamp.specs.Utc.{date_of, with_fields};
 ghost use Rattle.timestamp.specs.Small.{SmallOffset, SmallFields, SmallFraction, Small, body_of, value_of};
 
 // The last field that counts; those below it mean nothing. With a minute there is an hour.
-#[derive(Drop)]
+#[derive(Clone, Copy)]
 pub enum Precision {
     Year,
     Month,
@@ -21,21 +21,21 @@ pub enum Precision {
 }
 
 // Local time minus UTC.
-#[derive(Drop)]
+#[derive(Clone, Copy)]
 pub enum Offset {
     Unknown,
     Minutes(i32),
 }
 
 // Behind the seconds: how many digits there are, and the number that they make.
-#[derive(Drop)]
+#[derive(Clone, Copy)]
 pub enum Fraction {
     None,
     Digits(u32, u64),
 }
 
 // The fields are local.
-#[derive(Drop)]
+#[derive(Clone, Copy)]
 pub struct Timestamp {
     pub precision: Precision,
     pub year: u32,
@@ -165,7 +165,7 @@ fn is_local(t: Timestamp) -> bool
 // ---- UTC: local minus offset
 
 // Year, month, day.
-#[derive(Drop)]
+#[derive(Clone, Copy)]
 struct Date(u32, u32, u32);
 
 // The minutes of a day.

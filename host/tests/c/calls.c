@@ -25,9 +25,6 @@ static uint8_t count_items(const uint8_t *stream, size_t length, size_t end, uin
         uint64_t kind = item[3];
         if (answer != GM_ACCEPTED || kind == GM_NOTHING)
             return answer;
-        /* an item has a byte at least; what does not end behind its place would be read for ever */
-        if (item[5] <= position)
-            return GM_NOT_ION;
         if (kind >= 0xB0 && kind < 0xDF && kind != 0xBF && kind != 0xCF) {
             answer = count_items(stream, length, item[5], (uint8_t)kind, depth + 1, item[4], items);
             if (answer != GM_ACCEPTED)

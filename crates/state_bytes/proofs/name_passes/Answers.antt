@@ -1,0 +1,32 @@
+-- `state_bytes::name_passes` meets its contract: line 3 asks for the innermost container and the waiting name.
+-- Assumes nothing.
+use mathlib.Core.Path.{sym, ◌∙◌}
+use mathlib.Core.Bool.{not, ◌||◌}
+use borrow.Author.Tests.{not-true, not-false}
+use Rattle.machine.specs.Machine.{open_containers, in_struct}
+use Rattle.state_bytes.specs.StateBytes.{state_of}
+use Rattle.state_bytes.proofs.Laws.{readable_depth, unreadable, passes_by}
+use Rattle.state_bytes.proofs.name_passes.Goals as goal
+
+pub returns-then-not-readable : goal.returns-then-not-readable
+returns-then-not-readable c = let a = c.args in
+    let s = state_of a.st.now in
+    unreadable s a.room (not (in_struct (open_containers s)) || s.waiting) (sym c.readable.ensures ∙ not-true _ c.if-not-readable.true-raw)
+
+pub innermost_is_struct-inside-requires : goal.innermost_is_struct-inside-requires
+innermost_is_struct-inside-requires c = let a = c.args in
+    readable_depth a.st.now _ _ c.readable.ensures c.if-not-readable.false-raw c.depth-depth.ensures
+
+pub passes-requires : goal.passes-requires
+passes-requires c = let a = c.args in
+    readable_depth a.st.now _ _ c.readable.ensures c.if-not-readable.false-raw c.depth-depth.ensures
+
+pub returns : goal.returns
+returns c = let a = c.args in
+    let s = state_of a.st.now in
+    let d = c.depth-depth.ensures in
+    c.passes.ensures
+    ∙ rw (c.waiting-waits.ensures, d)
+    (passes_by s a.room (not (in_struct (open_containers s)) || s.waiting) _
+    (sym c.readable.ensures ∙ not-false _ c.if-not-readable.false-raw)
+    (λ u. rw (c.innermost_is_struct-inside.ensures u, d)))

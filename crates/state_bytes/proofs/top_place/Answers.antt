@@ -1,0 +1,10 @@
+-- `state_bytes::top_place` meets its contract: a container is open exactly if the depth is not zero.
+-- Assumes nothing.
+use mathlib.Core.Path.{◌∙◌}
+use Rattle.state_bytes.specs.StateBytes.{state_of}
+use Rattle.place.proofs.Laws.{open_of}
+use Rattle.state_bytes.proofs.top_place.Goals as goal
+
+pub returns : goal.returns
+returns c = let a = c.args in
+    c.judged.ensures ∙ (rw (c.depth-depth.ensures, open_of (state_of a.st.now).containers (state_of a.st.now).depth))

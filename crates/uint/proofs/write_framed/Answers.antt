@@ -1,0 +1,70 @@
+-- `uint::write_framed` meets its contract: a type byte alone, or a UInt and a store before it.
+-- By what a UInt leaves where it has no room, and where it has. Assumes nothing.
+use mathlib.Core.Path.{◌≡◌, sym, ◌∙◌, ap}
+use mathlib.Core.List.{List, [], ◌∷◌}
+use Prim.Native.Nat.{ℕ, ◌+◌, ◌*◌, ◌/◌, ◌^◌, ◌≤◌, ◌<◌}
+use native.Mathlib.Omega.{arith}
+use native.Mathlib.Nat.{add-zero}
+use lib.ListN.{length, set}
+use Rattle.encoding.specs.Fields.{uint_bytes}
+use Rattle.encoding.specs.Headers.{framed_bytes}
+use Rattle.encoding.proofs.Sizes.{uint-zero, uint_least, uint-most}
+use Rattle.encoding.proofs.Headers.{framed_short}
+use Rattle.buffer.specs.Laid.{placed}
+use Rattle.buffer.proofs.Laid.{laid_cons, placed_full, placed_by, placed-none, placed-some}
+use borrow.Author.Rules.{rules}
+use Rattle.uint.proofs.write_framed.Goals as goal
+
+module _ (code n : ℕ) (h : n < 2 ^ 64) where
+  framed : framed_bytes code (uint_bytes n) ≡ (code + length (uint_bytes n)) ∷ uint_bytes n
+  framed = framed_short code (uint_bytes n) (omega (arith, uint-most n h))
+  -- the type byte alone
+  alone : n ≡ 0 → code ∷ [] ≡ framed_bytes code (uint_bytes n)
+  alone z = rw (framed, uint-zero n z, add-zero)
+  module _ (b : List ℕ) (at : ℕ) where
+    -- no room for the whole
+    full : length b < at + (1 + length (uint_bytes n)) → ◌≡◌ {A = ℕ × List ℕ} (0, b) (placed b at (framed_bytes code (uint_bytes n)))
+    full k = sym (placed_full b at (framed_bytes code (uint_bytes n)) (omega (arith, ap length framed)))
+    -- what the UInt leaves
+    module _ (size : ℕ) (l : List ℕ) (e : ◌≡◌ {A = ℕ × List ℕ} (size, l) (placed b (at + 1) (uint_bytes n))) where
+      none : 0 < n → size ≡ 0 → ◌≡◌ {A = ℕ × List ℕ} (0, l) (placed b at (framed_bytes code (uint_bytes n)))
+      none p z = let q = placed-none b (at + 1) (uint_bytes n) size l e z (uint_least n p) in rw q.1 (full (omega (arith, q.0)))
+      before : (size ≡ 0 → ⊥) → ◌≡◌ {A = ℕ × List ℕ} (1 + size, set l at (code + size)) (placed b at (framed_bytes code (uint_bytes n)))
+      before some =
+          let q = placed-some b (at + 1) (uint_bytes n) size l e some in
+          rw (framed, q.2, q.1)
+          (placed_by b at _ (1 + length (uint_bytes n)) _ (omega (arith, q.0)) (omega arith)
+          (laid_cons b at (uint_bytes n) (code + length (uint_bytes n)) q.0))
+
+pub returns-then-value-eq0 : goal.returns-then-value-eq0
+returns-then-value-eq0 c = let a = c.args in
+    c.put.ensures ∙ ap (placed a.buf.now a.at) (alone (a.code / 16 * 16) a.value (search rules) (omega arith))
+
+pub returns-then-buf-at : goal.returns-then-buf-at
+returns-then-buf-at c = let a = c.args in full (a.code / 16 * 16) a.value (search rules) a.buf.now a.at (omega arith)
+
+pub returns-then-size-eq0 : goal.returns-then-size-eq0
+returns-then-size-eq0 c = let a = c.args in
+    none (a.code / 16 * 16) a.value (search rules) a.buf.now a.at _ _ c.write-size.ensures (omega arith) c.if-size-eq0.true
+
+pub overflow_cast-buf : goal.overflow_cast-buf
+overflow_cast-buf c =
+    let size_most : c.write-size.result ≤ 8 = let a = c.args in
+    omega (arith, uint-most a.value (search rules), (placed-some a.buf.now (a.at + 1) (uint_bytes a.value) _ _ c.write-size.ensures c.if-size-eq0.false).1) in
+    omega (arith, size_most)
+
+pub overflow_add-buf : goal.overflow_add-buf
+overflow_add-buf c =
+    let size_most : c.write-size.result ≤ 8 = let a = c.args in
+    omega (arith, uint-most a.value (search rules), (placed-some a.buf.now (a.at + 1) (uint_bytes a.value) _ _ c.write-size.ensures c.if-size-eq0.false).1) in
+    omega (arith, size_most)
+
+pub overflow_add-result : goal.overflow_add-result
+overflow_add-result c =
+    let size_most : c.write-size.result ≤ 8 = let a = c.args in
+    omega (arith, uint-most a.value (search rules), (placed-some a.buf.now (a.at + 1) (uint_bytes a.value) _ _ c.write-size.ensures c.if-size-eq0.false).1) in
+    omega (arith, size_most)
+
+pub returns : goal.returns
+returns c = let a = c.args in
+    before (a.code / 16 * 16) a.value (search rules) a.buf.now a.at _ _ c.write-size.ensures c.if-size-eq0.false
