@@ -10,25 +10,26 @@
 //   bytes FROM HEX                           the bytes from FROM on
 //   all FROM TO HEX                          the byte at each place from FROM to before TO
 // Where a call's words name none, `no call` is printed.
+#![tactic(auto)]
+
 mod writes;
 
 ghost use Rattle.std.specs.Prelude.{◌≡◌, ◌≤◌, length};
 
-use libc::{STDIN_FILENO, STDOUT_FILENO};
 use machine::{Answer, Closed, Container, Refusal, State};
+use std::io;
 use words::{least, word};
 
 const MOST_U64: u64 = 18446744073709551615;
 
+// As many bytes of input are too many.
+const MOST_TEXT: usize = 65536;
+
 // What the buffer holds before a list.
 const FILL: u8 = 0xEE;
 
-fn print(text: &[u8]) {
-    io::write_all(STDOUT_FILENO, text);
-}
-
 // The numbers behind the first word of a line.
-#[derive(Drop)]
+#[derive(Clone, Copy)]
 struct Numbers {
     first: usize,
     second: usize,
@@ -129,7 +130,7 @@ fn has_bytes(at: usize, word: &[u8], buf: &[u8]) -> bool {
     let count = words::hex::bytes(word, &mut bytes);
     let from = least(at, buf.len());
     let to = from + least(count, buf.len() - from);
-    check::same(&bytes[0..count], &buf[from..to])
+    &bytes[0..count] == &buf[from..to]
 }
 
 // The numbers of document 01, and 0 for what is accepted.
@@ -150,36 +151,31 @@ fn number(answer: Answer) -> usize {
     }
 }
 
-fn print_number(n: usize) {
-    io::print_decimal(STDOUT_FILENO, n as u64);
-    print(b" ");
-}
-
 // What a call answered and left, and what it answered of a container.
-fn print_got(got: Closed) {
-    let answer = got.answer;
+fn print_got(rt: &impl Print, got: Closed) -> io::Result<()> {
     let state = got.state;
-    print(b"got ");
-    print_number(number(answer));
-    print_number(state.used);
-    print_number(state.depth);
-    print_number(state.waiting as usize);
-    print_number(got.size);
-    print_number(got.members);
-    print_number(got.moved);
+    print!(rt;
+        "got {} {} {} {} {} {} {} ",
+        number(got.answer),
+        state.used,
+        state.depth,
+        state.waiting as usize,
+        got.size,
+        got.members,
+        got.moved
+    )
 }
 
-fn report(is_right: bool) {
+fn report(rt: &impl Print, is_right: bool) -> io::Result<()> {
     if is_right {
-        print(b"ok\n");
-        return;
+        return println!(rt; "ok");
     }
-    print(b"differs\n");
+    println!(rt; "differs")
 }
 
 // Whether a closing answered the numbers of the container that stand behind its name.
 fn has_numbers(call: &[u8], got: Closed) -> bool {
-    if !check::same(word(call, 0), b"close") {
+    if word(call, 0) != b"close".as_slice() {
         return true;
     }
     (got.size == size(word(call, 1)))
@@ -187,7 +183,7 @@ fn has_numbers(call: &[u8], got: Closed) -> bool {
         & (got.moved == size(word(call, 3)))
 }
 
-fn compare_call(line: &[u8], got: Closed) {
+fn compare_call(rt: &impl Print, line: &[u8], got: Closed) -> io::Result<()> {
     let n = read(line);
     let answer = got.answer;
     let state = got.state;
@@ -197,21 +193,21 @@ fn compare_call(line: &[u8], got: Closed) {
         & (state.waiting == (n.fourth == 1))
         & has_numbers(words::from_word(line, 5), got);
     if !is_right {
-        print_got(got);
+        print_got(rt, got)?;
     }
-    report(is_right);
+    report(rt, is_right)
 }
 
-fn call(line: &[u8], state: State, buf: &mut [u8]) -> State {
+fn call(rt: &impl Print, line: &[u8], state: State, buf: &mut [u8]) -> io::Result<State> {
     let named = words::from_word(line, 5);
     if !writes::is_call(named) {
-        print(b"no call\n");
-        return state;
+        println!(rt; "no call")?;
+        return Ok(state);
     }
     let room = least(size(word(line, 0)), buf.len());
     let got = writes::write(named, state, &mut buf[0..room]);
-    compare_call(line, got);
-    got.state
+    compare_call(rt, line, got)?;
+    Ok(got.state)
 }
 
 // The lines that are no call, by the index of their first words, of which the first is that of an empty line.
@@ -242,22 +238,22 @@ fn is_as_said(form: usize, line: &[u8], state: State, buf: &[u8]) -> bool {
 }
 
 // The state behind a line.
-fn step(line: &[u8], state: State, buf: &mut [u8]) -> State {
+fn step(rt: &impl Print, line: &[u8], state: State, buf: &mut [u8]) -> io::Result<State> {
     let form = words::index(b" fresh set record open take all bytes", word(line, 0));
     match form {
-        NOTHING => state,
-        FRESH => fresh(buf),
-        SET => set(read(line), state),
-        RECORD => with_record(read(line), hex_code(word(line, 4)), state),
+        NOTHING => Ok(state),
+        FRESH => Ok(fresh(buf)),
+        SET => Ok(set(read(line), state)),
+        RECORD => Ok(with_record(read(line), hex_code(word(line, 4)), state)),
         OPEN | TAKE | ALL | BYTES => {
-            report(is_as_said(form, line, state, buf));
-            state
+            report(rt, is_as_said(form, line, state, buf))?;
+            Ok(state)
         }
-        _ => call(line, state, buf),
+        _ => call(rt, line, state, buf),
     }
 }
 
-fn run_lines(text: &[u8], buf: &mut [u8])
+fn run_lines(rt: &impl Print, text: &[u8], buf: &mut [u8]) -> io::Result<()>
     requires { length text.now ≤ 65536 }
 {
     let mut state = fresh(buf);
@@ -265,9 +261,10 @@ fn run_lines(text: &[u8], buf: &mut [u8])
     while at < text.len() {
         let end = words::find(text, at, b'\n');
         let stop = least(words::find(text, at, b'#'), end);
-        state = step(&text[at..stop], state, buf);
+        state = step(rt, &text[at..stop], state, buf)?;
         at = end + 1;
     }
+    Ok(())
 }
 
 // The `ensures` gives the length, which lending the array as a slice needs.
@@ -277,14 +274,13 @@ fn longest_buffer() -> [u8; 2200000]
     [FILL; 2200000]
 }
 
-fn main() {
-    let mut text = io::large_buffer();
-    let n = io::read_full(STDIN_FILENO, &mut text);
-    if n == 65536 {
-        print(b"more than is read\n");
-        return;
+fn main(rt: HostRuntime) -> io::Result<()> {
+    let mut text = [0u8; MOST_TEXT];
+    let n = words::input::read_full(&mut rt.stdin(), &mut text)?;
+    if n == MOST_TEXT {
+        return println!(rt; "more than is read");
     }
     let mut buf = longest_buffer();
-    run_lines(&text[..n], &mut buf);
-    print(b"end\n");
+    run_lines(&rt, &text[..n], &mut buf)?;
+    println!(rt; "end")
 }

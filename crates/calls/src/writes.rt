@@ -70,7 +70,7 @@ const BLOB: usize = 22;
 const NO_CALL: usize = 23;
 
 fn is_annotated(call: &[u8]) -> bool {
-    check::same(word(call, 0), b"ann")
+    word(call, 0) == b"ann".as_slice()
 }
 
 // Puts the bytes of a call's sids, and answers their number.
@@ -169,7 +169,7 @@ fn read(call: &[u8]) -> Arguments {
     let first = word(call, 1);
     let bits = hex::bits(first);
     Arguments {
-        negative: check::same(first, b"neg"),
+        negative: first == b"neg".as_slice(),
         number: numbers::natural(first, MOST_U64),
         signed: numbers::i64_of(first),
         exponent: numbers::i64_of(word(call, 3)),

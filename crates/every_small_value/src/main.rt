@@ -1,21 +1,21 @@
 // Prints every small value (document 02, Item 12) in lower-case hex, one a line, shorter first and then by bytes. With an argument, 1, 2 or 3, it prints
 // those of at most so many bytes.
-ghost use Rattle.std.specs.Prelude.{◌≡◌, [], ◌∷◌, ◌++◌, ◌+◌, ◌*◌, ◌≤◌, length};
+#![tactic(auto)]
+
+ghost use Rattle.std.specs.Prelude.{◌≡◌, [], ◌∷◌, ◌++◌, ◌+◌, ◌*◌, ◌≤◌, length, IfOk};
 ghost use Rattle.encoding.specs.Digits.{low_digits};
 ghost use Rattle.buffer.specs.Laid.{laid};
 ghost use Rattle.words.specs.Hex.{hex_text};
 
-use libc::{STDERR_FILENO, STDOUT_FILENO};
+use std::env::{Env, FillError};
+use std::io;
+use std::process::ExitCode;
+
+// How many bytes are printed at once, at most.
+const BLOCK: usize = 65536;
 
 // How many bytes may wait to be printed where a line, of at most six digits and a line feed, is put behind them.
 const MOST_WAITING: usize = 65529;
-
-// Whether bytes could be printed, and how many wait now.
-#[derive(Drop)]
-struct Printed {
-    all: bool,
-    waiting: usize,
-}
 
 // Puts the line of a string from `at` on. The result is where it ends.
 fn put_line(out: &mut [u8], at: usize, size: usize, number: u32) -> usize
@@ -29,62 +29,41 @@ fn put_line(out: &mut [u8], at: usize, size: usize, number: u32) -> usize
     end + 1
 }
 
-// Prints bytes, or says that they can't be printed, since a list that stops looks like a whole one.
-fn print(text: &[u8]) -> bool {
-    if io::write_all(STDOUT_FILENO, text) {
-        return true;
-    }
-    io::write_all(
-        STDERR_FILENO,
-        b"the list is not whole: it can't be written\n",
-    );
-    false
-}
-
-// Prints the bytes that wait, if they are too many.
-fn print_waiting(waiting: &[u8]) -> Printed
-    ensures { result.waiting ≤ 65529 }
+// Prints the bytes that wait, if they are too many. The result is how many wait then.
+fn print_waiting(rt: &impl Print, waiting: &[u8]) -> io::Result<usize>
+    ensures { IfOk result (λ n. n ≤ 65529) }
 {
     if waiting.len() <= MOST_WAITING {
-        return Printed {
-            all: true,
-            waiting: waiting.len(),
-        };
+        return Ok(waiting.len());
     }
-    Printed {
-        all: print(waiting),
-        waiting: 0,
-    }
+    rt.write_all(waiting)?;
+    Ok(0)
 }
 
 // Prints the lines of one size, or stops where they can't be printed.
-fn print_size(size: usize) -> bool
+fn print_size(rt: &impl Print, size: usize) -> io::Result<()>
     requires { size ≤ 3 }
 {
-    let mut out = io::large_buffer();
+    let mut out = [0u8; BLOCK];
     let mut used: usize = 0;
     let mut number = small_values::next(size, 0);
     while number < small_values::limit(size) {
-        let printed = print_waiting(&out[0..used]);
-        if !printed.all {
-            return false;
-        }
-        used = put_line(&mut out, printed.waiting, size, number);
+        used = print_waiting(rt, &out[0..used])?;
+        used = put_line(&mut out, used, size, number);
         number = small_values::next(size, number + 1);
     }
-    print(&out[0..used])
+    rt.write_all(&out[0..used])
 }
 
-fn print_sizes(most: usize)
+fn print_sizes(rt: &impl Print, most: usize) -> io::Result<()>
     requires { most ≤ 3 }
 {
     let mut size: usize = 1;
     while size <= most {
-        if !print_size(size) {
-            return;
-        }
+        print_size(rt, size)?;
         size += 1;
     }
+    Ok(())
 }
 
 // The number that a digit from 1 to 3 stands for, or 0 for any other byte.
@@ -100,24 +79,26 @@ fn small_digit(byte: u8) -> usize
 }
 
 // The most bytes that are asked for: three without an argument, 0 with one that is no number of bytes.
-fn most_bytes() -> usize
+fn most_bytes(rt: &impl Env) -> usize
     ensures { result ≤ 3 }
 {
-    if os::arg_count() < 2 {
-        return 3;
-    }
     let mut word = [0u8; 1];
-    os::arg(1, &mut word);
-    if os::errno() != 0 {
-        return 0;
+    match rt.arg(1, &mut word) {
+        Ok(_) => small_digit(word[0]),
+        Err(FillError::NotPresent) => 3,
+        Err(FillError::TooLong) => 0,
     }
-    small_digit(word[0])
 }
 
-fn main() {
-    let most = most_bytes();
+// A list that stops looks like a whole one, so it is said.
+fn main(rt: HostRuntime) -> ExitCode {
+    let most = most_bytes(&rt);
     if most == 0 {
-        io::write_all(STDERR_FILENO, b"the most bytes may be 1, 2 or 3\n");
+        let _ = eprintln!(rt; "the most bytes may be 1, 2 or 3");
     }
-    print_sizes(most);
+    if print_sizes(&rt, most).is_err() {
+        let _ = eprintln!(rt; "the list is not whole: it can't be written");
+        return ExitCode::FAILURE;
+    }
+    ExitCode::SUCCESS
 }

@@ -1,58 +1,60 @@
-// Walks streams of standard input through the reader's entry points, and their top level through `stream_reader`. A line: the stream in hex, or a
-// minus where it is empty, and the position that is read from. Its answer is in the words of compare/src/reading/text.rs. A line that begins with
+// Walks streams of standard input through the reader's entry points. A line: the stream in hex, or a minus where it is empty, and the position
+// that is read from. Its answer is what the walk shows and how it ended, in the words of compare/src/reading/text.rs. A line that begins with
 // `#` is its own answer.
-mod endings;
+#![tactic(auto)]
+
 mod numbers;
-mod top;
 mod values;
 mod walk;
 
 ghost use Rattle.std.specs.Prelude.{◌≤◌, length};
 
-use libc::STDIN_FILENO;
-use numbers::print;
+use std::io;
+
+// As many bytes of input are too many.
+const MOST_TEXT: usize = 65536;
 
 const LONGEST_STREAM: usize = 8192;
 
 const MOST_U64: u64 = 18446744073709551615;
 
-fn print_stream(line: &[u8]) {
+fn print_stream(rt: &impl Print, line: &[u8]) -> io::Result<()> {
     let hex = words::word(line, 0);
     if 2 * LONGEST_STREAM < hex.len() {
-        return print(b"longer than is read");
+        return print!(rt; "longer than is read");
     }
     let mut bytes = [0u8; LONGEST_STREAM];
     let n = words::hex::bytes(hex, &mut bytes);
     let position = words::numbers::natural(words::word(line, 1), MOST_U64);
-    walk::print_walk(&bytes[0..n], position as usize);
+    walk::print_walk(rt, &bytes[0..n], position as usize)
 }
 
-fn answer(line: &[u8]) {
+fn answer(rt: &impl Print, line: &[u8]) -> io::Result<()> {
     if words::byte_at(line, 0) == b'#' {
-        print(line);
+        rt.write_all(line)?;
     } else {
-        print_stream(line);
+        print_stream(rt, line)?;
     }
-    print(b"\n");
+    println!(rt)
 }
 
-fn answer_lines(text: &[u8])
+fn answer_lines(rt: &impl Print, text: &[u8]) -> io::Result<()>
     requires { length text.now ≤ 65536 }
 {
     let mut at: usize = 0;
     while at < text.len() {
         let end = words::find(text, at, b'\n');
-        answer(&text[at..end]);
+        answer(rt, &text[at..end])?;
         at = end + 1;
     }
+    Ok(())
 }
 
-fn main() {
-    let mut text = io::large_buffer();
-    let n = io::read_full(STDIN_FILENO, &mut text);
-    if n == 65536 {
-        print(b"more than is read\n");
-        return;
+fn main(rt: HostRuntime) -> io::Result<()> {
+    let mut text = [0u8; MOST_TEXT];
+    let n = words::input::read_full(&mut rt.stdin(), &mut text)?;
+    if n == MOST_TEXT {
+        return println!(rt; "more than is read");
     }
-    answer_lines(&text[..n]);
+    answer_lines(&rt, &text[..n])
 }

@@ -1,23 +1,15 @@
-// Text, numbers in base ten, and the numbers of a body in hex, from the first byte that is not zero on.
-use libc::STDOUT_FILENO;
+// Numbers in base ten, and the numbers of a body in hex, from the first byte that is not zero on.
+use std::io;
 use words::{byte_at, least};
 
 // The sign of an Int is the highest bit of its first byte.
 const SIGN: u8 = 0x80;
 
-pub(crate) fn print(text: &[u8]) {
-    io::write_all(STDOUT_FILENO, text);
-}
-
-pub(crate) fn print_number(n: u64) {
-    io::print_decimal(STDOUT_FILENO, n);
-}
-
-pub(crate) fn print_signed(negative: bool, n: u64) {
+pub(crate) fn print_signed(rt: &impl Print, negative: bool, n: u64) -> io::Result<()> {
     if negative & (n != 0) {
-        print(b"-");
+        print!(rt; "-")?;
     }
-    print_number(n);
+    print!(rt; "{n}")
 }
 
 // The bytes from a place on.
@@ -26,16 +18,11 @@ pub(crate) fn behind<'a>(bytes: &'a [u8], from: usize) -> &'a [u8] {
     &bytes[start..]
 }
 
-fn print_byte(byte: u8) {
-    io::print_hex(STDOUT_FILENO, byte as u64, 2);
-}
-
-pub(crate) fn print_bytes(bytes: &[u8]) {
-    let mut i: usize = 0;
-    while i < bytes.len() {
-        print_byte(bytes[i]);
-        i += 1;
+pub(crate) fn print_bytes(rt: &impl Print, bytes: &[u8]) -> io::Result<()> {
+    for byte in bytes {
+        print!(rt; "{byte:02x}")?;
     }
+    Ok(())
 }
 
 // How many zeros stand at the front.
@@ -50,24 +37,22 @@ fn zeros(bytes: &[u8]) -> usize {
     i
 }
 
-pub(crate) fn print_uint(bytes: &[u8]) {
-    print_bytes(behind(bytes, zeros(bytes)));
+pub(crate) fn print_uint(rt: &impl Print, bytes: &[u8]) -> io::Result<()> {
+    print_bytes(rt, behind(bytes, zeros(bytes)))
 }
 
-pub(crate) fn print_int_sign(bytes: &[u8]) {
+pub(crate) fn print_int_sign(rt: &impl Print, bytes: &[u8]) -> io::Result<()> {
     if byte_at(bytes, 0) < SIGN {
-        print(b"+");
-    } else {
-        print(b"-");
+        return print!(rt; "+");
     }
+    print!(rt; "-")
 }
 
-pub(crate) fn print_int_magnitude(bytes: &[u8]) {
+pub(crate) fn print_int_magnitude(rt: &impl Print, bytes: &[u8]) -> io::Result<()> {
     let first = byte_at(bytes, 0) % SIGN;
     if first == 0 {
-        print_uint(behind(bytes, 1));
-        return;
+        return print_uint(rt, behind(bytes, 1));
     }
-    print_bytes(&[first]);
-    print_bytes(behind(bytes, 1));
+    print_bytes(rt, &[first])?;
+    print_bytes(rt, behind(bytes, 1))
 }

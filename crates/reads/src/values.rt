@@ -1,147 +1,139 @@
 // Values as words, by their type byte and body. A container is shown by its bracket.
 use crate::numbers::{
-    behind, print, print_bytes, print_int_magnitude, print_int_sign, print_number, print_signed,
-    print_uint,
+    behind, print_bytes, print_int_magnitude, print_int_sign, print_signed, print_uint,
 };
 use entry_reading::{gm_read_decimal, gm_read_symbol, gm_read_timestamp};
+use std::io;
 
 // "Typed Value Formats": a type byte is the type code and four low bits, of which 15 is a null.
 const NULL: u8 = 15;
 
 const NEGATIVE_INT: u8 = 3;
 
-pub(crate) fn print_refusal(number: u8) {
-    print(b"!");
-    print_number(number as u64);
+pub(crate) fn print_refusal(rt: &impl Print, number: u8) -> io::Result<()> {
+    print!(rt; "!{number}")
 }
 
 // A negative int's code is another of type int.
-fn print_null(code: u8) {
-    print(b"n");
+fn print_null(rt: &impl Print, code: u8) -> io::Result<()> {
     if code == NEGATIVE_INT {
-        print_number(2);
-    } else {
-        print_number(code as u64);
+        return print!(rt; "n2");
     }
+    print!(rt; "n{code}")
 }
 
-fn print_bool(low_bits: u8) {
-    print(b"b");
-    print_number(low_bits as u64);
+fn print_bool(rt: &impl Print, low_bits: u8) -> io::Result<()> {
+    print!(rt; "b{low_bits}")
 }
 
-fn print_int(sign: &[u8], body: &[u8]) {
-    print(b"i");
-    print(sign);
-    print_uint(body);
+fn print_int(rt: &impl Print, sign: &str, body: &[u8]) -> io::Result<()> {
+    print!(rt; "i{sign}")?;
+    print_uint(rt, body)
 }
 
-fn print_lob(letter: &[u8], body: &[u8]) {
-    print(letter);
-    print_bytes(body);
+fn print_lob(rt: &impl Print, letter: &str, body: &[u8]) -> io::Result<()> {
+    print!(rt; "{letter}")?;
+    print_bytes(rt, body)
 }
 
-fn print_decimal(body: &[u8]) {
+fn print_decimal(rt: &impl Print, body: &[u8]) -> io::Result<()> {
     let mut decimal = [0u64; 3];
     let refusal = gm_read_decimal(body, &mut decimal);
     if refusal != 0 {
-        return print_refusal(refusal);
+        return print_refusal(rt, refusal);
     }
     let coefficient = behind(body, decimal[2] as usize);
-    print(b"d");
-    print_int_sign(coefficient);
-    print_int_magnitude(coefficient);
-    print(b":");
-    print_signed(decimal[0] != 0, decimal[1]);
+    print!(rt; "d")?;
+    print_int_sign(rt, coefficient)?;
+    print_int_magnitude(rt, coefficient)?;
+    print!(rt; ":")?;
+    print_signed(rt, decimal[0] != 0, decimal[1])
 }
 
-fn print_offset(known: bool, negative: bool, minutes: u64) {
+fn print_offset(rt: &impl Print, known: bool, negative: bool, minutes: u64) -> io::Result<()> {
     if known {
-        print_signed(negative, minutes);
+        print_signed(rt, negative, minutes)?;
     } else {
-        print(b"?");
+        print!(rt; "?")?;
     }
-    print(b":");
+    print!(rt; ":")
 }
 
 // Of the fields the first `count`.
-fn print_fields(fields: &[u64], count: u64) {
-    let mut i: usize = 0;
-    while i < fields.len() {
+fn print_fields(rt: &impl Print, fields: &[u64], count: u64) -> io::Result<()> {
+    for (i, field) in fields.iter().enumerate() {
         if count <= i as u64 {
-            return;
+            return Ok(());
         }
         if 0 < i {
-            print(b",");
+            print!(rt; ",")?;
         }
-        print_number(fields[i]);
-        i += 1;
+        print!(rt; "{field}")?;
     }
+    Ok(())
 }
 
-fn print_fraction(digits: u64, coefficient: &[u8]) {
-    print(b":");
+fn print_fraction(rt: &impl Print, digits: u64, coefficient: &[u8]) -> io::Result<()> {
+    print!(rt; ":")?;
     if digits == 0 {
-        return;
+        return Ok(());
     }
-    print_number(digits);
-    print(b",");
-    print_int_magnitude(coefficient);
+    print!(rt; "{digits},")?;
+    print_int_magnitude(rt, coefficient)
 }
 
-fn print_mark(out_of_calendar: bool) {
+fn print_mark(rt: &impl Print, out_of_calendar: bool) -> io::Result<()> {
     if out_of_calendar {
-        print(b" out-of-calendar");
+        return print!(rt; " out-of-calendar");
     }
+    Ok(())
 }
 
-fn print_timestamp(body: &[u8]) {
+fn print_timestamp(rt: &impl Print, body: &[u8]) -> io::Result<()> {
     let mut timestamp = [0u64; 13];
     let refusal = gm_read_timestamp(body, &mut timestamp);
     if refusal != 0 {
-        return print_refusal(refusal);
+        return print_refusal(rt, refusal);
     }
-    print(b"t");
-    print_offset(timestamp[0] != 0, timestamp[1] != 0, timestamp[2]);
+    print!(rt; "t")?;
+    print_offset(rt, timestamp[0] != 0, timestamp[1] != 0, timestamp[2])?;
     let count = timestamp[3];
-    print_fields(&timestamp[4..10], count);
-    print_fraction(timestamp[10], behind(body, timestamp[11] as usize));
-    print_mark(timestamp[12] != 0);
+    print_fields(rt, &timestamp[4..10], count)?;
+    print_fraction(rt, timestamp[10], behind(body, timestamp[11] as usize))?;
+    print_mark(rt, timestamp[12] != 0)
 }
 
-fn print_symbol(body: &[u8]) {
+fn print_symbol(rt: &impl Print, body: &[u8]) -> io::Result<()> {
     let mut sid = [0u64; 1];
     let refusal = gm_read_symbol(body, &mut sid);
     if refusal != 0 {
-        return print_refusal(refusal);
+        return print_refusal(rt, refusal);
     }
-    print(b"s");
-    print_number(sid[0]);
+    print!(rt; "s{}", sid[0])
 }
 
 // By the type code. What is no code of a value is a struct's here.
-fn print_by_code(kind: u8, body: &[u8]) {
+fn print_by_code(rt: &impl Print, kind: u8, body: &[u8]) -> io::Result<()> {
     match kind / 16 {
-        1 => print_bool(kind % 16),
-        2 => print_int(b"+", body),
-        3 => print_int(b"-", body),
-        4 => print_lob(b"f", body),
-        5 => print_decimal(body),
-        6 => print_timestamp(body),
-        7 => print_symbol(body),
-        8 => print_lob(b"u", body),
-        9 => print_lob(b"c", body),
-        10 => print_lob(b"o", body),
-        11 => print(b"["),
-        12 => print(b"("),
-        _ => print(b"{"),
+        1 => print_bool(rt, kind % 16),
+        2 => print_int(rt, "+", body),
+        3 => print_int(rt, "-", body),
+        4 => print_lob(rt, "f", body),
+        5 => print_decimal(rt, body),
+        6 => print_timestamp(rt, body),
+        7 => print_symbol(rt, body),
+        8 => print_lob(rt, "u", body),
+        9 => print_lob(rt, "c", body),
+        10 => print_lob(rt, "o", body),
+        11 => print!(rt; "["),
+        12 => print!(rt; "("),
+        _ => print!(rt; "{{"),
     }
 }
 
-pub(crate) fn print_value(kind: u8, body: &[u8]) {
+pub(crate) fn print_value(rt: &impl Print, kind: u8, body: &[u8]) -> io::Result<()> {
     if kind % 16 == NULL {
-        print_null(kind / 16);
-    } else {
-        print_by_code(kind, body);
+        return print_null(rt, kind / 16);
     }
+    print_by_code(rt, kind, body)
 }

@@ -2,11 +2,9 @@
 ghost use Rattle.std.specs.Prelude.{◌≤◌, length};
 ghost use Rattle.reads.specs.Standing.{Standing};
 
-use crate::endings::{Ending, print_ending};
-use crate::numbers::{print, print_number};
-use crate::top::print_top;
 use crate::values::{print_refusal, print_value};
 use entry_reading::{gm_read_item, gm_read_rest, gm_read_sid};
+use std::io;
 use words::least;
 
 const MOST_OPEN: usize = 32;
@@ -32,7 +30,7 @@ const MARKER: u8 = 0xE0;
 const NO_MORE: u8 = 0xFF;
 
 // What holds an item, a container or the stream: where it ends, its type byte, which is 0 for the stream, and the least name that may follow in it.
-#[derive(Drop)]
+#[derive(Clone, Copy)]
 struct Holder {
     end: usize,
     kind: u8,
@@ -40,11 +38,18 @@ struct Holder {
 }
 
 // Where a walk stands: the position, and what holds it, the stream first and then the containers that were entered.
-#[derive(Drop)]
+#[derive(Clone, Copy)]
 struct Walk {
     position: usize,
     depth: usize,
     holders: [Holder; MOST_OPEN + 1],
+}
+
+// How a walk ended: a refusal's number, or 0, and the place.
+#[derive(Clone, Copy)]
+struct Ending {
+    refusal: u8,
+    place: usize,
 }
 
 // No refusal: the turns ran out before the walk ended.
@@ -71,49 +76,47 @@ fn opens(kind: u8) -> bool {
 }
 
 // Prints the sids that fill a part. Each has a byte at least, so as many turns do.
-fn print_annotations(sids: &[u8]) {
+fn print_annotations(rt: &impl Print, sids: &[u8]) -> io::Result<()> {
     let mut at: usize = 0;
-    let mut turns = sids.len();
-    while 0 < turns {
-        turns -= 1;
+    for _ in 0..sids.len() {
         if sids.len() <= at {
-            return;
+            return Ok(());
         }
         let mut sid = [0u64; 2];
         let refusal = gm_read_sid(sids, at, &mut sid);
         if refusal != 0 {
-            return print_refusal(refusal);
+            return print_refusal(rt, refusal);
         }
-        print_number(sid[0]);
-        print(b"::");
+        print!(rt; "{}::", sid[0])?;
         at = sid[1] as usize;
     }
+    Ok(())
 }
 
-fn print_name(holder: u8, name: u64) {
+fn print_name(rt: &impl Print, holder: u8, name: u64) -> io::Result<()> {
     if is_struct(holder) {
-        print_number(name);
-        print(b"=");
+        return print!(rt; "{name}=");
     }
+    Ok(())
 }
 
-fn print_named(stream: &[u8], holder: u8, item: &[u64; 6]) {
-    print_name(holder, item[NAME]);
-    print_annotations(part(stream, item[SIDS], item[SIDS_END]));
-    print_value(kind_of(item), part(stream, item[START], item[STOP]));
-    print(b" ");
+fn print_named(rt: &impl Print, stream: &[u8], holder: u8, item: &[u64; 6]) -> io::Result<()> {
+    print_name(rt, holder, item[NAME])?;
+    print_annotations(rt, part(stream, item[SIDS], item[SIDS_END]))?;
+    print_value(rt, kind_of(item), part(stream, item[START], item[STOP]))?;
+    print!(rt; " ")
 }
 
 // Prints what an item shows, which a pad does not.
-fn print_item(stream: &[u8], holder: u8, item: &[u64; 6]) {
+fn print_item(rt: &impl Print, stream: &[u8], holder: u8, item: &[u64; 6]) -> io::Result<()> {
     let kind = kind_of(item);
     if kind < PAST_PADS {
-        return;
+        return Ok(());
     }
     match kind {
-        MARKER => print(b"m "),
-        NO_MORE => print(b". "),
-        _ => print_named(stream, holder, item),
+        MARKER => print!(rt; "m "),
+        NO_MORE => print!(rt; ". "),
+        _ => print_named(rt, stream, holder, item),
     }
 }
 
@@ -222,28 +225,35 @@ fn ends(walk: Walk, item: &[u64; 6]) -> bool {
 }
 
 // Each turn reads an item, of a byte at least, or leaves a container.
-fn walked(stream: &[u8], position: usize) -> Ending
+fn walked(rt: &impl Print, stream: &[u8], position: usize) -> io::Result<Ending>
     requires { length stream.now ≤ 8192 }
 {
     let mut walk = start(stream.len(), position);
-    let mut turns = 2 * stream.len() + 1;
-    while 0 < turns {
-        turns -= 1;
+    let turns = 2 * stream.len() + 1;
+    for _ in 0..turns {
         let mut item = [0u64; 6];
         let refusal = read_item(stream, walk, &mut item);
         if (refusal != 0) | ends(walk, &item) {
-            return Ending {
+            return Ok(Ending {
                 refusal,
                 place: walk.position,
-            };
+            });
         }
-        print_item(stream, innermost(walk).kind, &item);
+        print_item(rt, stream, innermost(walk).kind, &item)?;
         walk = moved(walk, &item);
     }
-    Ending {
+    Ok(Ending {
         refusal: ENDLESS,
         place: walk.position,
+    })
+}
+
+fn print_ending(rt: &impl Print, ending: Ending) -> io::Result<()> {
+    if ending.refusal == 0 {
+        return print!(rt; "whole");
     }
+    print_refusal(rt, ending.refusal)?;
+    print!(rt; "@{}", ending.place)
 }
 
 // How `gm_read_rest` says that a walk ends.
@@ -256,12 +266,20 @@ fn rest(stream: &[u8], position: usize) -> Ending {
     }
 }
 
-// Prints what the walk from a position shows, and how it ended; then how `gm_read_rest` and the reader at top level say that it ends.
-pub(crate) fn print_walk(stream: &[u8], position: usize)
+fn are_same(a: Ending, b: Ending) -> bool {
+    (a.refusal == b.refusal) & ((a.refusal == 0) | (a.place == b.place))
+}
+
+// Prints what the walk from a position shows, and how it ended; behind it the ending by `gm_read_rest`, if that is another.
+pub(crate) fn print_walk(rt: &impl Print, stream: &[u8], position: usize) -> io::Result<()>
     requires { length stream.now ≤ 8192 }
 {
-    print_ending(walked(stream, position));
-    print(b"; rest ");
-    print_ending(rest(stream, position));
-    print_top(stream, position);
+    let ending = walked(rt, stream, position)?;
+    print_ending(rt, ending)?;
+    let whole = rest(stream, position);
+    if !are_same(ending, whole) {
+        print!(rt; " but rest ")?;
+        print_ending(rt, whole)?;
+    }
+    Ok(())
 }

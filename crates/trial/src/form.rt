@@ -37,7 +37,7 @@ fn is_decimal(text: &[u8]) -> bool {
 }
 
 fn is_offset(word: &[u8]) -> bool {
-    check::same(word, b"?") | numbers::is_i32(word)
+    (word == b"?".as_slice()) | numbers::is_i32(word)
 }
 
 // Whether the words from index `from` to before `to` are numbers of at most `limit`.

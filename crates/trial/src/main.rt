@@ -1,16 +1,23 @@
 // The trial program of document 01: reads lines, writes the value of each with an empty state, and prints its bytes in lower-case hex, or `!` and the
 // number of the refusal.
+#![tactic(auto)]
+
 mod form;
 mod names;
 mod run;
 mod walk;
 
-ghost use Rattle.std.specs.Prelude.{◌≡◌, ◌+◌, ◌≤◌, length};
+ghost use Rattle.std.specs.Prelude.{◌≡◌, ◌+◌, ◌≤◌, length, IfOk};
 
 use goatminute::STATE_SIZE;
-use libc::{STDERR_FILENO, STDIN_FILENO, STDOUT_FILENO};
+use std::fmt;
+use std::io::Read;
+use std::process::ExitCode;
 
 const ROOM: usize = 16384;
+
+// How many bytes are read or printed at once, at most.
+const BLOCK: usize = 65536;
 
 // How many bytes may wait to be printed where an answer, of at most two digits for each byte of `ROOM` and a line feed, is put behind them.
 const MOST_WAITING: usize = 32767;
@@ -38,6 +45,22 @@ fn put_finished(out: &mut [u8], at: usize, state: &[u8; STATE_SIZE], buf: &[u8; 
     words::hex::put(out, at, &bytes[0..n])
 }
 
+// Why the answers are not whole.
+#[derive(Debug, Drop)]
+enum Failure {
+    Unread,
+    Unwritten,
+}
+
+impl fmt::Display for Failure {
+    fn fmt<W: fmt::Write>(&self, f: &mut fmt::Formatter<W>) -> fmt::Result {
+        match self {
+            Failure::Unread => write!(f, "the input can't be read"),
+            Failure::Unwritten => write!(f, "they can't be written"),
+        }
+    }
+}
+
 // Puts the answer to a line, and answers how many bytes that is. `buf`, `sids`, `bytes` and `stack` may hold what earlier lines put there: the state
 // is empty, and of each only the part that this line has put is read.
 fn put_answer(
@@ -45,11 +68,10 @@ fn put_answer(
     out: &mut [u8],
     at: usize,
     buf: &mut [u8; 16384],
-    sids: &mut [u8],
+    sids: &mut [u8; 32768],
     bytes: &mut [u8],
     stack: &mut [u8; 4096],
 ) -> usize
-    requires { length sids.old ≡ 32768 }
     ensures { result ≤ 32768 }
 {
     let mut state = [0u8; STATE_SIZE];
@@ -66,11 +88,11 @@ fn answer(
     out: &mut [u8],
     used: usize,
     buf: &mut [u8; 16384],
-    sids: &mut [u8],
+    sids: &mut [u8; 32768],
     bytes: &mut [u8],
     stack: &mut [u8; 4096],
 ) -> usize
-    requires { (used ≤ 32767) × (65536 ≤ length out.old) × (length sids.old ≡ 32768) }
+    requires { (used ≤ 32767) × (65536 ≤ length out.old) }
     ensures { result ≤ 65536 }
 {
     let end = used + put_answer(line, out, used, buf, sids, bytes, stack);
@@ -78,73 +100,40 @@ fn answer(
     end + 1
 }
 
-// Prints bytes, or says that they can't be printed.
-fn print(text: &[u8]) -> bool {
-    if io::write_all(STDOUT_FILENO, text) {
-        return true;
-    }
-    io::write_all(
-        STDERR_FILENO,
-        b"the answers are not whole: they can't be written\n",
-    );
-    false
+fn print(rt: &impl Print, text: &[u8]) -> Result<(), Failure> {
+    rt.write_all(text).map_err(|_| Failure::Unwritten)
 }
 
-// Whether bytes could be printed, and how many wait now.
-#[derive(Drop)]
-struct Printed {
-    all: bool,
-    waiting: usize,
-}
-
-// Prints the bytes that wait, if they are too many.
-fn print_waiting(waiting: &[u8]) -> Printed
-    ensures { result.waiting ≤ 32767 }
+// Prints the bytes that wait, if they are too many. The result is how many wait then.
+fn print_waiting(rt: &impl Print, waiting: &[u8]) -> Result<usize, Failure>
+    ensures { IfOk result (λ n. n ≤ 32767) }
 {
     if waiting.len() <= MOST_WAITING {
-        return Printed {
-            all: true,
-            waiting: waiting.len(),
-        };
+        return Ok(waiting.len());
     }
-    Printed {
-        all: print(waiting),
-        waiting: 0,
-    }
+    print(rt, waiting)?;
+    Ok(0)
 }
 
-// Whether answers could be printed, and how many bytes of the text have theirs.
-#[derive(Drop)]
-struct Answered {
-    all: bool,
-    end: usize,
-}
-
-// Prints the answers to the lines that end in a text, or stops where they can't be printed. The arrays are made once, since to clear them takes longer
-// than a short line.
-fn answer_lines(text: &[u8]) -> Answered
-    ensures { result.end ≤ length text.now }
+// Prints the answers to the lines that end in a text, or stops where they can't be printed. The result is where the rest starts. The arrays are made
+// once, since to clear them takes longer than a short line.
+fn answer_lines(rt: &impl Print, text: &[u8]) -> Result<usize, Failure>
+    ensures { IfOk result (λ n. n ≤ length text.now) }
 {
-    let mut out = io::large_buffer();
+    let mut out = [0u8; BLOCK];
     let mut buf = [0u8; ROOM];
-    let mut sids = run::longest_sids();
-    let mut bytes = run::most_bytes();
+    let mut sids = [0u8; 8 * walk::LONGEST_LINE];
+    let mut bytes = [0u8; walk::LONGEST_LINE / 2];
     let mut stack = [walk::NOTHING; walk::LONGEST_LINE];
     let mut used: usize = 0;
     let mut at: usize = 0;
     let mut end = words::find(text, 0, b'\n');
     while end < text.len() {
-        let printed = print_waiting(&out[0..used]);
-        if !printed.all {
-            return Answered {
-                all: false,
-                end: at,
-            };
-        }
+        used = print_waiting(rt, &out[0..used])?;
         used = answer(
             &text[at..end],
             &mut out,
-            printed.waiting,
+            used,
             &mut buf,
             &mut sids,
             &mut bytes,
@@ -153,10 +142,8 @@ fn answer_lines(text: &[u8]) -> Answered
         at = end + 1;
         end = words::find(text, at, b'\n');
     }
-    Answered {
-        all: print(&out[0..used]),
-        end: at,
-    }
+    print(rt, &out[0..used])?;
+    Ok(at)
 }
 
 // Moves `count` bytes from `from` on to the front.
@@ -170,87 +157,64 @@ fn keep(text: &mut [u8], from: usize, count: usize)
     }
 }
 
-// How many bytes stand at the front of a text, and whether the input is to be read on behind them.
-#[derive(Drop)]
-struct Input {
-    goes_on: bool,
-    end: usize,
-}
-
-// Behind a read or a write that fails: a line that is not whole is not answered.
-const STOPPED: Input = Input {
-    goes_on: false,
-    end: 0,
-};
-
-// Prints the answers to the lines that end in the first `end` bytes, and moves the rest to the front, of which one byte more than a line may have is
-// kept.
-fn take_lines(text: &mut [u8], end: usize) -> Input
+// Prints the answers to the lines that end in the first `end` bytes, and moves the rest to the front. The result is the length of the rest, of which
+// one byte more than a line may have is kept.
+fn take_lines(rt: &impl Print, text: &mut [u8], end: usize) -> Result<usize, Failure>
     requires { end ≤ length text.old }
-    ensures { result.end ≤ 4097 }
+    ensures { IfOk result (λ n. n ≤ 4097) }
 {
-    let answered = answer_lines(&text[0..end]);
-    if !answered.all {
-        return STOPPED;
-    }
-    let from = answered.end;
+    let from = answer_lines(rt, &text[0..end])?;
     let count = words::least(end - from, walk::LONGEST_LINE + 1);
     keep(text, from, count);
-    Input {
-        goes_on: true,
-        end: count,
-    }
+    Ok(count)
 }
 
-// Reads on behind the first `kept` bytes, and prints the answers to the lines that end there; or says that the input can't be read.
-fn take_block(text: &mut [u8], kept: usize) -> Input
-    requires { (kept ≤ 4097) × (4097 ≤ length text.old) }
-    ensures { result.end ≤ 4097 }
+// Reads on behind the first `kept` bytes. The result is how many bytes there are.
+fn read_on<R: Read>(input: &mut R, text: &mut [u8], kept: usize) -> Result<usize, Failure>
+    requires { kept ≤ length text.old }
+    ensures { IfOk result (λ n. (kept ≤ n) × (n ≤ length text.new)) }
 {
-    let got = libc::read(STDIN_FILENO, &mut text[kept..]);
-    if got < 0 {
-        io::write_all(
-            STDERR_FILENO,
-            b"the answers are not whole: the input can't be read\n",
-        );
-        return STOPPED;
+    match input.read(&mut text[kept..]) {
+        Ok(n) => Ok(kept + n),
+        Err(_) => Err(Failure::Unread),
     }
-    if got == 0 {
-        return Input {
-            goes_on: false,
-            end: kept,
-        };
-    }
-    let end = kept + io::count(got, &text[kept..]);
-    take_lines(text, end)
 }
 
-// Prints the answers to the lines that end in the input. The result is how many bytes stand behind the last line feed, up to 4,097, or 0 where the
-// input can't be read or the answers can't be printed.
-fn take_input(text: &mut [u8]) -> usize
+// Prints the answers to the lines that end in the input, up to its end or to a read that fails, whose last line is not answered. The result is how many
+// bytes stand behind the last line feed, up to 4,097.
+fn take_input<P: Print, R: Read>(rt: &P, input: &mut R, text: &mut [u8]) -> Result<usize, Failure>
     requires { 4097 ≤ length text.old }
-    ensures { result ≤ 4097 }
+    ensures { IfOk result (λ n. n ≤ 4097) }
 {
     let mut kept: usize = 0;
-    // A loop has to end, and no input takes so many turns.
-    let mut turns: u64 = 0x4000_0000_0000_0000;
-    while 0 < turns {
-        turns -= 1;
-        let input = take_block(text, kept);
-        kept = input.end;
-        if !input.goes_on {
-            return kept;
+    // No input takes so many turns.
+    for _ in 0..u64::MAX {
+        let end = read_on(input, text, kept)?;
+        if end == kept {
+            return Ok(kept);
         }
+        kept = take_lines(rt, text, end)?;
     }
-    kept
+    Ok(kept)
 }
 
 // A last line without line feed is given one.
-fn main() {
-    let mut text = io::large_buffer();
-    let kept = take_input(&mut text);
+fn answer_input<P: Print, R: Read>(rt: &P, input: &mut R) -> Result<(), Failure> {
+    let mut text = [0u8; BLOCK];
+    let kept = take_input(rt, input, &mut text)?;
     if 0 < kept {
         text[kept] = b'\n';
-        answer_lines(&text[0..kept + 1]);
+        answer_lines(rt, &text[0..kept + 1])?;
+    }
+    Ok(())
+}
+
+fn main(rt: HostRuntime) -> ExitCode {
+    match answer_input(&rt, &mut rt.stdin()) {
+        Ok(()) => ExitCode::SUCCESS,
+        Err(why) => {
+            let _ = eprintln!(rt; "the answers are not whole: {why}");
+            ExitCode::FAILURE
+        }
     }
 }

@@ -45,7 +45,7 @@ fn write_timestamp(
         field(text, 5),
         field(text, 6),
         field(text, 7),
-        !check::same(offset, b"?") as u8,
+        (offset != b"?".as_slice()) as u8,
         numbers::i32_of(offset),
         (words == 10) as u8,
         field(text, 8),
@@ -80,7 +80,7 @@ fn call(
             state,
             buf,
             annotations,
-            check::same(first, b"1") as u8,
+            (first == b"1".as_slice()) as u8,
         ),
         walk::I64 => goatminute::gm_write_i64(state, buf, annotations, numbers::i64_of(first)),
         walk::INT => goatminute::gm_write_int(
@@ -173,11 +173,11 @@ fn run_value(
     line: &[u8],
     state: &mut [u8; STATE_SIZE],
     buf: &mut [u8; 16384],
-    sids: &mut [u8],
+    sids: &mut [u8; 32768],
     bytes: &mut [u8],
     stack: &mut [u8; 4096],
 ) -> u8
-    requires { (length line.now ≤ 4096) × (length sids.old ≡ 32768) }
+    requires { length line.now ≤ 4096 }
 {
     let mut annotated: usize = 0;
     let mut at: usize = 0;
@@ -200,31 +200,15 @@ fn run_value(
     0
 }
 
-// Room for an annotation of each byte of a line. The `ensures` gives the length, which lending the array as a slice needs.
-pub(crate) fn longest_sids() -> [u8; 32768]
-    ensures { 32768 ≡ length result }
-{
-    [0; 8 * walk::LONGEST_LINE]
-}
-
-// Room for two hex digits of a line a byte.
-pub(crate) fn most_bytes() -> [u8; 2048]
-    ensures { 2048 ≡ length result }
-{
-    [0; walk::LONGEST_LINE / 2]
-}
-
 // The number of a line's refusal, or 0.
 pub(crate) fn run(
     line: &[u8],
     state: &mut [u8; STATE_SIZE],
     buf: &mut [u8; 16384],
-    sids: &mut [u8],
+    sids: &mut [u8; 32768],
     bytes: &mut [u8],
     stack: &mut [u8; 4096],
-) -> u8
-    requires { length sids.old ≡ 32768 }
-{
+) -> u8 {
     if walk::LONGEST_LINE < line.len() {
         return NOT_OF_FORM;
     }

@@ -72,7 +72,7 @@ pub(crate) const MARK: usize = 19;
 
 // A part, where its words stand, the place behind it and what is due there, or `NOTHING` where the stack says it. `pushed` is put on the stack, if it
 // is not `NOTHING`; `popped` counts what is taken from it.
-#[derive(Drop)]
+#[derive(Clone, Copy)]
 pub(crate) struct Step {
     pub(crate) part: usize,
     pub(crate) from: usize,

@@ -68,7 +68,7 @@ fn function_named(name: &[u8]) -> usize {
 }
 
 fn is_annotated(vector: &[u8]) -> bool {
-    check::same(word(vector, 0), b"ann")
+    word(vector, 0) == b"ann".as_slice()
 }
 
 // The function's name and its arguments.
@@ -106,7 +106,7 @@ fn ion_type(name: &[u8]) -> IonType {
 }
 
 fn offset(word: &[u8]) -> Offset {
-    if check::same(word, b"?") {
+    if word == b"?".as_slice() {
         return Offset::Unknown;
     }
     Offset::Minutes(numbers::i32_of(word))
@@ -167,7 +167,7 @@ struct Arguments {
 fn read(call: &[u8]) -> Arguments {
     let first = word(call, 1);
     Arguments {
-        negative: check::same(first, b"neg"),
+        negative: first == b"neg".as_slice(),
         number: numbers::natural(first, MOST_U64),
         second: numbers::natural(word(call, 2), MOST_U64),
         bits: hex::bits(first),

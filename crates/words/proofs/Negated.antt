@@ -1,9 +1,9 @@
 -- A magnitude m above zero, negated by -1 - (m - 1), whose parts fit where -m does.
 -- Assumes nothing.
-use mathlib.Core.Path.{◌≡◌, refl, sym, ◌∙◌, ap}
-use Prim.Native.Nat.{ℕ, zero, suc, ◌-◌, ◌^◌, ◌<◌, ◌≤◌}
+use mathlib.Core.Path.{◌≡◌, refl, ◌∙◌, ap}
+use Prim.Native.Nat.{ℕ, zero, suc, ◌-◌, ◌^◌, ◌<◌}
 use native.Mathlib.Omega.{arith}
-use lib.IntN.{ℤ, pos, negsuc, ◌-ℤ◌, neg_ℤ}
+use lib.IntN.{pos, negsuc, ◌-ℤ◌, neg_ℤ}
 use mir.Syntax.{Width}
 use mir.Val.{SFits, hbits, to_z}
 use mir.ValLaws.{to_z_pos}

@@ -11,7 +11,7 @@ use lib.Dec.{eqb, leb, leb-suc-suc}
 use borrow.Author.Tests.{eq-eqb, ne_eqb, eqb-true, le-leb, lt-leb, leb-true, leb-false}
 use lib.ListN.{length, take, drop, get_or, length-drop, drop_of_length-le}
 use lib.Seq.{drop-cons, drop-drop}
-use Rattle.words.proofs.Place.{none-behind, place_here, place_further}
+use Rattle.words.proofs.Place.{place_here, place_further}
 use Rattle.words.specs.Words.{place_of, joined, words_of, from_word, same, index_of}
 
 -- The words from the place i on: none behind the end.

@@ -1,5 +1,8 @@
 // The words of a text, which single spaces part. A text has one word more than spaces, and a word that is missing is empty.
+#![tactic(auto)]
+
 pub mod hex;
+pub mod input;
 pub mod numbers;
 
 ghost use Rattle.std.specs.Prelude.{◌≡◌, [], ◌+◌, ◌≤◌, min, max, length, drop, get_or};
@@ -95,7 +98,7 @@ pub fn index(names: &[u8], word: &[u8]) -> usize
     let mut at: usize = 0;
     while at <= names.len() {
         let end = find(names, at, SPACE);
-        if check::same(&names[at..end], word) {
+        if &names[at..end] == word {
             return n;
         }
         n += 1;
