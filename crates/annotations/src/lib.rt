@@ -1,4 +1,6 @@
 // Annotations, lent as bytes: eight bytes a sid, least significant first, the missing bytes of the last sid zero.
+#![tactic(auto)]
+
 ghost use Rattle.std.specs.Prelude.{◌≡◌, List, ℕ, ◌+◌, ◌*◌, ◌^◌, ◌<◌, ◌≤◌, length, get_or};
 ghost use Rattle.encoding.specs.Fields.{var_uints_bytes};
 ghost use Rattle.encoding.specs.Headers.{annotation_bytes};

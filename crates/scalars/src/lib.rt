@@ -1,5 +1,7 @@
 // The scalars of document 01's value_writer, without annotations: a descriptor byte with the type code in its high four bits, then the body.
 // A function that writes answers how many bytes it put. It puts all or none, and none where a check of its own refuses the value.
+#![tactic(auto)]
+
 ghost use Rattle.std.specs.Prelude.{◌≡◌, ◌&&◌, List, ℕ, ◌*◌, ◌/◌, ◌^◌, ◌<◌, ◌≤◌, eqb, length};
 ghost use Rattle.ion.specs.Value.{high_bits};
 ghost use Rattle.ion.specs.Fields.{uint};

@@ -23,7 +23,7 @@ use Rattle.timestamp.specs.declared.Offset.{Offset}
 use Rattle.timestamp.specs.declared.Offset.TheVariants.{Unknown, Minutes}
 use Rattle.timestamp.specs.declared.Timestamp.{Timestamp}
 use Rattle.timestamp.specs.Arguments.{offset_minutes, fraction_digits, fields_by, fields_of}
-use Rattle.timestamp.specs.Utc.{with_fields}
+use Rattle.timestamp.specs.Utc.{with_fields, utc_of}
 use Rattle.timestamp.proofs.Valid.{field_count, Valid, valid, offset_known}
 
 pub utc_minutes-west : (z : ℤ) (h i : ℕ) → lt_z z (pos 0) ≡ true → 1440 + (h * 60 + i) + nat_abs z ≡ utc_minutes z h i
@@ -167,3 +167,12 @@ module _ (t : Timestamp) where
   utc_year_known z e h y m d q =
       let s : y ≡ (with_fields t (utc_fields (utc_minutes z t.hour t.minute) t.year t.month t.day [])).year = rw (← q) in
       s ∙ ap (λ (u : Timestamp). u.year) (utc_known z e h)
+
+  pub utc_of_valid : is_timestamp (offset_minutes t.offset) (fields_of t) (fraction_digits t.fraction) ≡ true
+      → with_fields t (utc (offset_minutes t.offset) (fields_of t)) ≡ utc_of t
+  unfolding utc_of
+  utc_of_valid e = rw (e, utc_of)
+
+  pub utc_of_other : is_timestamp (offset_minutes t.offset) (fields_of t) (fraction_digits t.fraction) ≡ false → t ≡ utc_of t
+  unfolding utc_of
+  utc_of_other e = rw (e, utc_of)

@@ -1,10 +1,11 @@
 -- A Timestamp with its UTC fields.
 -- Assumes nothing.
-use Rattle.std.specs.Prelude.{List, ℕ, get_or}
-use Rattle.encoding.specs.Timestamp.{date}
+use Rattle.std.specs.Prelude.{true, false, List, ℕ, get_or}
+use Rattle.encoding.specs.Timestamp.{date, utc, is_timestamp}
 use Rattle.encoding.specs.Timestamp.{Date as CalendarDate}
 use Rattle.timestamp.specs.declared.Date.{Date}
 use Rattle.timestamp.specs.declared.Timestamp.{Timestamp}
+use Rattle.timestamp.specs.Arguments.{offset_minutes, fraction_digits, fields_of}
 
 abbrev pub date_of : Date → CalendarDate
 date_of x = date x.0 x.1 x.2
@@ -23,3 +24,11 @@ with_fields t fs =
       offset = t.offset;
       fraction = t.fraction;
     }
+
+-- with its UTC fields, if it passes check 7; any other as it is
+unfoldable pub utc_of : Timestamp → Timestamp
+utc_of t =
+    elim (is_timestamp (offset_minutes t.offset) (fields_of t) (fraction_digits t.fraction)) [
+      | true ↦ with_fields t (utc (offset_minutes t.offset) (fields_of t))
+      | false ↦ t
+    ]

@@ -9,7 +9,7 @@ ghost use Rattle.encoding.specs.Argument.{checked_bytes};
 ghost use Rattle.encoding.specs.Timestamp.{offset_bytes, fraction_bytes, day_before, day_after, utc_minutes, utc_day, utc_fields, utc};
 ghost use Rattle.encoding.specs.Timestamp.{year_rule, month_rule, day_rule, offset_rules, fraction_rules, first_bad, is_none, is_local_timestamp, is_timestamp};
 ghost use Rattle.timestamp.specs.Arguments.{offset_minutes, fraction_digits, fields_by, fields_of, argument_of};
-ghost use Rattle.timestamp.specs.Utc.{date_of, with_fields};
+ghost use Rattle.timestamp.specs.Utc.{date_of, with_fields, utc_of};
 ghost use Rattle.timestamp.specs.Small.{SmallOffset, SmallFields, SmallFraction, Small, body_of, value_of};
 
 // The last field that counts; those below it mean nothing. With a minute there is an hour.
@@ -288,6 +288,20 @@ pub fn is_valid(t: Timestamp) -> bool
         return false;
     }
     is_year(utc_year(t))
+}
+
+// The UTC fields in the place of the local ones, and the offset kept. A timestamp that does not pass check 7 stays as it is.
+pub fn to_utc(t: Timestamp) -> Timestamp
+    ensures { result ≡ utc_of t }
+{
+    if !is_local(t) {
+        return t;
+    }
+    let in_utc = utc_of_local(t);
+    if !is_year(in_utc.year) {
+        return t;
+    }
+    in_utc
 }
 
 // ---- the bytes
