@@ -21,9 +21,9 @@ returns-then-s-at-2 c =
     let a = c.args in
     let b = get_or a.s.now a.at 0 in
     let usual_is : header_at a.out a.s.now a.at
-        ≡ cond (leb (a.at + 1 + b % 16) (length a.s.now)) (H.Is b (a.at + 1) (a.at + 1 + b % 16)) (H.No a.out) =
-        header_here a.out a.s.now a.at (omega arith)
-        ∙ headed-usual a.out a.s.now a.at b (sym c.is_usual.ensures ∙ c.if-not-is_usual.false) in
+    ≡ cond (leb (a.at + 1 + b % 16) (length a.s.now)) (H.Is b (a.at + 1) (a.at + 1 + b % 16)) (H.No a.out) =
+    header_here a.out a.s.now a.at (omega arith)
+    ∙ headed-usual a.out a.s.now a.at b (sym c.is_usual.ensures ∙ c.if-not-is_usual.false) in
     sym (usual_is ∙ rw (lt-leb (a.at + 1 + b % 16) (length a.s.now) (omega arith)) refl)
 
 pub returns : goal.returns
@@ -31,7 +31,7 @@ returns c =
     let a = c.args in
     let b = get_or a.s.now a.at 0 in
     let usual_is : header_at a.out a.s.now a.at
-        ≡ cond (leb (a.at + 1 + b % 16) (length a.s.now)) (H.Is b (a.at + 1) (a.at + 1 + b % 16)) (H.No a.out) =
-        header_here a.out a.s.now a.at (omega arith)
-        ∙ headed-usual a.out a.s.now a.at b (sym c.is_usual.ensures ∙ c.if-not-is_usual.false) in
+    ≡ cond (leb (a.at + 1 + b % 16) (length a.s.now)) (H.Is b (a.at + 1) (a.at + 1 + b % 16)) (H.No a.out) =
+    header_here a.out a.s.now a.at (omega arith)
+    ∙ headed-usual a.out a.s.now a.at b (sym c.is_usual.ensures ∙ c.if-not-is_usual.false) in
     sym (usual_is ∙ rw (le-leb (a.at + 1 + b % 16) (length a.s.now) (omega arith)) refl)
