@@ -1,11 +1,7 @@
 -- `answer_timestamp` meets its contract: case by case.
 -- Assumes nothing.
-use mathlib.Core.Path.{sym, ap}
-use Prim.Native.Nat.{ℕ}
+use mathlib.Core.Path.{sym}
 use Rattle.read_answers.proofs.answer_timestamp.Goals as goal
-
-pub returns-in-No : goal.returns-in-No
-returns-in-No c = rw c.in-No.is (ap (λ (k : ℕ). (k, c.args.lent.now)) c.number_of.ensures)
 
 pub returns-in-Is : goal.returns-in-Is
 returns-in-Is c = rw (

@@ -18,20 +18,20 @@ returns-then-s-at c = let a = c.args in sym (header_out a.out a.s.now a.at c.if-
 
 pub returns-then-s-at-2 : goal.returns-then-s-at-2
 returns-then-s-at-2 c =
-    let usual_is : let b = get_or c.args.s.now c.args.at 0 in
-    header_at c.args.out c.args.s.now c.args.at ≡ cond (leb (c.args.at + 1 + b % 16) (length c.args.s.now)) (H.Is b (c.args.at + 1) (c.args.at + 1 + b % 16)) (H.No c.args.out) =
-    header_here c.args.out c.args.s.now c.args.at (omega arith)
-    ∙ headed-usual c.args.out c.args.s.now c.args.at (get_or c.args.s.now c.args.at 0)
-    (sym c.is_usual.ensures ∙ c.if-not-is_usual.false) in
     let a = c.args in
-    sym (usual_is ∙ rw (lt-leb (a.at + 1 + get_or a.s.now a.at 0 % 16) (length a.s.now) (omega arith)) refl)
+    let b = get_or a.s.now a.at 0 in
+    let usual_is : header_at a.out a.s.now a.at
+    ≡ cond (leb (a.at + 1 + b % 16) (length a.s.now)) (H.Is b (a.at + 1) (a.at + 1 + b % 16)) (H.No a.out) =
+    header_here a.out a.s.now a.at (omega arith)
+    ∙ headed-usual a.out a.s.now a.at b (sym c.is_usual.ensures ∙ c.if-not-is_usual.false) in
+    sym (usual_is ∙ rw (lt-leb (a.at + 1 + b % 16) (length a.s.now) (omega arith)) refl)
 
 pub returns : goal.returns
 returns c =
-    let usual_is : let b = get_or c.args.s.now c.args.at 0 in
-    header_at c.args.out c.args.s.now c.args.at ≡ cond (leb (c.args.at + 1 + b % 16) (length c.args.s.now)) (H.Is b (c.args.at + 1) (c.args.at + 1 + b % 16)) (H.No c.args.out) =
-    header_here c.args.out c.args.s.now c.args.at (omega arith)
-    ∙ headed-usual c.args.out c.args.s.now c.args.at (get_or c.args.s.now c.args.at 0)
-    (sym c.is_usual.ensures ∙ c.if-not-is_usual.false) in
     let a = c.args in
-    sym (usual_is ∙ rw (le-leb (a.at + 1 + get_or a.s.now a.at 0 % 16) (length a.s.now) (omega arith)) refl)
+    let b = get_or a.s.now a.at 0 in
+    let usual_is : header_at a.out a.s.now a.at
+    ≡ cond (leb (a.at + 1 + b % 16) (length a.s.now)) (H.Is b (a.at + 1) (a.at + 1 + b % 16)) (H.No a.out) =
+    header_here a.out a.s.now a.at (omega arith)
+    ∙ headed-usual a.out a.s.now a.at b (sym c.is_usual.ensures ∙ c.if-not-is_usual.false) in
+    sym (usual_is ∙ rw (le-leb (a.at + 1 + b % 16) (length a.s.now) (omega arith)) refl)

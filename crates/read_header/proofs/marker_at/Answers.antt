@@ -1,7 +1,6 @@
 -- `read_header::marker_at` meets its contract: at each byte, what the rest of the marker makes of the bytes from here
 -- is what the marker makes of those from `at`.
 -- Assumes nothing.
-
 use native.Mathlib.Omega.{arith}
 use mathlib.Core.Path.{refl, sym, ◌∙◌}
 use Rattle.reading.specs.Headers.{marker_at}

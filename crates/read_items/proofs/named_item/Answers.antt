@@ -30,7 +30,8 @@ judge-requires c =
     let held_is : c.unwrap-held.result ≡ unwrapped c.args.s.now (head_in c.args.s.now c.args.parent c.args.at) =
     c.unwrap-held.ensures ∙ ap (unwrapped c.args.s.now) (sym c.in-Is.is ∙ c.head_in-h.ensures) in
     let told : Held c.args.at (length c.args.s.now) c.in-Is-held.sids c.in-Is-held.sids_end c.in-Is-held.inner_start c.in-Is-held.inner_stop =
-    unwrapped_bounds c.args.s.now c.args.at (head_in c.args.s.now c.args.parent c.args.at) (λ x y z p. head_bounds c.args.s.now c.args.parent c.args.at x y z p) _ _ _ _ _
+    unwrapped_bounds c.args.s.now c.args.at (head_in c.args.s.now c.args.parent c.args.at)
+    (λ x y z p. head_bounds c.args.s.now c.args.parent c.args.at x y z p) _ _ _ _ _
     (sym held_is ∙ c.in-Is-held.is) in
     let w = told in (w.body, w.within)
 

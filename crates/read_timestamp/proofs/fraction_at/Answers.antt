@@ -1,9 +1,8 @@
 -- `read_timestamp::fraction_at` meets its contract: by the exponent, then by its coefficient.
 -- Assumes nothing.
-use mathlib.Core.Path.{ap}
+use mathlib.Core.Path.{ap, sym, ◌∙◌}
 use mathlib.Core.Bool.{not}
 use native.Mathlib.Omega.{arith}
-use mathlib.Core.Path.{sym, ◌∙◌}
 use lib.ListN.{drop}
 use Rattle.ion.specs.Value.{signed}
 use Rattle.ion.specs.Fields.{var_int}

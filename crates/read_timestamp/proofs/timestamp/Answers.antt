@@ -1,8 +1,7 @@
 -- `read_timestamp::timestamp` meets its contract: part after part, one law for each answer.
 -- Assumes nothing.
-use mathlib.Core.Path.{ap}
+use mathlib.Core.Path.{ap, sym, ◌∙◌}
 use mathlib.Core.Bool.{not}
-use mathlib.Core.Path.{sym, ◌∙◌}
 use Rattle.ion.specs.Value.{signed}
 use Rattle.ion.specs.Fields.{var_int}
 use Rattle.read_bodies.proofs.VarFields.{FieldAt, var_int_is, var_int_none}
