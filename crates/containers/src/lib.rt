@@ -1,4 +1,6 @@
 // Containers in a lent buffer: opening reserves two bytes for each header, closing puts the headers in their short form and moves what lies behind them.
+#![tactic(auto)]
+
 ghost use Rattle.std.specs.Prelude.{◌≡◌, Bool, List, [], ◌∷◌, ◌++◌, ℕ, ◌+◌, ◌-◌, ◌*◌, ◌/◌, ◌<◌, ◌≤◌, length, take, drop, replicate};
 ghost use Rattle.encoding.specs.Headers.{header_bytes, annotation_bytes};
 ghost use Rattle.machine.specs.Machine.{reserve, closed_bytes, length_if_moved, moved_bytes};

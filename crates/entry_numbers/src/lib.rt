@@ -1,4 +1,6 @@
 // The numbers that cross between a host and the writer: a refusal's, a type's, a precision's, and what says whether an offset or a fraction is given.
+#![tactic(auto)]
+
 ghost use Rattle.std.specs.Prelude.{◌≡◌};
 ghost use Rattle.machine.specs.Numbers.{number, verdict_of};
 ghost use Rattle.state_bytes.specs.StateBytes.{number_of};

@@ -1,6 +1,8 @@
 // The entry points that write a scalar given by a slice: ints and decimals of any size, strings and lobs; state and buffer are lent.
 // Each answers 0 for an accepted call, or the refusal's number. A refused call leaves state and buffer as they were.
 // A number that stands for yes or no is no where it is 0.
+#![tactic(auto)]
+
 ghost use Rattle.std.specs.Prelude.{◌≡◌};
 ghost use Rattle.state_bytes.specs.StateBytes.{entered};
 ghost use Rattle.entry_steps.specs.Entries.{entered_as};

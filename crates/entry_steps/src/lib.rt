@@ -1,5 +1,7 @@
 // What the entry points share: the answer of one that puts bytes at the end of the used ones.
 // The laws in proofs/ say what an entry point answers and leaves, by how far it gets.
+#![tactic(auto)]
+
 ghost use Rattle.std.specs.Prelude.{◌≡◌, false, ◌+◌};
 ghost use Rattle.machine.specs.Machine.{counted};
 ghost use Rattle.machine.specs.Numbers.{number};

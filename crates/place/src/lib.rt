@@ -1,5 +1,7 @@
 // The checks 1 to 3 of the table "Checks by place", by the state and the length of the buffer that is lent with it.
 // They hold for any state that anyone can hand in.
+#![tactic(auto)]
+
 ghost use Rattle.std.specs.Prelude.{◌≡◌, Bool, true, not, ◌||◌, ◌≤◌};
 ghost use Rattle.machine.specs.declared.State.{State};
 ghost use Rattle.machine.specs.Machine.{most_open, open_containers, is_open, in_struct, container_fits, fits, lacks_name, place_verdict};

@@ -1,4 +1,6 @@
 // The small values (document 02, Item 12): byte strings of one to three bytes by their size and their big-endian number, and which of them is the next.
+#![tactic(auto)]
+
 ghost use Rattle.std.specs.Prelude.{◌≡◌, ◌≤◌, length};
 ghost use Rattle.encoding.specs.Digits.{low_digits};
 ghost use Rattle.unpadded.specs.Rule.{is_one_value};

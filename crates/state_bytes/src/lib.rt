@@ -1,4 +1,6 @@
 // A writer's state as lent bytes, and the checks by place on them. No State is made: what lies in an array at a computed place would be copied at every call.
+#![tactic(auto)]
+
 ghost use Rattle.std.specs.Prelude.{◌≡◌, false, not, ◌&&◌, ◌||◌, [], ◌∷◌, ◌+◌, ◌-◌, ◌*◌, ◌^◌, ◌≤◌, ◌<◌, eqb, leb, length, get_or};
 ghost use Rattle.buffer.specs.Laid.{laid, placed};
 ghost use Rattle.ion.specs.Value.{list_code, sexp_code, struct_code};

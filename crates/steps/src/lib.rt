@@ -1,5 +1,7 @@
 // What the calls share: the kinds of containers, why a value that may stand where it stands was not put, and the answer of a call that puts bytes.
 // The laws in proofs/ say what the machine answers and leaves, by how far a call gets.
+#![tactic(auto)]
+
 ghost use Rattle.std.specs.Prelude.{◌≡◌, ◌+◌, ◌%◌, ◌^◌, false, ◌≢◌};
 ghost use Rattle.encoding.specs.Argument.{write_int, write_decimal, write_string};
 ghost use Rattle.machine.specs.Machine.{container_code, refused};

@@ -1,5 +1,7 @@
 // The calls that write a scalar: document 01's module value_writer, over a state by value and a lent buffer.
 // Each call checks its place, hands the work on numbers to a leaf, and answers with the next state.
+#![tactic(auto)]
+
 ghost use Rattle.std.specs.Prelude.{◌≡◌};
 ghost use Rattle.std.specs.Float.{binary32, binary64};
 ghost use Rattle.std.specs.Float.Ieee.{to_bits};

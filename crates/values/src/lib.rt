@@ -1,6 +1,8 @@
 // The scalars of document 01's value_writer with their annotations, put into a lent buffer.
 // Annotations are lent as bytes, eight a sid; no bytes are no annotations, and then the value goes out by itself.
 // A function answers how many bytes it put. It puts all or none, and none where one of the value's own checks refuses it.
+#![tactic(auto)]
+
 ghost use Rattle.std.specs.Prelude.{◌≡◌, List, ℕ, ◌*◌, ◌/◌, ◌<◌, length};
 ghost use Rattle.encoding.specs.Headers.{framed_bytes, annotated_bytes};
 ghost use Rattle.encoding.specs.Argument.{checked_bytes, write_null, write_bool, write_i64, write_int, write_f32, write_f64, write_decimal};

@@ -1,5 +1,7 @@
 // The writer: its calls over a state by value and a lent buffer. Those that write a scalar are crate value_writer's, handed on.
 // Each call checks its place, hands the work on numbers to a leaf, and answers with the next state.
+#![tactic(auto)]
+
 ghost use Rattle.std.specs.Prelude.{◌≡◌, false, ◌+◌, ◌-◌, ◌<◌, ◌≤◌, ◌^◌, length, set};
 ghost use Rattle.machine.specs.Machine.{config, most_open, innermost_first, in_struct, empty_state, finished_length, run};
 ghost use Rattle.machine.specs.Numbers.{outcome_of, closed_outcome};

@@ -38,6 +38,7 @@ module _ (b : List ℕ) (at : ℕ) (an : List ℕ) (n : ℕ) (l : List ℕ) (e :
       placed-some-of f =
           let q = e ∙ placed_before-fits b (at + 2) (annotation_bytes an) 2 f ∙ placed-fits b (at + 2) (annotation_bytes an) (omega arith) in
           (ap (λ (x : ℕ × List ℕ). x.0) q, ap (λ (x : ℕ × List ℕ). x.1) q)
+
   put-none : n ≡ 0 → (length b < at + (length (annotation_bytes an) + 4)) × (l ≡ b)
   put-none z =
       by_cases (leb (at + 2 + length (annotation_bytes an) + 2) (length b))

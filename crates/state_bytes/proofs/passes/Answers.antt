@@ -12,27 +12,27 @@ returns-then-room-gt-LONGEST_BUFFER c = rw (lt-leb c.args.room longest_buffer (o
 
 pub returns-then-room-used : goal.returns-then-room-used
 returns-then-room-used c = rw (
-      le-leb c.args.room longest_buffer (omega arith),
-      state_is c.args.st.now c.requires.1,
-      ← c.get_four-used.ensures.0,
-      lt-leb c.get_four-used.result c.args.room (omega arith),
-    )
+  le-leb c.args.room longest_buffer (omega arith),
+  state_is c.args.st.now c.requires.1,
+  ← c.get_four-used.ensures.0,
+  lt-leb c.get_four-used.result c.args.room (omega arith),
+)
 
 pub returns-then-barred : goal.returns-then-barred
 returns-then-barred c = rw (
-      le-leb c.args.room longest_buffer (omega arith),
-      state_is c.args.st.now c.requires.1,
-      ← c.get_four-used.ensures.0,
-      le-leb c.get_four-used.result c.args.room (omega arith),
-      c.if-barred.true,
-    )
+  le-leb c.args.room longest_buffer (omega arith),
+  state_is c.args.st.now c.requires.1,
+  ← c.get_four-used.ensures.0,
+  le-leb c.get_four-used.result c.args.room (omega arith),
+  c.if-barred.true,
+)
 
 pub returns : goal.returns
 returns c = rw (
-      le-leb c.args.room longest_buffer (omega arith),
-      state_is c.args.st.now c.requires.1,
-      ← c.get_four-used.ensures.0,
-      le-leb c.get_four-used.result c.args.room (omega arith),
-      c.if-barred.false,
-    )
+  le-leb c.args.room longest_buffer (omega arith),
+  state_is c.args.st.now c.requires.1,
+  ← c.get_four-used.ensures.0,
+  le-leb c.get_four-used.result c.args.room (omega arith),
+  c.if-barred.false,
+)
     (c.containers_fit.ensures ∙ rw (state_is c.args.st.now c.requires.1))
