@@ -66,7 +66,7 @@ def code_and_comments(text):
 
 
 def is_proof(path):
-    return os.path.basename(path) in ("Proof.antt", "Answers.antt", "Invariants.antt")
+    return "/proofs/" in path and os.path.basename(path) in ("Proof.antt", "Answers.antt", "Invariants.antt")
 
 
 def odd(word):

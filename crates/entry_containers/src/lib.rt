@@ -14,8 +14,7 @@ use machine::{Container, MOST_OPEN, Refusal};
 use steps::ContainerType;
 
 // A field name: its sid as a VarUInt.
-#[unsafe(no_mangle)]
-pub extern "C" fn gm_field_name(state: &mut [u8], buf: &mut [u8], sid: u64) -> u8
+pub fn gm_field_name(state: &mut [u8], buf: &mut [u8], sid: u64) -> u8
     ensures { entered_as result state.new buf.new
         ≡ entered (call_of (gm_field_name sid)) state.old buf.old }
 {
@@ -58,24 +57,21 @@ fn open(state: &mut [u8], buf: &mut [u8], annotations: &[u8], kind: ContainerTyp
     0
 }
 
-#[unsafe(no_mangle)]
-pub extern "C" fn gm_open_list(state: &mut [u8], buf: &mut [u8], annotations: &[u8]) -> u8
+pub fn gm_open_list(state: &mut [u8], buf: &mut [u8], annotations: &[u8]) -> u8
     ensures { entered_as result state.new buf.new
         ≡ entered (call_of (gm_open_list annotations.now)) state.old buf.old }
 {
     open(state, buf, annotations, ContainerType::List)
 }
 
-#[unsafe(no_mangle)]
-pub extern "C" fn gm_open_sexp(state: &mut [u8], buf: &mut [u8], annotations: &[u8]) -> u8
+pub fn gm_open_sexp(state: &mut [u8], buf: &mut [u8], annotations: &[u8]) -> u8
     ensures { entered_as result state.new buf.new
         ≡ entered (call_of (gm_open_sexp annotations.now)) state.old buf.old }
 {
     open(state, buf, annotations, ContainerType::Sexp)
 }
 
-#[unsafe(no_mangle)]
-pub extern "C" fn gm_open_struct(state: &mut [u8], buf: &mut [u8], annotations: &[u8]) -> u8
+pub fn gm_open_struct(state: &mut [u8], buf: &mut [u8], annotations: &[u8]) -> u8
     ensures { entered_as result state.new buf.new
         ≡ entered (call_of (gm_open_struct annotations.now)) state.old buf.old }
 {
@@ -85,8 +81,7 @@ pub extern "C" fn gm_open_struct(state: &mut [u8], buf: &mut [u8], annotations: 
 // A closing: the header, and the wrapper's, in their final form. What it answers of the container, in four bytes each, least significant first:
 // how many bytes it takes, how many members it has, and how many bytes moved. It answers in the slice `closed`, as far as that holds the numbers whole.
 // The container is then a member of the one that it lies in.
-#[unsafe(no_mangle)]
-pub extern "C" fn gm_close(state: &mut [u8], buf: &mut [u8], closed: &mut [u8]) -> u8
+pub fn gm_close(state: &mut [u8], buf: &mut [u8], closed: &mut [u8]) -> u8
     ensures { (entered_as result state.new buf.new ≡ entered (call_of gm_close) state.old buf.old)
         × (closed.new ≡ answered state.old buf.old closed.old) }
 {
@@ -106,8 +101,7 @@ pub extern "C" fn gm_close(state: &mut [u8], buf: &mut [u8], closed: &mut [u8]) 
 }
 
 // An abandonment: the innermost container's bytes are given back, and a name before it waits again.
-#[unsafe(no_mangle)]
-pub extern "C" fn gm_abandon(state: &mut [u8], buf: &mut [u8]) -> u8
+pub fn gm_abandon(state: &mut [u8], buf: &mut [u8]) -> u8
     ensures { entered_as result state.new buf.new
         ≡ entered (call_of gm_abandon) state.old buf.old }
 {

@@ -16,13 +16,7 @@ use machine::Refusal;
 use timestamp::Timestamp;
 
 // A null, by the type code.
-#[unsafe(no_mangle)]
-pub extern "C" fn gm_write_null(
-    state: &mut [u8],
-    buf: &mut [u8],
-    annotations: &[u8],
-    code: u8,
-) -> u8
+pub fn gm_write_null(state: &mut [u8], buf: &mut [u8], annotations: &[u8], code: u8) -> u8
     ensures { entered_as result state.new buf.new
         ≡ entered (call_of (gm_write_null annotations.now code)) state.old buf.old }
 {
@@ -39,13 +33,7 @@ pub extern "C" fn gm_write_null(
 }
 
 // A bool.
-#[unsafe(no_mangle)]
-pub extern "C" fn gm_write_bool(
-    state: &mut [u8],
-    buf: &mut [u8],
-    annotations: &[u8],
-    value: u8,
-) -> u8
+pub fn gm_write_bool(state: &mut [u8], buf: &mut [u8], annotations: &[u8], value: u8) -> u8
     ensures { entered_as result state.new buf.new
         ≡ entered (call_of (gm_write_bool annotations.now value)) state.old buf.old }
 {
@@ -57,13 +45,7 @@ pub extern "C" fn gm_write_bool(
 }
 
 // An int of 64 bits with its sign.
-#[unsafe(no_mangle)]
-pub extern "C" fn gm_write_i64(
-    state: &mut [u8],
-    buf: &mut [u8],
-    annotations: &[u8],
-    value: i64,
-) -> u8
+pub fn gm_write_i64(state: &mut [u8], buf: &mut [u8], annotations: &[u8], value: i64) -> u8
     ensures { entered_as result state.new buf.new
         ≡ entered (call_of (gm_write_i64 annotations.now value)) state.old buf.old }
 {
@@ -75,13 +57,7 @@ pub extern "C" fn gm_write_i64(
 }
 
 // A float by the bits of binary32.
-#[unsafe(no_mangle)]
-pub extern "C" fn gm_write_f32(
-    state: &mut [u8],
-    buf: &mut [u8],
-    annotations: &[u8],
-    bits: u32,
-) -> u8
+pub fn gm_write_f32(state: &mut [u8], buf: &mut [u8], annotations: &[u8], bits: u32) -> u8
     ensures { entered_as result state.new buf.new
         ≡ entered (call_of (gm_write_f32 annotations.now bits)) state.old buf.old }
 {
@@ -93,13 +69,7 @@ pub extern "C" fn gm_write_f32(
 }
 
 // A float by the bits of binary64, in four bytes where binary32 holds it.
-#[unsafe(no_mangle)]
-pub extern "C" fn gm_write_f64(
-    state: &mut [u8],
-    buf: &mut [u8],
-    annotations: &[u8],
-    bits: u64,
-) -> u8
+pub fn gm_write_f64(state: &mut [u8], buf: &mut [u8], annotations: &[u8], bits: u64) -> u8
     ensures { entered_as result state.new buf.new
         ≡ entered (call_of (gm_write_f64 annotations.now bits)) state.old buf.old }
 {
@@ -126,8 +96,7 @@ fn write_timestamp(state: &mut [u8], buf: &mut [u8], annotations: &[u8], value: 
 }
 
 // The same by numbers. A field past the precision means nothing, nor does an offset that is not known or a fraction that is not given.
-#[unsafe(no_mangle)]
-pub extern "C" fn gm_write_timestamp(
+pub fn gm_write_timestamp(
     state: &mut [u8],
     buf: &mut [u8],
     annotations: &[u8],
@@ -175,13 +144,7 @@ pub extern "C" fn gm_write_timestamp(
 }
 
 // A symbol by its sid.
-#[unsafe(no_mangle)]
-pub extern "C" fn gm_write_symbol(
-    state: &mut [u8],
-    buf: &mut [u8],
-    annotations: &[u8],
-    sid: u64,
-) -> u8
+pub fn gm_write_symbol(state: &mut [u8], buf: &mut [u8], annotations: &[u8], sid: u64) -> u8
     ensures { entered_as result state.new buf.new
         ≡ entered (call_of (gm_write_symbol annotations.now sid)) state.old buf.old }
 {

@@ -11,8 +11,7 @@ ghost use Rattle.entry_numbers.specs.EntryCall.{gm_write_int, gm_write_decimal, 
 use machine::Refusal;
 
 // An int of any size: its sign, and its magnitude from the highest byte on.
-#[unsafe(no_mangle)]
-pub extern "C" fn gm_write_int(
+pub fn gm_write_int(
     state: &mut [u8],
     buf: &mut [u8],
     annotations: &[u8],
@@ -39,8 +38,7 @@ pub extern "C" fn gm_write_int(
 }
 
 // A decimal: sign, coefficient from the highest byte on, exponent.
-#[unsafe(no_mangle)]
-pub extern "C" fn gm_write_decimal(
+pub fn gm_write_decimal(
     state: &mut [u8],
     buf: &mut [u8],
     annotations: &[u8],
@@ -73,13 +71,7 @@ pub extern "C" fn gm_write_decimal(
 }
 
 // A string, in UTF-8.
-#[unsafe(no_mangle)]
-pub extern "C" fn gm_write_string(
-    state: &mut [u8],
-    buf: &mut [u8],
-    annotations: &[u8],
-    bytes: &[u8],
-) -> u8
+pub fn gm_write_string(state: &mut [u8], buf: &mut [u8], annotations: &[u8], bytes: &[u8]) -> u8
     ensures { entered_as result state.new buf.new
         ≡ entered (call_of (gm_write_string annotations.now bytes.now)) state.old buf.old }
 {
@@ -94,13 +86,7 @@ pub extern "C" fn gm_write_string(
 }
 
 // A clob.
-#[unsafe(no_mangle)]
-pub extern "C" fn gm_write_clob(
-    state: &mut [u8],
-    buf: &mut [u8],
-    annotations: &[u8],
-    bytes: &[u8],
-) -> u8
+pub fn gm_write_clob(state: &mut [u8], buf: &mut [u8], annotations: &[u8], bytes: &[u8]) -> u8
     ensures { entered_as result state.new buf.new
         ≡ entered (call_of (gm_write_clob annotations.now bytes.now)) state.old buf.old }
 {
@@ -112,13 +98,7 @@ pub extern "C" fn gm_write_clob(
 }
 
 // A blob.
-#[unsafe(no_mangle)]
-pub extern "C" fn gm_write_blob(
-    state: &mut [u8],
-    buf: &mut [u8],
-    annotations: &[u8],
-    bytes: &[u8],
-) -> u8
+pub fn gm_write_blob(state: &mut [u8], buf: &mut [u8], annotations: &[u8], bytes: &[u8]) -> u8
     ensures { entered_as result state.new buf.new
         ≡ entered (call_of (gm_write_blob annotations.now bytes.now)) state.old buf.old }
 {

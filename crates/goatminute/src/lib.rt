@@ -33,8 +33,7 @@ fn clear(state: &mut [u8])
 }
 
 // A start: the empty state over a lent buffer that begins with a version marker.
-#[unsafe(no_mangle)]
-pub extern "C" fn gm_start(state: &mut [u8], buf: &mut [u8]) -> u8
+pub fn gm_start(state: &mut [u8], buf: &mut [u8]) -> u8
     ensures { entered_as result state.new buf.new ≡ start_entered state.old buf.old }
 {
     if state.len() != STATE_SIZE {
@@ -56,8 +55,7 @@ pub extern "C" fn gm_start(state: &mut [u8], buf: &mut [u8]) -> u8
 }
 
 // A version marker, at the place of the call.
-#[unsafe(no_mangle)]
-pub extern "C" fn gm_version_marker(state: &mut [u8], buf: &mut [u8]) -> u8
+pub fn gm_version_marker(state: &mut [u8], buf: &mut [u8]) -> u8
     ensures { entered_as result state.new buf.new
         ≡ entered (call_of gm_version_marker) state.old buf.old }
 {
@@ -69,8 +67,7 @@ pub extern "C" fn gm_version_marker(state: &mut [u8], buf: &mut [u8]) -> u8
 }
 
 // An emptying: the used length becomes zero, and no byte of the buffer alters.
-#[unsafe(no_mangle)]
-pub extern "C" fn gm_empty(state: &mut [u8], buf: &[u8]) -> u8
+pub fn gm_empty(state: &mut [u8], buf: &[u8]) -> u8
     ensures { entered_as result state.new buf.now
         ≡ entered (call_of gm_empty) state.old buf.now }
 {
@@ -84,8 +81,7 @@ pub extern "C" fn gm_empty(state: &mut [u8], buf: &[u8]) -> u8
 }
 
 // A taking: how many bytes from the buffer's front are finished.
-#[unsafe(no_mangle)]
-pub extern "C" fn gm_finished(state: &[u8], buf: &[u8]) -> usize
+pub fn gm_finished(state: &[u8], buf: &[u8]) -> usize
     ensures { result ≡ finished_length (state_of state.now) (length buf.now) }
 {
     state_bytes::finished_length(state, buf.len())

@@ -43,35 +43,35 @@ abbrev pub no_more : ℕ
 no_more = 0xFF
 
 -- name, sids' start and stop, type byte, body's start and stop
-abbrev pub itemAnswer : ℕ → Item → List ℕ → Answered
-itemAnswer at (I.No r) lent = refuses r lent
-itemAnswer at I.End lent = accepts (0 ∷ at ∷ at ∷ no_more ∷ at ∷ at ∷ []) lent
-itemAnswer at (I.Is name from to b start stop) lent = accepts (name ∷ from ∷ to ∷ b ∷ start ∷ stop ∷ []) lent
+abbrev pub item_answer : ℕ → Item → List ℕ → Answered
+item_answer at (I.No r) lent = refuses r lent
+item_answer at I.End lent = accepts (0 ∷ at ∷ at ∷ no_more ∷ at ∷ at ∷ []) lent
+item_answer at (I.Is name from to b start stop) lent = accepts (name ∷ from ∷ to ∷ b ∷ start ∷ stop ∷ []) lent
 
 -- A refusal has its place here: where the item begins that does not read.
-abbrev pub readingAnswer : Reading → List ℕ → Answered
-readingAnswer R.Whole lent = (0, lent)
-readingAnswer (R.Refused r place) lent = (number r, laid 0 (place ∷ []) lent)
+abbrev pub reading_answer : Reading → List ℕ → Answered
+reading_answer R.Whole lent = (0, lent)
+reading_answer (R.Refused r place) lent = (number r, laid 0 (place ∷ []) lent)
 
 -- a sid and the place behind it
-abbrev pub numberAnswer : Number → List ℕ → Answered
-numberAnswer (N.No r) lent = refuses r lent
-numberAnswer (N.Is n next) lent = accepts (n ∷ next ∷ []) lent
+abbrev pub number_answer : Number → List ℕ → Answered
+number_answer (N.No r) lent = refuses r lent
+number_answer (N.Is n next) lent = accepts (n ∷ next ∷ []) lent
 
 -- the exponent's sign and magnitude, the coefficient's place
-abbrev pub decimalAnswer : Decimal → List ℕ → Answered
-decimalAnswer (D.No r) lent = refuses r lent
-decimalAnswer (D.Is negative exponent coefficient) lent = accepts (bit negative ∷ exponent ∷ coefficient ∷ []) lent
+abbrev pub decimal_answer : Decimal → List ℕ → Answered
+decimal_answer (D.No r) lent = refuses r lent
+decimal_answer (D.Is negative exponent coefficient) lent = accepts (bit negative ∷ exponent ∷ coefficient ∷ []) lent
 
-abbrev pub stampAnswer : Timestamp → Bool → List ℕ → Answered
-stampAnswer (T.No r) marked lent = refuses r lent
-stampAnswer (T.Is known negative offset count year month day hour minute second digits coefficient) marked lent =
+abbrev pub stamp_answer : Timestamp → Bool → List ℕ → Answered
+stamp_answer (T.No r) marked lent = refuses r lent
+stamp_answer (T.Is known negative offset count year month day hour minute second digits coefficient) marked lent =
     accepts (bit known ∷ bit negative ∷ offset ∷ count ∷ year ∷ month ∷ day ∷ hour ∷ minute ∷ second ∷ digits ∷ coefficient ∷ bit marked ∷ []) lent
 
 -- whether the offset is known, its sign and minutes; the count of fields, and six fields; the fraction's digits, and its coefficient's place; the mark
-abbrev pub timestampAnswer : Shown → List ℕ → Answered
-timestampAnswer x lent = stampAnswer x.timestamp x.marked lent
+abbrev pub timestamp_answer : Shown → List ℕ → Answered
+timestamp_answer x lent = stamp_answer x.timestamp x.marked lent
 
-abbrev pub symbolAnswer : Symbol → List ℕ → Answered
-symbolAnswer (S.No r) lent = refuses r lent
-symbolAnswer (S.Is n) lent = accepts (n ∷ []) lent
+abbrev pub symbol_answer : Symbol → List ℕ → Answered
+symbol_answer (S.No r) lent = refuses r lent
+symbol_answer (S.Is n) lent = accepts (n ∷ []) lent

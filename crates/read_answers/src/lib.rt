@@ -3,8 +3,8 @@
 
 ghost use Rattle.std.specs.Prelude.{◌≡◌, List, [], ◌∷◌, ℕ};
 ghost use Rattle.reading.specs.Refusals.{number};
-ghost use Rattle.read_answers.specs.Answers.{Answered, stored, laid, accepts, bit, itemAnswer, readingAnswer, numberAnswer, decimalAnswer};
-ghost use Rattle.read_answers.specs.Answers.{timestampAnswer, symbolAnswer};
+ghost use Rattle.read_answers.specs.Answers.{Answered, stored, laid, accepts, bit, item_answer, reading_answer, number_answer, decimal_answer};
+ghost use Rattle.read_answers.specs.Answers.{timestamp_answer, symbol_answer};
 
 use reading::{Decimal, Item, Number, Reading, Refusal, Shown, Symbol, Timestamp};
 
@@ -125,7 +125,7 @@ fn refuse_at(lent: &mut [u64], refusal: Refusal, place: usize) -> u8
 }
 
 pub fn answer_item(item: Item, at: usize, lent: &mut [u64]) -> u8
-    ensures { ◌≡◌ {A = Answered} (result, lent.new) (itemAnswer at item lent.old) }
+    ensures { ◌≡◌ {A = Answered} (result, lent.new) (item_answer at item lent.old) }
 {
     match item {
         Item::No(refusal) => number_of(refusal),
@@ -152,7 +152,7 @@ pub fn answer_item(item: Item, at: usize, lent: &mut [u64]) -> u8
 }
 
 pub fn answer_reading(reading: Reading, lent: &mut [u64]) -> u8
-    ensures { ◌≡◌ {A = Answered} (result, lent.new) (readingAnswer reading lent.old) }
+    ensures { ◌≡◌ {A = Answered} (result, lent.new) (reading_answer reading lent.old) }
 {
     match reading {
         Reading::Whole => 0,
@@ -161,7 +161,7 @@ pub fn answer_reading(reading: Reading, lent: &mut [u64]) -> u8
 }
 
 pub fn answer_number(n: Number, lent: &mut [u64]) -> u8
-    ensures { ◌≡◌ {A = Answered} (result, lent.new) (numberAnswer n lent.old) }
+    ensures { ◌≡◌ {A = Answered} (result, lent.new) (number_answer n lent.old) }
 {
     match n {
         Number::No(refusal) => number_of(refusal),
@@ -170,7 +170,7 @@ pub fn answer_number(n: Number, lent: &mut [u64]) -> u8
 }
 
 pub fn answer_decimal(decimal: Decimal, lent: &mut [u64]) -> u8
-    ensures { ◌≡◌ {A = Answered} (result, lent.new) (decimalAnswer decimal lent.old) }
+    ensures { ◌≡◌ {A = Answered} (result, lent.new) (decimal_answer decimal lent.old) }
 {
     match decimal {
         Decimal::No(refusal) => number_of(refusal),
@@ -183,7 +183,7 @@ pub fn answer_decimal(decimal: Decimal, lent: &mut [u64]) -> u8
 }
 
 pub fn answer_timestamp(shown: Shown, lent: &mut [u64]) -> u8
-    ensures { ◌≡◌ {A = Answered} (result, lent.new) (timestampAnswer shown lent.old) }
+    ensures { ◌≡◌ {A = Answered} (result, lent.new) (timestamp_answer shown lent.old) }
 {
     let timestamp = shown.timestamp;
     match timestamp {
@@ -221,7 +221,7 @@ pub fn answer_timestamp(shown: Shown, lent: &mut [u64]) -> u8
 }
 
 pub fn answer_symbol(symbol: Symbol, lent: &mut [u64]) -> u8
-    ensures { ◌≡◌ {A = Answered} (result, lent.new) (symbolAnswer symbol lent.old) }
+    ensures { ◌≡◌ {A = Answered} (result, lent.new) (symbol_answer symbol lent.old) }
 {
     match symbol {
         Symbol::No(refusal) => number_of(refusal),
