@@ -99,7 +99,7 @@ fn is_right(part: usize, text: &[u8]) -> bool
 }
 
 // Whether a line is a value and nothing else.
-pub(crate) fn is_value(line: &[u8], stack: &mut [u8; 4096]) -> bool
+pub(crate) fn is_value(line: &[u8], stack: &mut [u8; 4097]) -> bool
     requires { length line.now ≤ 4096 }
 {
     let mut at: usize = 0;

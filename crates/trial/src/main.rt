@@ -70,7 +70,7 @@ fn put_answer(
     buf: &mut [u8; 16384],
     sids: &mut [u8; 32768],
     bytes: &mut [u8],
-    stack: &mut [u8; 4096],
+    stack: &mut [u8; 4097],
 ) -> usize
     ensures { result ≤ 32768 }
 {
@@ -90,7 +90,7 @@ fn answer(
     buf: &mut [u8; 16384],
     sids: &mut [u8; 32768],
     bytes: &mut [u8],
-    stack: &mut [u8; 4096],
+    stack: &mut [u8; 4097],
 ) -> usize
     requires { (used ≤ 32767) × (65536 ≤ length out.old) }
     ensures { result ≤ 65536 }
@@ -123,8 +123,8 @@ fn answer_lines(rt: &impl Print, text: &[u8]) -> Result<usize, Failure>
     let mut out = [0u8; BLOCK];
     let mut buf = [0u8; ROOM];
     let mut sids = [0u8; 8 * walk::LONGEST_LINE];
-    let mut bytes = [0u8; walk::LONGEST_LINE / 2];
-    let mut stack = [walk::NOTHING; walk::LONGEST_LINE];
+    let mut bytes = [0u8; run::MOST_BYTES];
+    let mut stack = [walk::NOTHING; walk::LONGEST_LINE + 1];
     let mut used: usize = 0;
     let mut at: usize = 0;
     let mut end = words::find(text, 0, b'\n');

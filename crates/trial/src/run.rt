@@ -10,6 +10,9 @@ const TEXT: u8 = 11;
 
 const NOT_OF_FORM: u8 = 12;
 
+// A line has at most 4,096 hex digits.
+pub(crate) const MOST_BYTES: usize = 2048;
+
 // The number of a precision by a timestamp's words: name, offset and fields.
 fn precision(words: usize) -> u8 {
     match words {
@@ -175,7 +178,7 @@ fn run_value(
     buf: &mut [u8; 16384],
     sids: &mut [u8; 32768],
     bytes: &mut [u8],
-    stack: &mut [u8; 4096],
+    stack: &mut [u8; 4097],
 ) -> u8
     requires { length line.now ≤ 4096 }
 {
@@ -207,7 +210,7 @@ pub(crate) fn run(
     buf: &mut [u8; 16384],
     sids: &mut [u8; 32768],
     bytes: &mut [u8],
-    stack: &mut [u8; 4096],
+    stack: &mut [u8; 4097],
 ) -> u8 {
     if walk::LONGEST_LINE < line.len() {
         return NOT_OF_FORM;

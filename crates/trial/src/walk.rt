@@ -253,7 +253,7 @@ pub(crate) fn next(line: &[u8], at: usize, due: u8) -> Step
 }
 
 // How much of the stack is in use behind a step.
-pub(crate) fn depth_behind(stack: &mut [u8; 4096], depth: usize, step: Step) -> usize
+pub(crate) fn depth_behind(stack: &mut [u8; 4097], depth: usize, step: Step) -> usize
     requires { depth < 4096 }
     ensures { result ≤ depth + 1 }
 {
@@ -269,7 +269,7 @@ pub(crate) fn depth_behind(stack: &mut [u8; 4096], depth: usize, step: Step) -> 
 }
 
 // What is due behind a step. Of the stack only what this line put there is read.
-pub(crate) fn due_behind(stack: &[u8; 4096], depth: usize, step: Step) -> u8
+pub(crate) fn due_behind(stack: &[u8; 4097], depth: usize, step: Step) -> u8
     requires { depth ≤ 4096 }
 {
     if step.due != NOTHING {
