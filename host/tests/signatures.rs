@@ -101,6 +101,27 @@ fn entry_points_header_and_declarations_agree() {
     assert_eq!(header, exported);
 }
 
+/// Of each entry point the text between its name and its body, as it is laid out aside: parameters, answer and clauses.
+fn promises(text: &str, before: &str) -> BTreeMap<String, String> {
+    let promise = |declaration: &str| {
+        let (name, rest) = between(declaration, "(");
+        let promise: String = between(rest, "\n{\n").0.split_whitespace().collect();
+        // a list over several lines ends in a comma
+        (name.to_string(), promise.replace(",)", ")"))
+    };
+    text.split(before).skip(1).map(promise).collect()
+}
+
+/// A weaker clause of an export would be proved all the same.
+#[test]
+fn exports_promise_what_the_entry_points_do() {
+    let sources = libraries();
+    let exports = promises(&sources, "pub extern \"C\" fn gm_");
+    assert_eq!(exports.len(), 28);
+    assert!(exports.values().all(|promise| promise.contains("ensures{")));
+    assert_eq!(exports, promises(&sources, "pub fn gm_"));
+}
+
 #[test]
 fn header_has_the_constants() {
     let header = read("include/goatminute.h");
