@@ -20,7 +20,7 @@ loop-made-init c = let a = c.args in
     let s = c.encoded_size_of-size.ensures in
     let h = room c.has_room.result a.buf.now _ c.has_room.ensures c.if-not-has_room.false-raw in
     let out = var_uint_bytes a.value in
-    (s, h, refl, omega arith, omega arith, sym (filled_none a.buf.now a.at out), omega arith, all_to_come a.value _ (omega (arith, s)))
+    (s, h, refl, omega arith, omega arith, sym (filled_none a.buf.now a.at out (omega (arith, s))), omega arith, all_to_come a.value _ (omega (arith, s)))
 
 pub returns-then-limit-made : goal.returns-then-limit-made
 returns-then-limit-made c = let l = c.loop-made in
