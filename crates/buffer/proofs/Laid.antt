@@ -156,39 +156,56 @@ pub written-some : (b : List ℕ) (at : ℕ) (out : List ℕ) → 0 < length out
 written-some b at [] h = absurd (omega arith)
 written-some b at (x ∷ xs) h = refl
 
--- What is left of a call that placed bytes: r is its answer, l the buffer after it.
-module _ (b : List ℕ) (at : ℕ) (xs : List ℕ) (r : Option ℕ) (l : List ℕ) (e : ◌≡◌ {A = Option ℕ × List ℕ} (r, l) (placed b at xs)) where
-  -- the buffer keeps its length
-  pub placed-length : length l ≡ length b
-  placed-length =
-      ap (λ (x : Option ℕ × List ℕ). length x.1) e
-      ∙ ⊎_elim (λ w. ap (λ (x : Option ℕ × List ℕ). length x.1) w.1 ∙ length-laid b at xs w.0)
-      (λ w. ap (λ (x : Option ℕ × List ℕ). length x.1) w.1) (placed_or b at xs)
+-- A call that placed bytes leaves a buffer of the same length.
+pub placed-length : (b : List ℕ) (at : ℕ) (xs : List ℕ) (r : Option ℕ) (l : List ℕ) → ◌≡◌ {A = Option ℕ × List ℕ} (r, l) (placed b at xs) → length l ≡ length b
+placed-length b at xs r l e =
+    ap (λ (x : Option ℕ × List ℕ). length x.1) e
+    ∙ ⊎_elim (λ w. ap (λ (x : Option ℕ × List ℕ). length x.1) w.1 ∙ length-laid b at xs w.0)
+    (λ w. ap (λ (x : Option ℕ × List ℕ). length x.1) w.1) (placed_or b at xs)
 
-  -- where there is room, all bytes are put
-  module _ (h : at + length xs ≤ length b) where
-    placed_pair : ◌≡◌ {A = Option ℕ × List ℕ} (r, l) (Some (length xs), laid b at xs)
-    placed_pair = e ∙ placed-fits b at xs h
+-- none is put only where there is no room, and then nothing alters
+pub placed-none : (b : List ℕ) (at : ℕ) (xs : List ℕ) (l : List ℕ) → ◌≡◌ {A = Option ℕ × List ℕ} (None, l) (placed b at xs) → (length b < at + length xs) × (l ≡ b)
+placed-none b at xs l e = ⊎_elim
+    (λ w. absurd (none-some (length xs) (ap (λ (x : Option ℕ × List ℕ). x.0) (e ∙ w.1))))
+    (λ w. (w.0, ap (λ (x : Option ℕ × List ℕ). x.1) (e ∙ w.1)))
+    (placed_or b at xs)
 
-    pub placed_count : r ≡ Some (length xs)
-    placed_count = ap (λ (x : Option ℕ × List ℕ). x.0) placed_pair
+-- where there is room, all bytes are put
+pub placed-room : (b : List ℕ) (at : ℕ) (xs : List ℕ) (l : List ℕ) → at + length xs ≤ length b → ◌≡◌ {A = Option ℕ × List ℕ} (None, l) (placed b at xs) → ⊥
+placed-room b at xs l h e = let k = placed-none b at xs l e in omega (arith, k.0)
 
-    pub placed-laid : l ≡ laid b at xs
-    placed-laid = ap (λ (x : Option ℕ × List ℕ). x.1) placed_pair
-
-  -- none is put only where there is no room
-  pub placed-none : r ≡ None → (length b < at + length xs) × (l ≡ b)
-  placed-none z = ⊎_elim
-      (λ w. absurd (none-some (length xs) (sym z ∙ ap (λ (x : Option ℕ × List ℕ). x.0) (e ∙ w.1))))
-      (λ w. (w.0, ap (λ (x : Option ℕ × List ℕ). x.1) (e ∙ w.1)))
-      (placed_or b at xs)
-
+-- What is left of a call that put n bytes.
+module _ (b : List ℕ) (at : ℕ) (xs : List ℕ) (n : ℕ) (l : List ℕ) (e : ◌≡◌ {A = Option ℕ × List ℕ} (Some n, l) (placed b at xs)) where
   -- some are put only where there is room for all, and then all
-  pub placed-some : (n : ℕ) → r ≡ Some n → (at + length xs ≤ length b) × (n ≡ length xs) × (l ≡ laid b at xs)
-  placed-some n z = ⊎_elim
-      (λ w. (w.0, same_Some n (length xs) (sym z ∙ placed_count w.0), placed-laid w.0))
-      (λ w. absurd (none-some n (sym (sym z ∙ ap (λ (x : Option ℕ × List ℕ). x.0) (e ∙ w.1)))))
+  pub placed-some : (at + length xs ≤ length b) × (n ≡ length xs) × (l ≡ laid b at xs)
+  placed-some = ⊎_elim
+      (λ w. (w.0, same_Some n (length xs) (ap (λ (x : Option ℕ × List ℕ). x.0) (e ∙ w.1)), ap (λ (x : Option ℕ × List ℕ). x.1) (e ∙ w.1)))
+      (λ w. absurd (none-some n (sym (ap (λ (x : Option ℕ × List ℕ). x.0) (e ∙ w.1)))))
       (placed_or b at xs)
+
+  -- a second call puts its bytes behind those of the first
+  pub placed_then : (ys : List ℕ) (m : ℕ) (l' : List ℕ) → ◌≡◌ {A = Option ℕ × List ℕ} (Some m, l') (placed l (at + n) ys) → ◌≡◌ {A = Option ℕ × List ℕ} (Some (n + m), l') (placed b at (xs ++ ys))
+  placed_then ys m l' e' =
+      let p = placed-some in
+      let k : length l ≡ length b = placed-length b at xs (Some n) l e in
+      let q = placed_second ys m l' e' in
+      placed_by b at (xs ++ ys) (n + m) l' (omega (arith, p.1, q.0, k, length-append xs ys)) (omega (arith, p.1, q.1, length-append xs ys))
+      (q.2 ∙ rw (p.2, p.1) (laid_more b at xs p.0 ys))
+    where
+      placed_second : (ys : List ℕ) (m : ℕ) (l' : List ℕ) → ◌≡◌ {A = Option ℕ × List ℕ} (Some m, l') (placed l (at + n) ys)
+          → (at + n + length ys ≤ length l) × (m ≡ length ys) × (l' ≡ laid l (at + n) ys)
+      placed_second ys m l' e' = ⊎_elim
+          (λ w. (w.0, same_Some m (length ys) (ap (λ (x : Option ℕ × List ℕ). x.0) (e' ∙ w.1)), ap (λ (x : Option ℕ × List ℕ). x.1) (e' ∙ w.1)))
+          (λ w. absurd (none-some m (sym (ap (λ (x : Option ℕ × List ℕ). x.0) (e' ∙ w.1)))))
+          (placed_or l (at + n) ys)
+
+  -- a second call has no room for its bytes only where both have none
+  pub placed_then_none : (ys : List ℕ) (l' : List ℕ) → ◌≡◌ {A = Option ℕ × List ℕ} (None, l') (placed l (at + n) ys) → length b < at + (length xs + length ys)
+  placed_then_none ys l' e' =
+      let p = placed-some in
+      let k : length l ≡ length b = placed-length b at xs (Some n) l e in
+      let q = placed-none l (at + n) ys l' e' in
+      omega (arith, p.1, q.0, k)
 
 -- ---- what a test of the room tells
 
@@ -202,8 +219,8 @@ leb_iff a b x y f g = go (leb a b) (leb x y) refl refl
     go false true p q = sym p ∙ le-leb a b (g (leb-true x y q))
 
 module _ (r : Bool) (b : List ℕ) (end : ℕ) (e : r ≡ leb end (length b)) where
-  pub no_room : not r ≡ true → length b < end
-  no_room t = leb-false end (length b) (sym e ∙ not-true r t)
+  pub no_room : r ≡ false → length b < end
+  no_room t = leb-false end (length b) (sym e ∙ t)
 
-  pub room : not r ≡ false → end ≤ length b
-  room t = leb-true end (length b) (sym e ∙ not-false r t)
+  pub room : r ≡ true → end ≤ length b
+  room t = leb-true end (length b) (sym e ∙ t)

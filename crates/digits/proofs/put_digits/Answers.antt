@@ -15,13 +15,13 @@ use Rattle.digits.proofs.put_digits.Goals as goal
 
 pub returns-then-not-has_room : goal.returns-then-not-has_room
 returns-then-not-has_room c = let a = c.args in
-    let h = no_room c.has_room.result a.buf.now _ c.has_room.ensures c.if-not-has_room.true-raw in
+    let h = no_room c.has_room.result a.buf.now _ c.has_room.ensures c.if-not-has_room.true in
     sym (placed_full a.buf.now a.at (low_digits (a.greatest + 1) a.count a.value)
     (omega (arith, length-low_digits (a.greatest + 1) a.count a.value)))
 
 pub loop-i-init : goal.loop-i-init
 loop-i-init c = let a = c.args in
-    let h = room c.has_room.result a.buf.now _ c.has_room.ensures c.if-not-has_room.false-raw in
+    let h = room c.has_room.result a.buf.now _ c.has_room.ensures c.if-not-has_room.false in
     (omega arith, omega arith, refl, [], omega arith, sym (laid_nil a.buf.now (a.at + a.count)), append-nil _)
 
 pub loop-i-preserved : goal.loop-i-preserved

@@ -21,7 +21,7 @@ pub returns-then-not-has_room : goal.returns-then-not-has_room
 returns-then-not-has_room c = let a = c.args in
     let short =
     no_room c.has_room.result a.buf.now (a.at + (c.encoded_size_of.result + c.body_size-body.result)) c.has_room.ensures
-    c.if-not-has_room.true-raw in
+    c.if-not-has_room.true in
     let e = value-size a.t c.requires c.body_size-body.result c.body_size-body.ensures c.encoded_size_of.result c.encoded_size_of.ensures in
     sym (placed_full a.buf.now a.at (value_of a.t) (rw e at short))
 
@@ -30,7 +30,7 @@ overflow_add-at c =
     let within : let a = c.args in
     a.at + (length (header_bytes 0 (length (body_of a.t))) + length (body_of a.t)) ≤ length a.buf.now = let a = c.args in
     rw (← c.body_size-body.ensures, ← c.encoded_size_of.ensures)
-    (room c.has_room.result a.buf.now (a.at + (c.encoded_size_of.result + c.body_size-body.result)) c.has_room.ensures c.if-not-has_room.false-raw) in
+    (room c.has_room.result a.buf.now (a.at + (c.encoded_size_of.result + c.body_size-body.result)) c.has_room.ensures c.if-not-has_room.false) in
     let header : let a = c.args in
     ◌≡◌ {A = ℕ × List ℕ} (c.write-header.result, c.write-header.new.buf) (placed a.buf.now a.at (header_bytes (type_byte timestamp_code) (length (body_of a.t)))) = rw (← c.body_size-body.ensures) c.write-header.ensures in
     let body_behind : let a = c.args in
@@ -43,7 +43,7 @@ put_body-requires c =
     let within : let a = c.args in
     a.at + (length (header_bytes 0 (length (body_of a.t))) + length (body_of a.t)) ≤ length a.buf.now = let a = c.args in
     rw (← c.body_size-body.ensures, ← c.encoded_size_of.ensures)
-    (room c.has_room.result a.buf.now (a.at + (c.encoded_size_of.result + c.body_size-body.result)) c.has_room.ensures c.if-not-has_room.false-raw) in
+    (room c.has_room.result a.buf.now (a.at + (c.encoded_size_of.result + c.body_size-body.result)) c.has_room.ensures c.if-not-has_room.false) in
     let header : let a = c.args in
     ◌≡◌ {A = ℕ × List ℕ} (c.write-header.result, c.write-header.new.buf) (placed a.buf.now a.at (header_bytes (type_byte timestamp_code) (length (body_of a.t)))) = rw (← c.body_size-body.ensures) c.write-header.ensures in
     let body_behind : let a = c.args in
@@ -56,7 +56,7 @@ overflow_add-result c =
     let within : let a = c.args in
     a.at + (length (header_bytes 0 (length (body_of a.t))) + length (body_of a.t)) ≤ length a.buf.now = let a = c.args in
     rw (← c.body_size-body.ensures, ← c.encoded_size_of.ensures)
-    (room c.has_room.result a.buf.now (a.at + (c.encoded_size_of.result + c.body_size-body.result)) c.has_room.ensures c.if-not-has_room.false-raw) in
+    (room c.has_room.result a.buf.now (a.at + (c.encoded_size_of.result + c.body_size-body.result)) c.has_room.ensures c.if-not-has_room.false) in
     let header : let a = c.args in
     ◌≡◌ {A = ℕ × List ℕ} (c.write-header.result, c.write-header.new.buf) (placed a.buf.now a.at (header_bytes (type_byte timestamp_code) (length (body_of a.t)))) = rw (← c.body_size-body.ensures) c.write-header.ensures in
     let a = c.args in
@@ -74,7 +74,7 @@ returns c =
     let within : let a = c.args in
     a.at + (length (header_bytes 0 (length (body_of a.t))) + length (body_of a.t)) ≤ length a.buf.now = let a = c.args in
     rw (← c.body_size-body.ensures, ← c.encoded_size_of.ensures)
-    (room c.has_room.result a.buf.now (a.at + (c.encoded_size_of.result + c.body_size-body.result)) c.has_room.ensures c.if-not-has_room.false-raw) in
+    (room c.has_room.result a.buf.now (a.at + (c.encoded_size_of.result + c.body_size-body.result)) c.has_room.ensures c.if-not-has_room.false) in
     let header : let a = c.args in
     ◌≡◌ {A = ℕ × List ℕ} (c.write-header.result, c.write-header.new.buf) (placed a.buf.now a.at (header_bytes (type_byte timestamp_code) (length (body_of a.t)))) = rw (← c.body_size-body.ensures) c.write-header.ensures in
     let a = c.args in

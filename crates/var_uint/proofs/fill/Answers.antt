@@ -12,13 +12,13 @@ use Rattle.var_uint.proofs.fill.Goals as goal
 
 pub returns-then-not-has_room : goal.returns-then-not-has_room
 returns-then-not-has_room c = let a = c.args in
-    let h = no_room c.has_room.result a.buf.now _ c.has_room.ensures c.if-not-has_room.true-raw in
+    let h = no_room c.has_room.result a.buf.now _ c.has_room.ensures c.if-not-has_room.true in
     sym (filled_full a.buf.now a.at (var_uint_bytes a.value) a.limit (omega (arith, c.encoded_size_of-size.ensures)))
 
 pub loop-made-init : goal.loop-made-init
 loop-made-init c = let a = c.args in
     let s = c.encoded_size_of-size.ensures in
-    let h = room c.has_room.result a.buf.now _ c.has_room.ensures c.if-not-has_room.false-raw in
+    let h = room c.has_room.result a.buf.now _ c.has_room.ensures c.if-not-has_room.false in
     let out = var_uint_bytes a.value in
     (s, h, refl, omega arith, omega arith, sym (filled_none a.buf.now a.at out (omega (arith, s))), omega arith, all_to_come a.value _ (omega (arith, s)))
 
