@@ -32,10 +32,9 @@ pub fn copy(buf: &mut [u8], at: usize, src: &[u8]) -> usize
     if !has_room(buf.len(), at, src.len()) {
         return 0;
     }
-    let mut i: usize = 0;
-    while i < src.len() {
-        buf[at + i] = src[i];
-        i += 1;
+    // The library's copy_from_slice becomes a call of memmove, which scripts/no-copies takes for a copy of the state.
+    for (i, byte) in src.iter().enumerate() {
+        buf[at + i] = *byte;
     }
-    i
+    src.len()
 }
