@@ -23,8 +23,8 @@ pub fn put_digits(buf: &mut [u8], at: usize, count: usize, greatest: u8, value: 
     }
     let base = u64::from(greatest) + 1;
     let mut rest = value;
-    for i in (at..at + count).rev() {
-        buf[i] = (rest % base) as u8;
+    for i in (0..count).rev() {
+        buf[at + i] = (rest % base) as u8;
         rest = rest / base;
     }
     count

@@ -33,19 +33,15 @@ pub fn fill(buf: &mut [u8], at: usize, value: u64, limit: usize) -> usize
     if !buffer::has_room(buf.len(), at, size) {
         return 0;
     }
+    let count = size.min(limit);
     let mut flag = END_FLAG;
     let mut rest = value;
-    let mut made: usize = 0;
-    while made < size {
-        if limit <= made {
-            return made;
-        }
-        made += 1;
-        buf[at + (size - made)] = flag + (rest % 128) as u8;
+    for i in (size - count..size).rev() {
+        buf[at + i] = flag + (rest % 128) as u8;
         flag = 0;
         rest = rest / 128;
     }
-    made
+    count
 }
 
 // `value` as a VarUInt. Most lengths and sids take one byte, a whole field of one store, so that is asked first.
