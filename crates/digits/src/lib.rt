@@ -21,11 +21,9 @@ pub fn put_digits(buf: &mut [u8], at: usize, count: usize, greatest: u8, value: 
     if !buffer::has_room(buf.len(), at, count) {
         return None;
     }
-    let base = greatest as u64 + 1;
-    let mut i = count;
+    let base = u64::from(greatest) + 1;
     let mut rest = value;
-    while 0 < i {
-        i -= 1;
+    for i in (0..count).rev() {
         buf[at + i] = (rest % base) as u8;
         rest = rest / base;
     }

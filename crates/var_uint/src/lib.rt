@@ -25,7 +25,7 @@ pub fn encoded_size_of(value: u64) -> usize
 }
 
 // The last `limit` bytes of `value` as a VarUInt at `at`, or all if it has no more: the byte with the end flag by the first store, and by each further
-// one the byte before. Answers how many stores it made, or None where the whole field does not fit.
+// one the byte before. Answers how many stores it made, or makes none where the whole field does not fit.
 pub fn fill(buf: &mut [u8], at: usize, value: u64, limit: usize) -> Option<usize>
     ensures { ◌≡◌ {A = Option ℕ × List ℕ} (result, buf.new) (filled limit buf.old at (var_uint_bytes value)) }
 {
@@ -33,19 +33,15 @@ pub fn fill(buf: &mut [u8], at: usize, value: u64, limit: usize) -> Option<usize
     if !buffer::has_room(buf.len(), at, size) {
         return None;
     }
+    let count = size.min(limit);
     let mut flag = END_FLAG;
     let mut rest = value;
-    let mut made: usize = 0;
-    while made < size {
-        if limit <= made {
-            return Some(made);
-        }
-        made += 1;
-        buf[at + (size - made)] = flag + (rest % 128) as u8;
+    for i in (size - count..size).rev() {
+        buf[at + i] = flag + (rest % 128) as u8;
         flag = 0;
         rest = rest / 128;
     }
-    Some(made)
+    Some(count)
 }
 
 // `value` as a VarUInt. Most lengths and sids take one byte, a whole field of one store, so that is asked first.

@@ -1,14 +1,31 @@
--- The bytes of `src` become a part of the buffer, which is what it is to be laid there. Assumes nothing.
-use mathlib.Core.Path.{sym, refl}
+-- Each turn lays one byte more behind those that are laid. Assumes nothing.
+use mathlib.Core.Path.{◌≡◌, sym, ◌∙◌, ap, refl}
+use Prim.Native.Nat.{◌+◌}
 use native.Mathlib.Omega.{arith}
-use Rattle.buffer.proofs.Laid.{laid_part, no_room, placed_by, placed_full, room}
+use native.Mathlib.Numerals.{add-one}
+use lib.ListN.{length, take, get_or}
+use lib.Seq.{take-suc, take_all, length-take-le}
+use Rattle.buffer.specs.Laid.{laid}
+use Rattle.buffer.proofs.Laid.{laid_nil, laid_snoc, no_room, placed_by, placed_full, room}
 use Rattle.buffer.proofs.copy.Goals as goal
 
 pub returns-then-not-has_room : goal.returns-then-not-has_room
 returns-then-not-has_room c = let a = c.args in
-    sym (placed_full a.buf.now a.at a.src.now (no_room c.has_room.result a.buf.now _ c.has_room.ensures c.if-not-has_room.true))
+    sym (placed_full a.buf.now a.at a.src.now (no_room _ a.buf.now _ c.has_room.ensures c.if-not-has_room.true))
+
+pub loop-i-init : goal.loop-i-init
+loop-i-init c = let a = c.args in
+    (room _ a.buf.now _ c.has_room.ensures c.if-not-has_room.false, sym (laid_nil a.buf.now a.at))
+
+pub loop-i-preserved : goal.loop-i-preserved
+loop-i-preserved c = let a = c.args in
+    let l = c.loop-i in
+    let n : length (take l.i a.src.now) ≡ l.i = length-take-le l.i a.src.now (omega arith) in
+    (omega arith, rw (l.invariant.1, add-one, take-suc a.src.now l.i 0 (omega arith))
+    (laid_snoc a.buf.now a.at (take l.i a.src.now) (a.at + l.i) (get_or a.src.now l.i 0) (omega arith) (omega arith)))
 
 pub returns : goal.returns
 returns c = let a = c.args in
-    placed_by a.buf.now a.at a.src.now _ _ (room c.has_room.result a.buf.now _ c.has_room.ensures c.if-not-has_room.false) refl
-    (laid_part a.buf.now a.at _ a.src.now _ c.copy_from_slice.ensures.after refl)
+    let l = c.loop-i in
+    placed_by a.buf.now a.at a.src.now _ l.buf l.invariant.0 refl
+    (l.invariant.1 ∙ ap (laid a.buf.now a.at) (take_all l.i a.src.now (omega arith)))
