@@ -15,7 +15,7 @@ use lib.ListN.{length, take, drop, get_or, set, length-append, length-drop, take
 use lib.Seq.{get_or-take, get_or-drop, take_at, drop_at, drop-drop, length-take-le, set_split, set_at, take-take, take-append-le}
 use Rattle.std.specs.Prelude.{Option, Some, None}
 use Rattle.std.proofs.lemmas.Option.{none-some, same_Some}
-use Rattle.buffer.specs.Laid.{laid, placed, written}
+use Rattle.buffer.specs.Laid.{laid, placed, written, size_of}
 
 pub laid_nil : (b : List ℕ) (at : ℕ) → laid b at [] ≡ b
 unfolding laid
@@ -155,6 +155,10 @@ placed_one b at v h = ap (λ (l : List ℕ). (Some 1, l)) (laid_one b at v h) �
 pub written-some : (b : List ℕ) (at : ℕ) (out : List ℕ) → 0 < length out → written b at out ≡ placed b at out
 written-some b at [] h = absurd (omega arith)
 written-some b at (x ∷ xs) h = refl
+
+pub size_of-some : (out : List ℕ) → 0 < length out → size_of out ≡ Some (length out)
+size_of-some [] h = absurd (omega arith)
+size_of-some (x ∷ xs) h = refl
 
 -- A call that placed bytes leaves a buffer of the same length.
 pub placed-length : (b : List ℕ) (at : ℕ) (xs : List ℕ) (r : Option ℕ) (l : List ℕ) → ◌≡◌ {A = Option ℕ × List ℕ} (r, l) (placed b at xs) → length l ≡ length b

@@ -14,3 +14,8 @@ placed b at out = elim (leb (at + length out) (length b)) [ true ↦ (Some (leng
 abbrev pub written : List ℕ → ℕ → List ℕ → Option ℕ × List ℕ
 written b at [] = (None, b)
 written b at (x ∷ xs) = placed b at (x ∷ xs)
+
+-- how many a value's bytes are; of a value that is refused, none
+abbrev pub size_of : List ℕ → Option ℕ
+size_of [] = None
+size_of (x ∷ xs) = Some (length (x ∷ xs))
