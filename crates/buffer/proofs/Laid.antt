@@ -211,6 +211,19 @@ module _ (b : List ℕ) (at : ℕ) (xs : List ℕ) (n : ℕ) (l : List ℕ) (e :
       let q = placed-none l (at + n) ys l' e' in
       omega (arith, p.1, q.0, k)
 
+-- a byte before those that a call has put or found no room for
+pub placed_cons : (b : List ℕ) (at v : ℕ) (xs : List ℕ) (n : ℕ) (l : List ℕ) → ◌≡◌ {A = Option ℕ × List ℕ} (Some n, l) (placed b (at + 1) xs)
+    → ◌≡◌ {A = Option ℕ × List ℕ} (Some (1 + n), set l at v) (placed b at (v ∷ xs))
+placed_cons b at v xs n l e =
+    let p = placed-some b (at + 1) xs n l e in
+    placed_by b at (v ∷ xs) (1 + n) _ (omega (arith, p.0)) (omega (arith, p.1)) (ap (λ (k : List ℕ). set k at v) p.2 ∙ laid_cons b at xs v p.0)
+
+pub placed_cons_none : (b : List ℕ) (at v : ℕ) (xs : List ℕ) (l : List ℕ) → ◌≡◌ {A = Option ℕ × List ℕ} (None, l) (placed b (at + 1) xs)
+    → ◌≡◌ {A = Option ℕ × List ℕ} (None, l) (placed b at (v ∷ xs))
+placed_cons_none b at v xs l e =
+    let p = placed-none b (at + 1) xs l e in
+    rw p.1 (sym (placed_full b at (v ∷ xs) (omega (arith, p.0))))
+
 -- ---- what a test of the room tells
 
 pub leb_iff : (a b x y : ℕ) → (a ≤ b → x ≤ y) → (x ≤ y → a ≤ b) → leb a b ≡ leb x y

@@ -12,7 +12,7 @@ use Rattle.encoding.specs.Headers.{framed_bytes}
 use Rattle.encoding.proofs.Sizes.{uint-zero, uint_least, uint-most}
 use Rattle.encoding.proofs.Headers.{framed_short}
 use Rattle.buffer.specs.Laid.{placed}
-use Rattle.buffer.proofs.Laid.{laid_cons, placed_full, placed_by, placed-none, placed-some}
+use Rattle.buffer.proofs.Laid.{placed_cons, placed_cons_none, placed_full, placed-some}
 use borrow.Author.Rules.{rules}
 use Rattle.uint.proofs.write_framed.Goals as goal
 
@@ -31,7 +31,7 @@ module _ (code n : ℕ) (h : n < 2 ^ 64) where
 
     -- what the UInt leaves
     none : (l : List ℕ) → ◌≡◌ {A = Option ℕ × List ℕ} (None, l) (placed b (at + 1) (uint_bytes n)) → ◌≡◌ {A = Option ℕ × List ℕ} (None, l) (placed b at (framed_bytes code (uint_bytes n)))
-    none l e = let q = placed-none b (at + 1) (uint_bytes n) l e in rw q.1 (full (omega (arith, q.0)))
+    none l e = placed_cons_none b at (code + length (uint_bytes n)) (uint_bytes n) l e ∙ ap (placed b at) (sym framed)
 
     module _ (size : ℕ) (l : List ℕ) (e : ◌≡◌ {A = Option ℕ × List ℕ} (Some size, l) (placed b (at + 1) (uint_bytes n))) where
       most : size ≤ 8
@@ -40,9 +40,7 @@ module _ (code n : ℕ) (h : n < 2 ^ 64) where
       before : ◌≡◌ {A = Option ℕ × List ℕ} (Some (1 + size), set l at (code + size)) (placed b at (framed_bytes code (uint_bytes n)))
       before =
           let q = placed-some b (at + 1) (uint_bytes n) size l e in
-          rw (framed, q.2, q.1)
-          (placed_by b at _ (1 + length (uint_bytes n)) _ (omega (arith, q.0)) (omega arith)
-          (laid_cons b at (uint_bytes n) (code + length (uint_bytes n)) q.0))
+          rw (framed, ← q.1) (placed_cons b at (code + size) (uint_bytes n) size l e)
 
 pub returns-then-value-eq0 : goal.returns-then-value-eq0
 returns-then-value-eq0 c = let a = c.args in
