@@ -8,8 +8,5 @@ use lib.ListN.{length, drop}
 use Rattle.text.specs.Due.{ascii}
 use Rattle.text.proofs.is_ascii.Given as goal
 
-abbrev pub invariant-loop-i : goal.invariant-loop-i
-invariant-loop-i l = (l.i ≤ length l.s) × (ascii l.s ≡ (ltb l.all 0x80 && ascii (drop l.i l.s)))
-
-abbrev pub decreases-loop-i : goal.decreases-loop-i
-decreases-loop-i l = length l.s - l.i
+abbrev pub invariant-loop-b : goal.invariant-loop-b
+invariant-loop-b l = (ascii l.s ≡ (ltb l.all 0x80 && ascii (drop l.b-index l.s)))

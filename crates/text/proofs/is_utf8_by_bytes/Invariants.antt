@@ -7,8 +7,5 @@ use Rattle.ion.specs.Text.{utf8, utf8_from}
 use Rattle.text.specs.Due.{due}
 use Rattle.text.proofs.is_utf8_by_bytes.Given as goal
 
-abbrev pub invariant-loop-i : goal.invariant-loop-i
-invariant-loop-i l = (l.i ≤ length l.s) × (utf8 l.s ≡ utf8_from (due l.d) (drop l.i l.s))
-
-abbrev pub decreases-loop-i : goal.decreases-loop-i
-decreases-loop-i l = length l.s - l.i
+abbrev pub invariant-loop-b : goal.invariant-loop-b
+invariant-loop-b l = (utf8 l.s ≡ utf8_from (due l.d) (drop l.b-index l.s))
