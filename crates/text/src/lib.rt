@@ -109,15 +109,11 @@ fn is_utf8_by_bytes(s: &[u8]) -> bool
     d.count == 0
 }
 
-// The OR of all bytes has no bit 80. No exit from the loop, so that it runs on wide registers.
+// The OR of all bytes has no bit 80. A fold has no exit before the end, so that it runs on wide registers.
 fn is_ascii(s: &[u8]) -> bool
     ensures { result ≡ ascii s.now }
 {
-    let mut all: u8 = 0;
-    for b in s {
-        all |= *b;
-    }
-    all < 0x80
+    s.iter().fold(0, |all, byte| all | *byte) < 0x80
 }
 
 // Whether the bytes are UTF-8, whole. ASCII, the common case, is settled by the faster loop.

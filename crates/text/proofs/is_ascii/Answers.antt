@@ -1,14 +1,10 @@
--- The byte at the index goes over to those that are OR-ed. Assumes nothing.
-use mathlib.Core.Path.{refl, sym, ◌∙◌}
-use native.Mathlib.Omega.{arith}
-use lib.Dec.{ltb}
-use Rattle.text.proofs.Ascii.{ascii-next, ascii_end}
+-- The OR of all bytes is below 80 where each byte is. Assumes nothing.
+use Rattle.std.proofs.Common.{◌≡◌, bit_or, rules}
+use Rattle.std.specs.List.{fold}
+use Rattle.text.proofs.Ascii.{fold_ascii}
 use Rattle.text.proofs.is_ascii.Goals as goal
 
-pub loop-b-preserved : goal.loop-b-preserved
-loop-b-preserved c = let l = c.loop-b in
-    l.invariant ∙ ascii-next l.all c.args.s.now l.b-index (omega arith)
-
 pub returns : goal.returns
-returns c = let l = c.loop-b in
-    sym (l.invariant ∙ ascii_end (ltb l.all 0x80) c.args.s.now l.b-index (omega arith))
+returns c = let s = c.args.s.now in
+    let e : c.fold.result ≡ fold bit_or 0 s = search rules in
+    rw e (fold_ascii 0 s)
