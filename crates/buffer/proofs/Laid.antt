@@ -12,6 +12,7 @@ use lib.Dec.{leb}
 use borrow.Author.Tests.{le-leb, lt-leb, leb-true, leb-false, not-true, not-false}
 use lib.ListN.{length, take, drop, get_or, set, length-append, length-drop, take-append-drop}
 use lib.Seq.{get_or-take, get_or-drop, take_at, drop_at, drop-drop, length-take-le, set_split, set_at, take-take, take-append-le}
+use borrow.Rule.Slice.PartMut.{put_mid}
 use Rattle.buffer.specs.Laid.{laid, placed}
 
 pub laid_nil : (b : List ℕ) (at : ℕ) → laid b at [] ≡ b
@@ -26,6 +27,13 @@ laid_is b at out = refl
 pub laid_one : (b : List ℕ) (at v : ℕ) → at < length b → set b at v ≡ laid b at (v ∷ [])
 unfolding laid
 laid_one b at v h = rw add-one (set_split b at v h)
+
+-- a part of the buffer that a call fills, up to `end`
+pub laid_part : (b : List ℕ) (at end : ℕ) (xs ys : List ℕ) → ys ≡ xs → end ≡ at + length xs → put_mid at (end - at) b ys ≡ laid b at xs
+unfolding laid
+laid_part b at end xs ys e f =
+    let n : end - at ≡ length xs = omega arith in
+    rw (e, n, drop-drop (length xs) at b) refl
 
 module _ (b : List ℕ) (at : ℕ) (xs : List ℕ) (h : at + length xs ≤ length b) where
   head_length : length (take at b ++ xs) ≡ at + length xs

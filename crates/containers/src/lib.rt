@@ -21,43 +21,15 @@ pub struct Closing {
     pub moved: usize,
 }
 
-// The `count` bytes at `from` to `to`, which lies before, first byte first: how many it moved.
-fn move_left(buf: &mut [u8], from: usize, to: usize, count: usize) -> usize
-    requires { (to ≤ from) × (from + count ≤ length buf.old) }
-    ensures { (result ≡ count) × (buf.new ≡ laid buf.old to (take count (drop from buf.old))) }
-{
-    let mut i: usize = 0;
-    while i < count {
-        buf[to + i] = buf[from + i];
-        i += 1;
-    }
-    i
-}
-
-// The `count` bytes at `from` to `to`, which lies behind, last byte first: how many it moved.
-fn move_right(buf: &mut [u8], from: usize, to: usize, count: usize) -> usize
-    requires { (from ≤ to) × (to + count ≤ length buf.old) }
-    ensures { (result ≡ count) × (buf.new ≡ laid buf.old to (take count (drop from buf.old))) }
-{
-    let mut i = count;
-    while 0 < i {
-        i -= 1;
-        buf[to + i] = buf[from + i];
-    }
-    count - i
-}
-
 // The `count` bytes at `from` to `to`, either way: how many moved. Where they lie there already, none does.
 fn move_bytes(buf: &mut [u8], from: usize, to: usize, count: usize) -> usize
     requires { (from + count ≤ length buf.old) × (to + count ≤ length buf.old) }
     ensures { (result ≡ length_if_moved from to count)
         × (buf.new ≡ laid buf.old to (take count (drop from buf.old))) }
 {
-    if to < from {
-        return move_left(buf, from, to, count);
-    }
-    if from < to {
-        return move_right(buf, from, to, count);
+    if from != to {
+        buf.copy_within(from..from + count, to);
+        return count;
     }
     0
 }
@@ -67,10 +39,8 @@ fn clear(buf: &mut [u8], from: usize, to: usize)
     requires { (from ≤ length buf.old) × (to ≤ length buf.old) }
     ensures { buf.new ≡ laid buf.old from (replicate (to - from) 0) }
 {
-    let mut i = from;
-    while i < to {
-        buf[i] = 0;
-        i += 1;
+    if from < to {
+        buf[from..to].fill(0);
     }
 }
 
