@@ -57,3 +57,8 @@ pub pasted : (b : List ℕ) (from to end count : ℕ) → end ≡ from + count �
 pasted b from to end count e h =
     let n : end - from ≡ count = omega arith in
     rw (n, laid_is b to (part b from count), length_part b from count h) (append_assoc (take to b) (part b from count) _)
+
+-- a turn of a clearing
+pub clear_turn : (b : List ℕ) (at i n : ℕ) → n ≡ at + i → n < length b → set (laid b at (replicate i 0)) n 0 ≡ laid b at (replicate (i + 1) 0)
+clear_turn b at i n e h =
+    laid_snoc b at (replicate i 0) n 0 (rw (length-replicate {A = ℕ} i 0) e) h ∙ ap (laid b at) (replicate-append-replicate i 1 0)
