@@ -4,13 +4,12 @@ use mathlib.Core.Path.{◌≡◌, refl, sym, ◌∙◌, ap}
 use mathlib.Core.List.{List, append_assoc}
 use Prim.Native.Nat.{ℕ, ◌+◌, ◌-◌, ◌≤◌, ◌<◌}
 use native.Mathlib.Omega.{arith}
-use native.Mathlib.Numerals.{add-one}
-use lib.ListN.{length, take, drop, get_or, set, replicate, length-drop, length-replicate, replicate-append-replicate, take-append-drop}
-use lib.Seq.{paste, slice, get_or-drop, get_or-take, take-suc, take-add, drop_at, drop-cons, length-take-le, drop-drop}
+use lib.ListN.{length, take, drop, set, replicate, length-drop, length-replicate, replicate-append-replicate, take-append-drop}
+use lib.Seq.{paste, slice, take-add, drop_at, length-take-le, drop-drop}
 use borrow.Author.Tests.{eq-eqb, ne_eqb}
 use Rattle.machine.specs.Machine.{length_if_moved}
 use Rattle.buffer.specs.Laid.{laid}
-use Rattle.buffer.proofs.Laid.{laid_is, laid_snoc, laid_cons, length-laid, take-before, drop-behind, byte_before, byte_behind}
+use Rattle.buffer.proofs.Laid.{laid_is, laid_snoc, length-laid, take-before, drop-behind}
 
 -- the count bytes from `from` on
 abbrev pub part : List ℕ → ℕ → ℕ → List ℕ

@@ -91,7 +91,12 @@ impl Ending {
         ensures moved { result ≡ moved_bytes self.c.start self.c.header self.c.code (take self.used buf.old) }
         ensures bytes { buf.new ≡ laid buf.old self.c.start (closed_bytes self.c.start self.c.header self.c.code (take self.used buf.old)) }
     {
-        let machine::Container { start, header, code, .. } = self.c;
+        let machine::Container {
+            start,
+            header,
+            code,
+            ..
+        } = self.c;
         let body = self.used - (header + RESERVE);
         let noted = header - (start + RESERVE);
         let place = start + wrapper + noted;

@@ -51,7 +51,10 @@ pub fn write_framed(buf: &mut [u8], at: usize, code: u8, value: u64) -> usize
 pub fn leading_zero_bytes(magnitude: &[u8]) -> usize
     ensures { result + length (trimmed magnitude.now) ≡ length magnitude.now }
 {
-    magnitude.iter().position(|byte| *byte != 0).unwrap_or(magnitude.len())
+    magnitude
+        .iter()
+        .position(|byte| *byte != 0)
+        .unwrap_or(magnitude.len())
 }
 
 // A big-endian magnitude without its leading zero bytes. Zero keeps one byte.

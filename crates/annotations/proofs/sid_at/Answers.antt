@@ -1,5 +1,5 @@
 -- The bytes from the sid's first on, as one number. Assumes nothing.
-use mathlib.Core.Path.{◌≡◌, sym, ◌∙◌}
+use mathlib.Core.Path.{◌∙◌}
 use Prim.Native.Nat.{◌*◌}
 use Rattle.annotations.specs.Sids.{sid_at}
 use Rattle.annotations.proofs.Sids.{least_first_chunk, least_first_part}

@@ -1,6 +1,6 @@
 -- A sid takes ten bytes at most, and eight are lent for it, so the sum stays below a word. Assumes nothing.
 use mathlib.Core.Path.{◌≡◌, sym, ◌∙◌, ap}
-use Prim.Native.Nat.{ℕ, ◌+◌, ◌*◌, ◌≤◌}
+use Prim.Native.Nat.{ℕ, ◌+◌}
 use native.Mathlib.Omega.{arith}
 use lib.ListN.{length}
 use Rattle.encoding.specs.Fields.{var_uint_bytes}
@@ -24,6 +24,7 @@ loop-i-preserved c = let l = c.loop-i in
 pub returns : goal.returns
 returns c = let s = c.args.annotations.now in
     let l = c.loop-i in
-    let e : l.i ≡ sid_count s = omega arith in
-    (l.invariant.1 ∙ rw (sid_bytes_all s) (ap (λ (n : ℕ). length (sid_bytes s n)) e),
-      omega (arith, sid_bytes-most s (λ i. omega (arith, c.type_inv.annotations i)) l.i))
+    let e : l.i ≡ sid_count s = omega arith in (
+      l.invariant.1 ∙ rw (sid_bytes_all s) (ap (λ (n : ℕ). length (sid_bytes s n)) e),
+      omega (arith, sid_bytes-most s (λ i. omega (arith, c.type_inv.annotations i)) l.i),
+    )

@@ -1,9 +1,9 @@
 -- Room for the whole, and then it is put. Assumes nothing.
-use mathlib.Core.Path.{◌≡◌, sym, ap}
+use mathlib.Core.Path.{sym, ap}
 use mathlib.Core.Bool.{not}
 use native.Mathlib.Omega.{arith}
 use Rattle.encoding.specs.Headers.{annotation_bytes}
-use Rattle.buffer.proofs.Laid.{placed_full, no_room, room}
+use Rattle.buffer.proofs.Laid.{placed_full, no_room}
 use Rattle.annotations.specs.Sids.{sids_of}
 use Rattle.annotations.proofs.write.Goals as goal
 

@@ -1,7 +1,7 @@
 -- `int::encoded_size_of` meets its contract: the bytes behind the leading zeros, and one more where the first of them has its top bit set.
 -- By the first byte of the trimmed magnitude. Assumes nothing.
 use mathlib.Core.Path.{sym, ◌∙◌, ap}
-use Prim.Native.Nat.{suc, ◌<◌}
+use Prim.Native.Nat.{suc}
 use native.Mathlib.Omega.{arith}
 use lib.ListN.{length, drop, get_or}
 use Rattle.encoding.specs.Fields.{trimmed}

@@ -1,11 +1,8 @@
 -- The answers for a first byte are the rest of the alternative that it begins: each test passes one more of those, which ascend.
 -- Assumes nothing.
-use mathlib.Core.Path.{◌≡◌, sym, ◌∙◌}
-use mathlib.Core.List.{List, ◌∷◌}
-use mathlib.Core.Option.{some}
-use Prim.Native.Nat.{ℕ, ◌≤◌}
+use mathlib.Core.Path.{sym, ◌∙◌}
 use native.Mathlib.Omega.{arith}
-use Rattle.ion.specs.Text.{begun, characters}
+use Rattle.ion.specs.Text.{characters}
 use Rattle.text.proofs.Begun.{begun_above, begun-below, begun_in}
 use Rattle.text.proofs.first_byte.Goals as goal
 

@@ -1,8 +1,7 @@
 -- The loop's invariant: the whole is UTF-8 where the bytes left end the character under way and are whole characters from there on.
 -- Assumes nothing.
-use Prim.Native.Nat.{◌≤◌, ◌-◌}
 use mathlib.Core.Path.{◌≡◌}
-use lib.ListN.{length, drop}
+use lib.ListN.{drop}
 use Rattle.ion.specs.Text.{utf8, utf8_from}
 use Rattle.text.specs.Due.{due}
 use Rattle.text.proofs.is_utf8_by_bytes.Given as goal

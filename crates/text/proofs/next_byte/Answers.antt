@@ -1,6 +1,6 @@
 -- With nothing due the byte is a first byte; otherwise it leaves tails, or nothing that can be right if it is outside its range.
 -- Assumes nothing.
-use mathlib.Core.Path.{refl, sym, ◌∙◌}
+use mathlib.Core.Path.{refl}
 use Rattle.text.proofs.Bytes.{utf8-first, utf8-next}
 use Rattle.text.proofs.next_byte.Goals as goal
 

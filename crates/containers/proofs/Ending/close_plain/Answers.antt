@@ -10,7 +10,7 @@ use Rattle.encoding.specs.Headers.{header_bytes, framed_bytes}
 use Rattle.buffer.specs.Laid.{laid}
 use Rattle.encoding.proofs.Headers.{header_most, length_header, length-framed}
 use Rattle.machine.specs.declared.Container.{Container}
-use Rattle.machine.specs.Machine.{closed_bytes, container_fits, moved_bytes}
+use Rattle.machine.specs.Machine.{container_fits, moved_bytes}
 use Rattle.machine.proofs.Fit.{fit}
 use Rattle.containers.specs.Containers.{closed_on, spliced}
 use Rattle.containers.proofs.Closed.{closed_bytes-plain, closed_on_plain, moved_plain}

@@ -1,10 +1,9 @@
 -- The order of the one branch and of the other. By the laws of the two orders. Assumes nothing.
-use mathlib.Core.Path.{◌≡◌, sym}
+use mathlib.Core.Path.{◌≡◌}
 use Prim.Native.Nat.{◌+◌, ◌-◌}
 use native.Mathlib.Omega.{arith}
-use lib.ListN.{length}
 use Rattle.machine.proofs.Fit.{fit}
-use Rattle.containers.proofs.Wrapped.{moved-both, moved_few, from_the_left, from_the_right}
+use Rattle.containers.proofs.Wrapped.{moved-both, from_the_left, from_the_right}
 use Rattle.containers.proofs.Ending.lay_wrapped.Goals as goal
 
 pub overflow_sub-body : goal.overflow_sub-body
