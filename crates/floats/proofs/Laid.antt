@@ -1,38 +1,42 @@
--- The digits of a number laid into a buffer, the last first, and a byte before them. By the laws of laid bytes.
--- Assumes nothing.
-use Prim.Native.Nat.{ℕ, zero, suc, ◌+◌, ◌-◌, ◌/◌, ◌%◌, ◌≤◌, ◌<◌}
-use mathlib.Core.Path.{◌≡◌, ◌∙◌, ap}
+-- A byte and a run behind it, laid into a buffer; and the bytes of a number as the library gives them.
+-- By the laws of laid bytes, and by arithmetic. Assumes nothing.
+use Prim.Native.Nat.{ℕ, ◌+◌, ◌/◌, ◌≤◌}
+use mathlib.Core.Path.{◌≡◌, refl, sym, ◌∙◌, ap}
 use mathlib.Core.List.{List, [], ◌∷◌}
-use native.Mathlib.Numerals.{sub-one}
 use native.Mathlib.Omega.{arith}
 use lib.ListN.{length, set}
+use lib.Seq.{drop-drop}
+use borrow.Rule.Slice.PartMut.{put_mid}
+use Rattle.std.specs.Int.{w32, w64, to_be_bytes}
 use Rattle.buffer.specs.Laid.{laid, placed}
-use Rattle.buffer.proofs.Laid.{laid_one, laid_more, laid-before, placed-fits, placed_full}
+use Rattle.buffer.proofs.Laid.{laid_is, laid_one, laid_more, placed_by}
 use Rattle.encoding.specs.Digits.{low_digits}
 use Rattle.encoding.specs.Fields.{fixed_bytes}
-use Rattle.encoding.proofs.Digits.{length-low_digits}
-use Rattle.encoding.proofs.Sizes.{length_fixed}
 
--- the last of i digits, stored before the others are laid
-pub laid_digit : (b : List ℕ) (at i n : ℕ) → 0 < i → at + i ≤ length b →
-    laid (set b (at + (i - 1)) (n % 256)) at (low_digits 256 (i - 1) (n / 256)) ≡ laid b at (low_digits 256 i n)
-unfolding low_digits
-laid_digit b at zero n p h = absurd (omega arith)
-laid_digit b at (suc k) n p h =
-    let l = low_digits 256 k (n / 256) in
-    let e : at + length l ≡ at + k = ap (λ (m : ℕ). at + m) (length-low_digits 256 k (n / 256)) in
-    rw (sub-one (suc k), laid_one b (at + k) (n % 256) (omega arith), ← e) (laid-before b at l (omega arith) (n % 256 ∷ []) (omega arith))
+-- a byte is stored, and a run copied behind it
+pub tagged_fits : (b : List ℕ) (at x : ℕ) (ys : List ℕ) (k : ℕ) → at + (length ys + 1) ≤ length b → k ≡ length ys
+    → ◌≡◌ {A = ℕ × List ℕ} (length ys + 1, put_mid (at + 1) k (set b at x) ys) (placed b at (x ∷ ys))
+tagged_fits b at x ys k h e =
+    let l : laid (set b at x) (at + 1) ys ≡ laid b at (x ∷ ys) =
+    ap (λ (c : List ℕ). laid c (at + 1) ys) (laid_one b at x (omega arith)) ∙ laid_more b at (x ∷ []) (omega arith) ys in
+    let m : put_mid (at + 1) k (set b at x) ys ≡ laid (set b at x) (at + 1) ys =
+    rw (e, drop-drop (length ys) (at + 1) (set b at x)) (sym (laid_is (set b at x) (at + 1) ys)) in
+    placed_by b at (x ∷ ys) (length ys + 1) (put_mid (at + 1) k (set b at x) ys) (omega arith) (omega arith) (m ∙ l)
 
--- ---- a byte and k digits behind it: where they fit, and where not
+pub be_bytes_32 : (n : ℕ) → to_be_bytes w32 n ≡ fixed_bytes 4 n
+unfolding fixed_bytes low_digits
+be_bytes_32 n =
+    let two : n / 256 / 256 ≡ n / 65536 = omega arith in
+    let three : n / 65536 / 256 ≡ n / 16777216 = omega arith in
+    rw (two, three) refl
 
-module _ (b : List ℕ) (at x k n : ℕ) where
-  pub tagged_fits : at + k < length b → placed b at (x ∷ fixed_bytes k n) ≡ (k + 1, laid (set b at x) (at + 1) (fixed_bytes k n))
-  tagged_fits h =
-      let e = length_fixed k n in
-      let l : laid (set b at x) (at + 1) (fixed_bytes k n) ≡ laid b at (x ∷ fixed_bytes k n) =
-      ap (λ (c : List ℕ). laid c (at + 1) (fixed_bytes k n)) (laid_one b at x (omega arith)) ∙ laid_more b at (x ∷ []) (omega arith) (fixed_bytes k n) in
-      let m : length (x ∷ fixed_bytes k n) ≡ k + 1 = omega arith in
-      placed-fits b at (x ∷ fixed_bytes k n) (omega arith) ∙ rw (m, l)
-
-  pub tagged_full : length b ≤ at + k → placed b at (x ∷ fixed_bytes k n) ≡ (0, b)
-  tagged_full h = placed_full b at (x ∷ fixed_bytes k n) (omega (arith, length_fixed k n))
+pub be_bytes_64 : (n : ℕ) → to_be_bytes w64 n ≡ fixed_bytes 8 n
+unfolding fixed_bytes low_digits
+be_bytes_64 n =
+    let two : n / 256 / 256 ≡ n / 65536 = omega arith in
+    let three : n / 65536 / 256 ≡ n / 16777216 = omega arith in
+    let four : n / 16777216 / 256 ≡ n / 4294967296 = omega arith in
+    let five : n / 4294967296 / 256 ≡ n / 1099511627776 = omega arith in
+    let six : n / 1099511627776 / 256 ≡ n / 281474976710656 = omega arith in
+    let seven : n / 281474976710656 / 256 ≡ n / 72057594037927936 = omega arith in
+    rw (two, three, four, five, six, seven) refl

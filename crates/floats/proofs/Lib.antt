@@ -1,6 +1,6 @@
-pub mod Laid
 pub mod Zeros
 pub mod Units
 pub mod Narrowing
 pub mod Special
 pub mod Bytes
+pub mod Laid

@@ -1,24 +1,19 @@
--- The bytes fit where more than `size` bytes are left; then the type byte is stored and the others are laid behind it.
+-- The bytes fit where there is room for the type byte too; then it is stored and they are copied behind it.
 -- Assumes nothing.
-use Prim.Native.Nat.{◌+◌}
-use mathlib.Core.Path.{sym, ◌∙◌}
-use native.Mathlib.Omega.{arith}
-use lib.ListN.{length-set}
-use Rattle.floats.proofs.Laid.{tagged_fits, tagged_full}
+use Rattle.std.proofs.Common.{sym, ◌∙◌, ◌+◌, ◌∷◌, length, arith}
+use borrow.Author.Tests.{leb-true, leb-false}
+use Rattle.buffer.proofs.Laid.{placed_full}
+use Rattle.floats.proofs.Laid.{tagged_fits}
 use Rattle.floats.proofs.write_sized.Goals as goal
 
-pub returns-then-buf-at : goal.returns-then-buf-at
-returns-then-buf-at c = sym (tagged_full _ _ _ _ _ (omega arith))
-
-pub returns-then-buf-at-2 : goal.returns-then-buf-at-2
-returns-then-buf-at-2 c = sym (tagged_full _ _ _ _ _ (omega arith))
-
-pub fill-requires : goal.fill-requires
-fill-requires c = simp length-set (omega arith)
-
-pub shape_of-buf : goal.shape_of-buf
-shape_of-buf c = c.fill.auto.buf ∙ simp length-set
+pub returns-then-not-has_room : goal.returns-then-not-has_room
+returns-then-not-has_room c =
+    let a = c.args in
+    let short = leb-false (a.at + (length a.bytes.now + 1)) _ (sym c.has_room.ensures ∙ c.if-not-has_room.true) in
+    sym (placed_full a.buf.now a.at ((64 + length a.bytes.now) ∷ a.bytes.now) (omega arith))
 
 pub returns : goal.returns
-returns c = let a = c.args in
-    rw c.fill.ensures (sym (tagged_fits a.buf.now a.at (0x40 + a.size) a.size a.bits (omega arith)))
+returns c =
+    let a = c.args in
+    let room = leb-true (a.at + (length a.bytes.now + 1)) _ (sym c.has_room.ensures ∙ c.if-not-has_room.false) in
+    rw c.copy_from_slice.ensures.after (tagged_fits a.buf.now a.at (64 + length a.bytes.now) a.bytes.now _ room (omega arith))
