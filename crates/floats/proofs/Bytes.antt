@@ -3,17 +3,18 @@
 use Prim.Native.Nat.{ℕ}
 use mathlib.Core.Path.{◌≡◌, refl, ap}
 use mathlib.Core.Bool.{Bool, true, false}
-use mathlib.Core.List.{[], ◌∷◌}
+use mathlib.Core.List.{◌∷◌}
 use native.Mathlib.Omega.{arith}
 use borrow.Author.Tests.{ne_eqb}
 use lib.Ieee.{binary32, binary64, of_bits, to_bits}
+use Rattle.encoding.specs.Digits.{low_digits}
 use Rattle.encoding.specs.Fields.{fixed_bytes}
 use Rattle.encoding.specs.Argument.{narrows, float32_bytes, float64_bytes}
 use Rattle.std.specs.Prelude.{Some, None}
 use Rattle.floats.specs.Narrowed.{narrowed_to, narrowed_bits}
 
-pub float32_zero : (b : ℕ) → b ≡ 0 → float32_bytes b ≡ 0x40 ∷ []
-unfolding float32_bytes
+pub float32_zero : (b : ℕ) → b ≡ 0 → float32_bytes b ≡ 0x40 ∷ fixed_bytes 0 0
+unfolding float32_bytes fixed_bytes low_digits
 float32_zero b e = rw e refl
 
 pub float32_other : (b : ℕ) → (b ≡ 0 → ⊥) → float32_bytes b ≡ 0x44 ∷ fixed_bytes 4 b

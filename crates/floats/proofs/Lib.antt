@@ -3,4 +3,3 @@ pub mod Units
 pub mod Narrowing
 pub mod Special
 pub mod Bytes
-pub mod Laid

@@ -9,7 +9,7 @@ abbrev pub narrowed_to : Bool → ℕ → Option ℕ
 narrowed_to true n = Some n
 narrowed_to false n = None
 
--- the bits in binary32 of a value that binary32 holds; none for a NaN
+-- The bits in binary32 of a value that binary32 holds; none of another, nor of a NaN.
 unfoldable pub narrowed_bits : ℕ → Option ℕ
 narrowed_bits b = narrowed_to (narrows b) (to_bits binary32 (of_bits binary64 b))
 

@@ -2,15 +2,14 @@
 // A call that keeps a NaN's own bits takes bits, since the language has one NaN; a call that takes an f32 or f64 compares it with zero.
 #![tactic(auto)]
 
-ghost use Rattle.std.specs.Prelude.{◌≡◌, List, [], ◌∷◌, ℕ, ◌+◌, ◌≤◌, eqb, length};
+ghost use Rattle.std.specs.Prelude.{◌≡◌, List, ◌∷◌, ℕ, Option, ◌+◌, ◌≤◌, ◌<◌, eqb, length};
 ghost use Rattle.std.specs.Float.{binary32, binary64};
 ghost use Rattle.std.specs.Float.Ieee.{to_bits};
 ghost use Rattle.buffer.specs.Laid.{placed};
+ghost use Rattle.encoding.specs.Fields.{fixed_bytes};
 ghost use Rattle.encoding.specs.Argument.{float32_bytes, float64_bytes};
 ghost use Rattle.floats.specs.Narrowed.{narrowed_bits, Dropped};
 ghost use Rattle.floats.specs.Zero.{float32_zero, float64_zero};
-
-const TYPE_CODE: u8 = 0x40;
 
 // The sign bits, and the weight of the exponent's field.
 const SIGN_32: u32 = 0x8000_0000;
@@ -50,7 +49,7 @@ fn dropped_digits(x: u64) -> u64
     MORE_DIGITS
 }
 
-// The bits in binary32 of an f64, given by its bits, where binary32 holds it exactly; a NaN is not narrowed.
+// The bits in binary32 of an f64 by its bits, where binary32 holds its value exactly; a NaN is not narrowed.
 // The digits that are dropped must be zeros, which the trailing zeros tell.
 pub fn narrow(bits: u64) -> Option<u32>
     ensures { result ≡ narrowed_bits bits }
@@ -78,20 +77,20 @@ pub fn narrow(bits: u64) -> Option<u32>
     Some(sign + ((x + dropped - LAST_IS_LEAST) * FIELD_32 + (digits >> dropped)) as u32)
 }
 
-// The type byte, which has the size in its low four bits, and the bytes; 0 where there is no room.
-fn write_sized(buf: &mut [u8], at: usize, bytes: &[u8]) -> usize
-    requires { length bytes.now ≤ 8 }
-    ensures { ◌≡◌ {A = ℕ × List ℕ} (result, buf.new) (placed buf.old at ((0x40 + length bytes.now) ∷ bytes.now)) }
+// The type byte and `size` bytes of bits, which are put first and test the room.
+fn write_sized(buf: &mut [u8], at: usize, size: usize, bits: u64) -> Option<usize>
+    requires { size ≤ 8 }
+    ensures { ◌≡◌ {A = Option ℕ × List ℕ} (result, buf.new) (placed buf.old at ((0x40 + size) ∷ fixed_bytes size bits)) }
 {
-    if !buffer::has_room(buf.len(), at, bytes.len() + 1) {
-        return 0;
+    if buf.len() <= at {
+        return None;
     }
-    buf[at] = TYPE_CODE + bytes.len() as u8;
-    buf[at + 1..at + 1 + bytes.len()].copy_from_slice(bytes);
-    bytes.len() + 1
+    let count = uint::write_fixed(buf, at + 1, size, bits)?;
+    buf[at] = (0x40 + size) as u8;
+    Some(1 + count)
 }
 
-// f32 and f64: the bits, and what becomes of them.
+// f32 and f64: the bits of each, and what becomes of them.
 pub trait Float: Copy {
     type Bits: Copy;
 
@@ -114,11 +113,11 @@ pub trait Float: Copy {
     fn bits_size(bits: Self::Bits) -> usize
         ensures { result ≡ length (bytes_of (number bits)) };
 
-    // A float by its bits: a NaN keeps its own. Answers the size, or 0 where there is no room.
-    fn write_bits(buf: &mut [u8], at: usize, bits: Self::Bits) -> usize
-        ensures { ◌≡◌ {A = ℕ × List ℕ} (result, buf.new) (placed buf.old at (bytes_of (number bits))) };
+    // A float by its bits: a NaN keeps its own.
+    fn write_bits(buf: &mut [u8], at: usize, bits: Self::Bits) -> Option<usize>
+        ensures { ◌≡◌ {A = Option ℕ × List ℕ} (result, buf.new) (placed buf.old at (bytes_of (number bits))) };
 
-    ghost positive_zero: { bytes_of 0 ≡ 0x40 ∷ [] };
+    ghost positive_zero: { bytes_of 0 ≡ 0x40 ∷ fixed_bytes 0 0 };
 }
 
 impl Float for f32 {
@@ -151,11 +150,11 @@ impl Float for f32 {
     }
 
     // Positive zero is 40; every other f32 is 44 and its own bits.
-    fn write_bits(buf: &mut [u8], at: usize, bits: u32) -> usize {
+    fn write_bits(buf: &mut [u8], at: usize, bits: u32) -> Option<usize> {
         if bits == 0 {
-            return write_sized(buf, at, &[]);
+            return write_sized(buf, at, 0, 0);
         }
-        write_sized(buf, at, &bits.to_be_bytes())
+        write_sized(buf, at, 4, bits as u64)
     }
 }
 
@@ -189,15 +188,16 @@ impl Float for f64 {
     }
 
     // An f64 that binary32 holds exactly goes out as an f32; every other, and every NaN, is 48 and its own bits.
-    fn write_bits(buf: &mut [u8], at: usize, bits: u64) -> usize {
+    fn write_bits(buf: &mut [u8], at: usize, bits: u64) -> Option<usize> {
         match narrow(bits) {
             Some(n) => f32::write_bits(buf, at, n),
-            None => write_sized(buf, at, &bits.to_be_bytes()),
+            None => write_sized(buf, at, 8, bits),
         }
     }
 }
 
 // The size of what `write` puts.
+#[tactic(auto, unfolding(encoding::specs::Fields::fixed_bytes, encoding::specs::Digits::low_digits))]
 pub fn size<F: Float>(v: F) -> usize
     ensures { result ≡ length (F.bytes_of (F.bits_of v)) }
 {
@@ -208,11 +208,11 @@ pub fn size<F: Float>(v: F) -> usize
 }
 
 // An f32 or an f64 by its value.
-pub fn write<F: Float>(buf: &mut [u8], at: usize, v: F) -> usize
-    ensures { ◌≡◌ {A = ℕ × List ℕ} (result, buf.new) (placed buf.old at (F.bytes_of (F.bits_of v))) }
+pub fn write<F: Float>(buf: &mut [u8], at: usize, v: F) -> Option<usize>
+    ensures { ◌≡◌ {A = Option ℕ × List ℕ} (result, buf.new) (placed buf.old at (F.bytes_of (F.bits_of v))) }
 {
     if v.is_positive_zero() {
-        return write_sized(buf, at, &[]);
+        return write_sized(buf, at, 0, 0);
     }
     F::write_bits(buf, at, v.bits())
 }

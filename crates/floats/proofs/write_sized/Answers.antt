@@ -1,19 +1,25 @@
--- The bytes fit where there is room for the type byte too; then it is stored and they are copied behind it.
--- Assumes nothing.
-use Rattle.std.proofs.Common.{sym, ◌∙◌, ◌+◌, ◌∷◌, length, arith}
-use borrow.Author.Tests.{leb-true, leb-false}
-use Rattle.buffer.proofs.Laid.{placed_full}
-use Rattle.floats.proofs.Laid.{tagged_fits}
+-- The bytes behind the type byte, which test the room, and a store before them. Assumes nothing.
+use Prim.Native.Nat.{ℕ, ◌+◌}
+use mathlib.Core.Path.{◌∙◌, ap, sym}
+use native.Mathlib.Omega.{arith}
+use Rattle.std.specs.Prelude.{Option}
+use Rattle.encoding.specs.Fields.{fixed_bytes}
+use Rattle.encoding.proofs.Sizes.{length_fixed}
+use Rattle.buffer.proofs.Laid.{placed_cons, placed_cons_none, placed_full, placed-some}
 use Rattle.floats.proofs.write_sized.Goals as goal
 
-pub returns-then-not-has_room : goal.returns-then-not-has_room
-returns-then-not-has_room c =
-    let a = c.args in
-    let short = leb-false (a.at + (length a.bytes.now + 1)) _ (sym c.has_room.ensures ∙ c.if-not-has_room.true) in
-    sym (placed_full a.buf.now a.at ((64 + length a.bytes.now) ∷ a.bytes.now) (omega arith))
+pub returns-then-buf-at : goal.returns-then-buf-at
+returns-then-buf-at c = let a = c.args in sym (placed_full a.buf.now a.at _ (omega arith))
+
+pub returns-in_err-count : goal.returns-in_err-count
+returns-in_err-count c = let a = c.args in
+    ap (λ (r : Option ℕ). (r, c.write_fixed.new.buf)) c.from_residual.ensures
+    ∙ placed_cons_none a.buf.now a.at (0x40 + a.size) (fixed_bytes a.size a.bits) _ c.in_err-count.ensures
+
+pub overflow_add-result : goal.overflow_add-result
+overflow_add-result c = let a = c.args in
+    let p = placed-some a.buf.now (a.at + 1) (fixed_bytes a.size a.bits) _ _ c.in_ok-count.ensures in
+    omega (arith, length_fixed a.size a.bits)
 
 pub returns : goal.returns
-returns c =
-    let a = c.args in
-    let room = leb-true (a.at + (length a.bytes.now + 1)) _ (sym c.has_room.ensures ∙ c.if-not-has_room.false) in
-    rw c.copy_from_slice.ensures.after (tagged_fits a.buf.now a.at (64 + length a.bytes.now) a.bytes.now _ room (omega arith))
+returns c = let a = c.args in placed_cons a.buf.now a.at (0x40 + a.size) (fixed_bytes a.size a.bits) _ _ c.in_ok-count.ensures

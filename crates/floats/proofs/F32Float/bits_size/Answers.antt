@@ -7,6 +7,7 @@ use Rattle.floats.proofs.Bytes.{float32_zero, float32_other}
 use Rattle.floats.proofs.F32Float.bits_size.Goals as goal
 
 pub returns-then-bits-eq0 : goal.returns-then-bits-eq0
+unfolding fixed_bytes low_digits
 returns-then-bits-eq0 c = rw (float32_zero _ c.if-bits-eq0.true) refl
 
 pub returns : goal.returns
