@@ -11,12 +11,15 @@ ghost use Rattle.encoding.specs.Argument.{Argument, code_of_null, code_of_sign, 
 ghost use Rattle.machine.specs.Machine.{refused};
 ghost use Rattle.machine.specs.Numbers.{number};
 ghost use Rattle.buffer.specs.Laid.{written, size_of};
+ghost use Rattle.timestamp.specs.Arguments.{argument_of};
 ghost use Rattle.scalars.specs.Types.{type_of};
 ghost use Rattle.scalars.specs.Refused.{own_refusal};
 
 use decimal::MAX_BODY;
 pub use decimal::Decimal;
+use floats::Float;
 use machine::Refusal;
+pub use timestamp::Timestamp;
 
 const BOOL: u8 = 0x10;
 
@@ -255,11 +258,11 @@ impl WriteAsIon for F32Bits {
     ghost argument = { λ b. write_f32 b.0 };
 
     fn size(self) -> Option<usize> {
-        Some(floats::f32_bits_size(self.0))
+        Some(f32::bits_size(self.0))
     }
 
     fn write(self, buf: &mut [u8], at: usize) -> Option<usize> {
-        floats::write_f32_bits(buf, at, self.0)
+        f32::write_bits(buf, at, self.0)
     }
 
     fn refusal(self) -> Refusal {
@@ -275,11 +278,11 @@ impl WriteAsIon for F64Bits {
     ghost argument = { λ b. write_f64 b.0 };
 
     fn size(self) -> Option<usize> {
-        Some(floats::f64_bits_size(self.0))
+        Some(f64::bits_size(self.0))
     }
 
     fn write(self, buf: &mut [u8], at: usize) -> Option<usize> {
-        floats::write_f64_bits(buf, at, self.0)
+        f64::write_bits(buf, at, self.0)
     }
 
     fn refusal(self) -> Refusal {
@@ -292,11 +295,11 @@ impl WriteAsIon for f32 {
     ghost argument = { λ v. write_f32 (to_bits binary32 v) };
 
     fn size(self) -> Option<usize> {
-        Some(floats::f32_size(self))
+        Some(floats::size(self))
     }
 
     fn write(self, buf: &mut [u8], at: usize) -> Option<usize> {
-        floats::write_f32(buf, at, self)
+        floats::write(buf, at, self)
     }
 
     fn refusal(self) -> Refusal {
@@ -309,11 +312,11 @@ impl WriteAsIon for f64 {
     ghost argument = { λ v. write_f64 (to_bits binary64 v) };
 
     fn size(self) -> Option<usize> {
-        Some(floats::f64_size(self))
+        Some(floats::size(self))
     }
 
     fn write(self, buf: &mut [u8], at: usize) -> Option<usize> {
-        floats::write_f64(buf, at, self)
+        floats::write(buf, at, self)
     }
 
     fn refusal(self) -> Refusal {
@@ -340,6 +343,28 @@ impl<'a> WriteAsIon for Decimal<'a> {
             return Refusal::DecimalTooLong;
         }
         Refusal::NoRoom
+    }
+}
+
+// ---- timestamps
+
+// Local fields. One that breaks the rules of check 7 is refused.
+impl WriteAsIon for Timestamp {
+    ghost argument = { argument_of };
+
+    fn size(self) -> Option<usize> {
+        timestamp::size(self)
+    }
+
+    fn write(self, buf: &mut [u8], at: usize) -> Option<usize> {
+        timestamp::write(buf, at, self)
+    }
+
+    fn refusal(self) -> Refusal {
+        if self.is_valid() {
+            return Refusal::NoRoom;
+        }
+        Refusal::BadTimestamp
     }
 }
 

@@ -6,4 +6,4 @@ use Rattle.scalars.proofs.Puts.{sized_by}
 use Rattle.scalars.proofs.F32BitsWriteAsIon.size.Goals as goal
 
 pub returns : goal.returns
-returns c = sized_by (write_f32 c.args.self.0) refl _ (f32_bytes c.args.self.0) _ c.f32_bits_size.ensures
+returns c = sized_by (write_f32 c.args.self.0) refl _ (f32_bytes c.args.self.0) _ c.bits_size.ensures

@@ -8,4 +8,4 @@ use Rattle.scalars.proofs.Puts.{sized_by}
 use Rattle.scalars.proofs.F32WriteAsIon.size.Goals as goal
 
 pub returns : goal.returns
-returns c = sized_by (write_f32 (to_bits binary32 c.args.self)) refl _ (f32_bytes (to_bits binary32 c.args.self)) _ c.f32_size.ensures
+returns c = sized_by (write_f32 (to_bits binary32 c.args.self)) refl _ (f32_bytes (to_bits binary32 c.args.self)) _ c.size.ensures

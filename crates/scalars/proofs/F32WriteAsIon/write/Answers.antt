@@ -8,4 +8,4 @@ use Rattle.scalars.proofs.Puts.{written_by}
 use Rattle.scalars.proofs.F32WriteAsIon.write.Goals as goal
 
 pub returns : goal.returns
-returns c = written_by (write_f32 (to_bits binary32 c.args.self)) refl _ (f32_bytes (to_bits binary32 c.args.self)) c.args.buf.now c.args.at _ _ c.write_f32.ensures
+returns c = written_by (write_f32 (to_bits binary32 c.args.self)) refl _ (f32_bytes (to_bits binary32 c.args.self)) c.args.buf.now c.args.at _ _ c.write.ensures

@@ -6,4 +6,4 @@ use Rattle.scalars.proofs.Puts.{sized_by}
 use Rattle.scalars.proofs.F64BitsWriteAsIon.size.Goals as goal
 
 pub returns : goal.returns
-returns c = sized_by (write_f64 c.args.self.0) refl _ (f64_bytes c.args.self.0) _ c.f64_bits_size.ensures
+returns c = sized_by (write_f64 c.args.self.0) refl _ (f64_bytes c.args.self.0) _ c.bits_size.ensures

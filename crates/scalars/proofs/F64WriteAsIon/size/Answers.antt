@@ -8,4 +8,4 @@ use Rattle.scalars.proofs.Puts.{sized_by}
 use Rattle.scalars.proofs.F64WriteAsIon.size.Goals as goal
 
 pub returns : goal.returns
-returns c = sized_by (write_f64 (to_bits binary64 c.args.self)) refl _ (f64_bytes (to_bits binary64 c.args.self)) _ c.f64_size.ensures
+returns c = sized_by (write_f64 (to_bits binary64 c.args.self)) refl _ (f64_bytes (to_bits binary64 c.args.self)) _ c.size.ensures
