@@ -6,8 +6,9 @@ use mathlib.Core.Path.{◌≡◌, ◌∙◌}
 use mathlib.Core.Bool.{true, false}
 use mathlib.Core.List.{List, []}
 use lib.ListN.{length}
+use Rattle.std.specs.Prelude.{Option, Some, None}
 use Rattle.buffer.specs.Laid.{placed}
-use Rattle.buffer.proofs.Laid.{placed_then, placed_count, placed-length}
+use Rattle.buffer.proofs.Laid.{placed_then, placed-length, placed-room, placed-some}
 use Rattle.encoding.specs.Headers.{header_bytes, framed_bytes}
 use Rattle.encoding.specs.Argument.{Argument, argument_bytes, argument_checks, any_holds, checked_bytes}
 use Rattle.encoding.proofs.Headers.{length_header, length-framed}
@@ -26,22 +27,26 @@ checked_bytes_accepted a e = rw (e, checked_bytes)
 
 -- ---- how it is put
 
--- n and l are the answer and the buffer of a call that put the header, where there is room for the body too
-module _ (b : List ℕ) (at t : ℕ) (body : List ℕ) (h : at + (length (header_bytes 0 (length body)) + length body) ≤ length b) (n : ℕ)
-    (l : List ℕ) (e : ◌≡◌ {A = ℕ × List ℕ} (n, l) (placed b at (header_bytes t (length body)))) where
+-- n and l are the answer and the buffer of a call that put the header; m and l' those of one that put the body behind it
+module _ (b : List ℕ) (at t : ℕ) (body : List ℕ) (n : ℕ) (l : List ℕ) (e : ◌≡◌ {A = Option ℕ × List ℕ} (Some n, l) (placed b at (header_bytes t (length body)))) where
+  pub placed-framed : (m : ℕ) (l' : List ℕ) → ◌≡◌ {A = Option ℕ × List ℕ} (Some m, l') (placed l (at + n) body) → ◌≡◌ {A = Option ℕ × List ℕ} (Some (n + m), l') (placed b at (framed_bytes t body))
+  unfolding framed_bytes
+  placed-framed m l' f = placed_then b at (header_bytes t (length body)) n l e body m l' f
+
   pub header_count : n ≡ length (header_bytes 0 (length body))
-  header_count =
-      let k = length_header t (length body) in
-      placed_count b at (header_bytes t (length body)) n l e (omega arith) ∙ k
+  header_count = (placed-some b at (header_bytes t (length body)) n l e).1 ∙ length_header t (length body)
 
-  pub body_room : at + n + length body ≤ length l
-  body_room = omega (arith, header_count, placed-length b at (header_bytes t (length body)) n l e)
+  pub value_count : (m : ℕ) (l' : List ℕ) → ◌≡◌ {A = Option ℕ × List ℕ} (Some m, l') (placed l (at + n) body) → n + m ≡ length (header_bytes 0 (length body)) + length body
+  value_count m l' f = (placed-some b at (framed_bytes t body) (n + m) l' (placed-framed m l' f)).1 ∙ length-framed t body
 
-  -- m and l' are those of a call that put the body behind it
-  module _ (m : ℕ) (l' : List ℕ) (f : ◌≡◌ {A = ℕ × List ℕ} (m, l') (placed l (at + n) body)) where
-    pub placed-framed : ◌≡◌ {A = ℕ × List ℕ} (n + m, l') (placed b at (framed_bytes t body))
-    unfolding framed_bytes
-    placed-framed = placed_then b at (header_bytes t (length body)) n l e body m l' (rw (length_header t (length body)) h) f
+  pub body_room : at + (length (header_bytes 0 (length body)) + length body) ≤ length b → at + n + length body ≤ length l
+  body_room h = omega (arith, header_count, placed-length b at (header_bytes t (length body)) (Some n) l e)
 
-    pub value_count : n + m ≡ length (header_bytes 0 (length body)) + length body
-    value_count = placed_count b at (framed_bytes t body) (n + m) l' placed-framed (rw (length-framed t body) h) ∙ length-framed t body
+  -- where there is room for both, the body is put
+  pub no_body : at + (length (header_bytes 0 (length body)) + length body) ≤ length b → (l' : List ℕ) → ◌≡◌ {A = Option ℕ × List ℕ} (None, l') (placed l (at + n) body) → ⊥
+  no_body h l' f = placed-room l (at + n) body l' (body_room h) f
+
+-- where there is room for both, the header is put
+pub no_header : (b : List ℕ) (at t : ℕ) (body : List ℕ) (l : List ℕ) → at + (length (header_bytes 0 (length body)) + length body) ≤ length b
+    → ◌≡◌ {A = Option ℕ × List ℕ} (None, l) (placed b at (header_bytes t (length body))) → ⊥
+no_header b at t body l h e = placed-room b at (header_bytes t (length body)) l (omega (arith, length_header t (length body))) e
