@@ -43,11 +43,11 @@ const FOUR_BYTES: usize = 0x1_0000_0000;
 // The bytes of a number.
 const NUMBER_SIZE: usize = 4;
 
-fn get_four(st: &[u8; STATE_SIZE], at: usize) -> usize
+fn get_four(st: &[u8; STATE_SIZE], at: usize) -> u32
     requires { at + 4 ≤ state_size }
     ensures { result ≡ four st.now at }
 {
-    u32::from_le_bytes([st[at], st[at + 1], st[at + 2], st[at + 3]]) as usize
+    u32::from_le_bytes([st[at], st[at + 1], st[at + 2], st[at + 3]])
 }
 
 fn get_container(st: &[u8; STATE_SIZE], i: usize) -> Container
@@ -56,10 +56,10 @@ fn get_container(st: &[u8; STATE_SIZE], i: usize) -> Container
 {
     let at = HEAD_SIZE + RECORD_SIZE * i;
     Container {
-        start: get_four(st, at),
-        header: get_four(st, at + HEADER),
+        start: get_four(st, at) as usize,
+        header: get_four(st, at + HEADER) as usize,
         code: st[at + CODE],
-        members: get_four(st, at + MEMBERS),
+        members: get_four(st, at + MEMBERS) as usize,
     }
 }
 
@@ -72,7 +72,7 @@ impl Standing for StateBytes<'_> {
 
     fn used(&self) -> usize {
         match self.0.as_array() {
-            Some(st) => get_four(st, 0),
+            Some(st) => get_four(st, 0) as usize,
             None => 0,
         }
     }
@@ -92,10 +92,13 @@ impl Standing for StateBytes<'_> {
     }
 
     fn container(&self, i: usize) -> Container {
-        match self.0.as_array() {
-            Some(st) if i < MOST_OPEN => get_container(st, i),
-            _ => Container::EMPTY,
+        let Some(st) = self.0.as_array() else {
+            return Container::EMPTY;
+        };
+        if MOST_OPEN <= i {
+            return Container::EMPTY;
         }
+        get_container(st, i)
     }
 }
 
@@ -138,7 +141,7 @@ fn innermost_is_struct(st: &[u8; STATE_SIZE], depth: usize) -> bool
 fn passes(st: &[u8; STATE_SIZE], room: usize, call: CallKind) -> bool
     ensures { result ≡ is_accepted (place_verdict (state_of st.now) room (misplaced call (state_of st.now))) }
 {
-    let used = get_four(st, 0);
+    let used = get_four(st, 0) as usize;
     let depth = usize::from(st[DEPTH]);
     if (MOST_OPEN < depth) | (LONGEST_BUFFER < room) | (room < used) {
         return false;
@@ -226,7 +229,7 @@ pub fn count(st: &mut [u8], depth: usize)
     }
     let at = HEAD_SIZE + RECORD_SIZE * (depth - 1) + MEMBERS;
     let members = get_four(st, at);
-    put_four(st, at, members + 1);
+    put_four(st, at, members as usize + 1);
 }
 
 // `put` more bytes are used, by a scalar: no name waits, and the innermost container has one member more.
