@@ -9,10 +9,10 @@ use Rattle.annotations.proofs.write.Goals as goal
 
 pub returns-then-not-has_room : goal.returns-then-not-has_room
 returns-then-not-has_room c = let a = c.args in
-    let h = no_room c.has_room.result a.buf.now _ c.has_room.ensures c.if-not-has_room.true-raw in
+    let h = no_room c.has_room.result a.buf.now _ c.has_room.ensures c.if-not-has_room.true in
     sym (placed_full a.buf.now a.at (annotation_bytes (sids_of a.annotations.now)) (omega arith))
 
 pub put-requires : goal.put-requires
 put-requires c = let a = c.args in
-    let h = room c.has_room.result a.buf.now _ c.has_room.ensures c.if-not-has_room.false-raw in
+    let h = room c.has_room.result a.buf.now _ c.has_room.ensures c.if-not-has_room.false in
     (c.measure-sizes.ensures.0, omega arith)

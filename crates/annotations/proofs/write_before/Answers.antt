@@ -10,13 +10,13 @@ use Rattle.annotations.proofs.write_before.Goals as goal
 
 pub returns-then-not-has_room : goal.returns-then-not-has_room
 returns-then-not-has_room c = let a = c.args in
-    let h = no_room c.has_room.result a.buf.now _ c.has_room.ensures c.if-not-has_room.true-raw in
+    let h = no_room c.has_room.result a.buf.now _ c.has_room.ensures c.if-not-has_room.true in
     sym (placed_before_full a.buf.now a.at (annotation_bytes (sids_of a.annotations.now)) a.inner
     (omega (arith, h, c.measure-sizes.ensures.1)))
 
 pub overflow_add-whole : goal.overflow_add-whole
 overflow_add-whole c = let a = c.args in
-    let h = room c.has_room.result a.buf.now _ c.has_room.ensures c.if-not-has_room.false-raw in
+    let h = room c.has_room.result a.buf.now _ c.has_room.ensures c.if-not-has_room.false in
     omega (arith, h)
 
 pub returns-then-not-has_room-2 : goal.returns-then-not-has_room-2

@@ -30,19 +30,19 @@ record Known (b : List ℕ) (at whole inner : ℕ) (an : List ℕ) (n : ℕ) (l 
 pub returns-then-not-has_room : goal.returns-then-not-has_room
 returns-then-not-has_room c = let a = c.args in
     let an = sids_of a.annotations.now in
-    let h = no_room c.has_room.result a.buf.now _ c.has_room.ensures c.if-not-has_room.true-raw in
+    let h = no_room c.has_room.result a.buf.now _ c.has_room.ensures c.if-not-has_room.true in
     sym (placed_before_full a.buf.now a.at (prefix_bytes an a.inner) a.inner (omega (arith, length_prefix an a.inner)))
 
 pub overflow_add-body : goal.overflow_add-body
 overflow_add-body c =
     let fits : c.measure-sizes.result.whole + c.args.inner
-    ≤ length c.args.buf.now = room c.has_room.result c.args.buf.now _ c.has_room.ensures c.if-not-has_room.false-raw in
+    ≤ length c.args.buf.now = room c.has_room.result c.args.buf.now _ c.has_room.ensures c.if-not-has_room.false in
     let k = fits in omega arith
 
 pub overflow_add-header : goal.overflow_add-header
 overflow_add-header c =
     let fits : c.measure-sizes.result.whole + c.args.inner
-    ≤ length c.args.buf.now = room c.has_room.result c.args.buf.now _ c.has_room.ensures c.if-not-has_room.false-raw in
+    ≤ length c.args.buf.now = room c.has_room.result c.args.buf.now _ c.has_room.ensures c.if-not-has_room.false in
     let k = fits in
     let n = c.measure-sizes.result.whole + c.args.inner in
     let m = header_most 0 n (omega arith) in

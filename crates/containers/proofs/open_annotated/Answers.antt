@@ -64,12 +64,12 @@ around b at A l m o h p q r =
 pub returns-then-not-has_room : goal.returns-then-not-has_room
 returns-then-not-has_room c = let a = c.args in
     let A = annotation_bytes (sids_of a.annotations.now) in
-    let h = no_room c.has_room.result a.buf.now _ c.has_room.ensures c.if-not-has_room.true-raw in
+    let h = no_room c.has_room.result a.buf.now _ c.has_room.ensures c.if-not-has_room.true in
     sym (placed_full a.buf.now a.at (reserved A) (omega (arith, h, length-reserved A)))
 
 pub overflow_add-at : goal.overflow_add-at
 overflow_add-at c = let a = c.args in
-    let h = room c.has_room.result a.buf.now _ c.has_room.ensures c.if-not-has_room.false-raw in
+    let h = room c.has_room.result a.buf.now _ c.has_room.ensures c.if-not-has_room.false in
     omega (arith, h)
 
 pub returns-then-noted-eq0 : goal.returns-then-noted-eq0

@@ -11,21 +11,21 @@ use Rattle.containers.proofs.put_reserve.Goals as goal
 
 pub returns-then-not-has_room : goal.returns-then-not-has_room
 returns-then-not-has_room c = let a = c.args in
-    sym (placed_full a.buf.now a.at (0 ∷ 0 ∷ []) (no_room c.has_room.result a.buf.now _ c.has_room.ensures c.if-not-has_room.true-raw))
+    sym (placed_full a.buf.now a.at (0 ∷ 0 ∷ []) (no_room c.has_room.result a.buf.now _ c.has_room.ensures c.if-not-has_room.true))
 
 pub overflow_add-at : goal.overflow_add-at
 overflow_add-at c =
-    let fits : c.args.at + 2 ≤ length c.args.buf.now = room c.has_room.result c.args.buf.now _ c.has_room.ensures c.if-not-has_room.false-raw in
+    let fits : c.args.at + 2 ≤ length c.args.buf.now = room c.has_room.result c.args.buf.now _ c.has_room.ensures c.if-not-has_room.false in
     let h = fits in omega arith
 
 pub clear-requires : goal.clear-requires
 clear-requires c =
-    let fits : c.args.at + 2 ≤ length c.args.buf.now = room c.has_room.result c.args.buf.now _ c.has_room.ensures c.if-not-has_room.false-raw in
+    let fits : c.args.at + 2 ≤ length c.args.buf.now = room c.has_room.result c.args.buf.now _ c.has_room.ensures c.if-not-has_room.false in
     let h = fits in omega arith
 
 pub returns : goal.returns
 returns c =
-    let fits : c.args.at + 2 ≤ length c.args.buf.now = room c.has_room.result c.args.buf.now _ c.has_room.ensures c.if-not-has_room.false-raw in
+    let fits : c.args.at + 2 ≤ length c.args.buf.now = room c.has_room.result c.args.buf.now _ c.has_room.ensures c.if-not-has_room.false in
     let a = c.args in
     let e : a.at + 2 - a.at ≡ 2 = omega arith in
     placed_by a.buf.now a.at (0 ∷ 0 ∷ []) 2 _ (fits) refl

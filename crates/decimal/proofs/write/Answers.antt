@@ -43,7 +43,7 @@ returns-then-not-has_room c =
     let a = c.args in
     let short =
     no_room c.has_room.result a.buf.now (a.at + (c.encoded_size_of.result + c.body_size-body.result))
-    c.has_room.ensures c.if-not-has_room.true-raw in
+    c.has_room.ensures c.if-not-has_room.true in
     sym (placed_full a.buf.now a.at (checked_bytes (write_decimal a.negative a.magnitude.now a.exponent)) (rw (value) at short))
 
 pub overflow_add-at : goal.overflow_add-at
@@ -55,7 +55,7 @@ overflow_add-at c =
     a.at + (length (header_bytes 0 (length out)) + length out) ≤ length a.buf.now = let a = c.args in
     rw (← (body_is), ← c.encoded_size_of.ensures)
     (room c.has_room.result a.buf.now (a.at + (c.encoded_size_of.result + c.body_size-body.result))
-    c.has_room.ensures c.if-not-has_room.false-raw) in
+    c.has_room.ensures c.if-not-has_room.false) in
     let header : let a = c.args in
     ◌≡◌ {A = ℕ × List ℕ} (c.write-header.result, c.write-header.new.buf) (placed a.buf.now a.at
     (header_bytes (type_byte decimal_code) (length (decimal_body a.negative a.magnitude.now a.exponent)))) = rw (← (body_is)) c.write-header.ensures in
@@ -74,7 +74,7 @@ put_body-requires c =
     a.at + (length (header_bytes 0 (length out)) + length out) ≤ length a.buf.now = let a = c.args in
     rw (← (body_is), ← c.encoded_size_of.ensures)
     (room c.has_room.result a.buf.now (a.at + (c.encoded_size_of.result + c.body_size-body.result))
-    c.has_room.ensures c.if-not-has_room.false-raw) in
+    c.has_room.ensures c.if-not-has_room.false) in
     let header : let a = c.args in
     ◌≡◌ {A = ℕ × List ℕ} (c.write-header.result, c.write-header.new.buf) (placed a.buf.now a.at
     (header_bytes (type_byte decimal_code) (length (decimal_body a.negative a.magnitude.now a.exponent)))) = rw (← (body_is)) c.write-header.ensures in
@@ -94,7 +94,7 @@ overflow_add-result c =
     a.at + (length (header_bytes 0 (length out)) + length out) ≤ length a.buf.now = let a = c.args in
     rw (← (body_is), ← c.encoded_size_of.ensures)
     (room c.has_room.result a.buf.now (a.at + (c.encoded_size_of.result + c.body_size-body.result))
-    c.has_room.ensures c.if-not-has_room.false-raw) in
+    c.has_room.ensures c.if-not-has_room.false) in
     let header : let a = c.args in
     ◌≡◌ {A = ℕ × List ℕ} (c.write-header.result, c.write-header.new.buf) (placed a.buf.now a.at
     (header_bytes (type_byte decimal_code) (length (decimal_body a.negative a.magnitude.now a.exponent)))) = rw (← (body_is)) c.write-header.ensures in
@@ -120,7 +120,7 @@ returns c =
     a.at + (length (header_bytes 0 (length out)) + length out) ≤ length a.buf.now = let a = c.args in
     rw (← (body_is), ← c.encoded_size_of.ensures)
     (room c.has_room.result a.buf.now (a.at + (c.encoded_size_of.result + c.body_size-body.result))
-    c.has_room.ensures c.if-not-has_room.false-raw) in
+    c.has_room.ensures c.if-not-has_room.false) in
     let header : let a = c.args in
     ◌≡◌ {A = ℕ × List ℕ} (c.write-header.result, c.write-header.new.buf) (placed a.buf.now a.at
     (header_bytes (type_byte decimal_code) (length (decimal_body a.negative a.magnitude.now a.exponent)))) = rw (← (body_is)) c.write-header.ensures in

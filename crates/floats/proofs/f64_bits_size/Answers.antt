@@ -6,9 +6,9 @@ use Rattle.encoding.specs.Fields.{fixed_bytes}
 use Rattle.floats.proofs.Bytes.{float64_narrowed, float64_other}
 use Rattle.floats.proofs.f64_bits_size.Goals as goal
 
-pub returns-in-Exact : goal.returns-in-Exact
-returns-in-Exact c = rw (float64_narrowed _ _ (sym c.narrow.ensures ∙ c.in-Exact.is)) c.f32_bits_size.ensures
+pub returns-in-Some : goal.returns-in-Some
+returns-in-Some c = rw (float64_narrowed _ _ (sym c.narrow.ensures ∙ c.in-Some.is)) c.f32_bits_size.ensures
 
-pub returns-in-No : goal.returns-in-No
+pub returns-in-None : goal.returns-in-None
 unfolding fixed_bytes low_digits
-returns-in-No c = rw (float64_other _ (sym c.narrow.ensures ∙ c.in-No.is)) refl
+returns-in-None c = rw (float64_other _ (sym c.narrow.ensures ∙ c.in-None.is)) refl

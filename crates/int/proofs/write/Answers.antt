@@ -38,8 +38,8 @@ returns-then-negative c = let a = c.args in
 
 pub returns-then-zeros-magnitude : goal.returns-then-zeros-magnitude
 returns-then-zeros-magnitude c = let a = c.args in
-    sym (ap (placed a.buf.now a.at) (int_zero a.negative (trimmed a.magnitude.now) c.if-negative.false (omega arith))
-    ∙ placed_nil a.buf.now a.at)
+    c.copy.ensures
+    ∙ ap (placed a.buf.now a.at) (sym (int_zero a.negative (trimmed a.magnitude.now) c.if-negative.false (omega arith)))
 
 pub overflow_add-sign : goal.overflow_add-sign
 overflow_add-sign c = omega (arith, bool_byte-most c.args.negative)
