@@ -10,15 +10,15 @@ use lib.Dec.{eqb, ltb, leb, eqb-suc-zero}
 use lib.ListN.{length, get_or, take, set, get_or-append, get_or-eq_default, replicate}
 use lib.Seq.{get_or-take, get_or-set_same, length-take-le}
 use mir.Val.{bool_byte}
-use borrow.Author.Tests.{eq-eqb, ne_eqb, eqb-true, eqb-false, lt-ltb, le-ltb, lt-leb, le-leb, leb-true, leb-false, ltb-true, ltb-false, not-false}
-use Rattle.ion.proofs.Tests.{by_cases, both}
+use borrow.Author.Tests.{eq-eqb, ne_eqb, eqb-true, eqb-false, lt-ltb, le-ltb, lt-leb, le-leb, leb-true, leb-false, ltb-true, ltb-false}
+use Rattle.ion.proofs.Tests.{by_cases}
 use Rattle.buffer.specs.Laid.{laid, placed}
-use Rattle.buffer.proofs.Laid.{laid_one, laid_snoc, length-laid, laid_more, leb_iff}
+use Rattle.buffer.proofs.Laid.{laid_snoc, length-laid, laid_more}
 use Rattle.machine.specs.declared.Container.{Container}
 use Rattle.machine.specs.declared.State.{State}
 use Rattle.machine.specs.Machine.{most_open, longest_buffer, no_container, innermost_first, open_containers, in_struct, outer, with_member, counted}
 use Rattle.machine.specs.Machine.{container_fits, containers_fit, fits, place_verdict, is_accepted}
-use Rattle.place.proofs.Laws.{same_test, innermost_step, innermost-none, chain_step, fits_overused, fits_overopen}
+use Rattle.place.proofs.Laws.{innermost_step, innermost-none, chain_step, fits_overused, fits_overopen}
 use Rattle.state_bytes.specs.StateBytes.{head_size, record_size, state_size, four, place_of, container_at, containers_from, unfit_state, state_of}
 use Rattle.state_bytes.specs.StateBytes.{four_bytes, flag, stored_head, stored_container, stored_members, stored_count, numbers_laid}
 

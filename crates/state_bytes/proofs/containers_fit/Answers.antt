@@ -1,6 +1,6 @@
 -- `state_bytes::containers_fit` meets its contract: container by container, from the innermost outwards.
 -- Assumes nothing.
-use Rattle.std.proofs.Common.{sym, refl, ◌∙◌}
+use Rattle.std.proofs.Common.{sym, ◌∙◌}
 use native.Mathlib.Omega.{arith}
 use Rattle.place.proofs.Laws.{chain_none}
 use Rattle.state_bytes.specs.StateBytes.{state_of}

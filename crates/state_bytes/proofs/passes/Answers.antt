@@ -1,11 +1,11 @@
 -- `state_bytes::passes` meets its contract: it asks the tests one by one, the containers last.
 -- Assumes nothing.
-use Rattle.std.proofs.Common.{◌≡◌, ◌≤◌, ℕ, Bool, true, false, not, ◌&&◌, ◌||◌, sym, refl, ◌∙◌}
+use Rattle.std.proofs.Common.{◌≡◌, not, sym, ◌∙◌}
 use native.Mathlib.Omega.{arith}
 use lib.Dec.{eqb}
 use lib.ListN.{get_or}
-use Rattle.machine.specs.Machine.{most_open, longest_buffer, open_containers, is_open, in_struct, innermost_first}
-use Rattle.place.specs.Misplaced.{misplaced, misplaced_where}
+use Rattle.machine.specs.Machine.{open_containers, is_open, in_struct}
+use Rattle.place.specs.Misplaced.{misplaced}
 use Rattle.place.proofs.Laws.{open_of}
 use Rattle.state_bytes.specs.StateBytes.{state_of}
 use Rattle.state_bytes.proofs.Laws.{state_is, too_far, near, passes_is}

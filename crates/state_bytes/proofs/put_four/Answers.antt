@@ -4,7 +4,6 @@ use Rattle.std.proofs.Common.{◌≡◌, ◌+◌, ◌-◌, refl}
 use native.Mathlib.Omega.{arith}
 use Rattle.std.proofs.lemmas.List.{drop-drop}
 use Rattle.buffer.specs.Laid.{laid}
-use Rattle.state_bytes.specs.StateBytes.{four_bytes}
 use Rattle.state_bytes.proofs.put_four.Goals as goal
 
 pub returns : goal.returns
