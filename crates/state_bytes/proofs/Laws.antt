@@ -99,11 +99,6 @@ struct_below b d h k u =
 pub outer_step : (l : List Container) (n : ℕ) → 0 < n → in_struct (innermost_first l (n - 1)) ≡ in_struct (outer (innermost_first l n))
 outer_step l n h = rw (innermost_step l n h)
 
-pub outer-none : (l : List Container) (n : ℕ) → n ≤ 0 → false ≡ in_struct (outer (innermost_first l n))
-outer-none l n h = rw (innermost-none l n h)
-
--- ---- whether it fits
-
 -- ---- the containers, one by one
 
 -- c is the container below i
