@@ -92,10 +92,11 @@ pub fn ended(s: State, put: usize, waiting: bool, why: Refusal) -> Result<State,
     if put == 0 {
         return Err(Refused { why, state: s });
     }
-    let mut next = s;
-    next.used = s.used.wrapping_add(put);
-    next.waiting = waiting;
-    Ok(next)
+    Ok(State {
+        used: s.used.wrapping_add(put),
+        waiting,
+        ..s
+    })
 }
 
 // The innermost container with one member more; with none open the state is as it was.

@@ -1,6 +1,7 @@
 -- `annotations::write_prefix` meets its contract: room for the header, the annotations and the value, and then header and annotations are put.
 -- By the law of two placed runs. Assumes nothing.
 use mathlib.Core.Path.{◌≡◌, refl, sym, ◌∙◌, ap}
+use mathlib.Core.Bool.{not}
 use mathlib.Core.List.{List, ◌++◌}
 use Prim.Native.Nat.{ℕ, ◌+◌, ◌≤◌}
 use native.Mathlib.Omega.{arith}
@@ -27,118 +28,77 @@ record Known (b : List ℕ) (at whole inner : ℕ) (an : List ℕ) (n : ℕ) (l 
   first : n ≡ length (header_bytes 0xE0 (whole + inner))
   kept : length l ≡ length b
 
+known : (b : List ℕ) (at whole inner size : ℕ) (an : List ℕ) (n : ℕ) (l : List ℕ) → whole ≡ length (annotation_bytes an) → size ≡ length (header_bytes 0 (whole + inner))
+    → at + (size + (whole + inner)) ≤ length b → ◌≡◌ {A = ℕ × List ℕ} (n, l) (placed b at (header_bytes 0xE0 (whole + inner))) → Known b at whole inner an n l
+known b at whole inner size an n l w s h e =
+    let p = sized an whole inner size w s in
+    let q = length_header 0xE0 (whole + inner) in
+    record {
+      all = omega (arith, p);
+      runs = omega (arith, q);
+      first = placed_count b at (header_bytes 0xE0 (whole + inner)) n l e (omega (arith, q));
+      kept = placed-length b at (header_bytes 0xE0 (whole + inner)) n l e;
+    }
+
 pub returns-then-not-has_room : goal.returns-then-not-has_room
 returns-then-not-has_room c = let a = c.args in
     let an = sids_of a.annotations.now in
-    let h = no_room c.has_room.result a.buf.now _ c.has_room.ensures c.if-not-has_room.true in
-    sym (placed_before_full a.buf.now a.at (prefix_bytes an a.inner) a.inner (omega (arith, length_prefix an a.inner)))
-
-pub overflow_add-body : goal.overflow_add-body
-overflow_add-body c =
-    let fits : c.measure-sizes.result.whole + c.args.inner
-    ≤ length c.args.buf.now = room c.has_room.result c.args.buf.now _ c.has_room.ensures c.if-not-has_room.false in
-    let k = fits in omega arith
+    let h = no_room _ a.buf.now _ c.has_room.ensures (ap not c.if-not-has_room.true) in
+    sym (placed_before_full a.buf.now a.at (prefix_bytes an a.inner) a.inner (omega (arith, length_prefix an a.inner, rw c.of-measured.ensures at c.of-measured.result.whole_is)))
 
 pub overflow_add-header : goal.overflow_add-header
-overflow_add-header c =
-    let fits : c.measure-sizes.result.whole + c.args.inner
-    ≤ length c.args.buf.now = room c.has_room.result c.args.buf.now _ c.has_room.ensures c.if-not-has_room.false in
-    let k = fits in
-    let n = c.measure-sizes.result.whole + c.args.inner in
-    let m = header_most 0 n (omega arith) in
-    omega arith
+overflow_add-header c = let n = c.of-measured.result.whole + c.args.inner in
+    let fits = room _ c.args.buf.now _ c.has_room.ensures (ap not c.if-not-has_room.false) in
+    omega (arith, fits, header_most 0 n (omega (arith, fits)))
 
 pub returns-then-not-has_room-2 : goal.returns-then-not-has_room-2
 returns-then-not-has_room-2 c = let a = c.args in
     let an = sids_of a.annotations.now in
-    let m = c.measure-sizes in
-    let h = no_room c.has_room-2.result a.buf.now _ c.has_room-2.ensures c.if-not-has_room-2.true-raw in
-    let e = sized an m.result.whole a.inner _ m.ensures.1 c.encoded_size_of-header.ensures in
-    sym (placed_before_full a.buf.now a.at (prefix_bytes an a.inner) a.inner (omega arith))
+    let h = no_room _ a.buf.now _ c.has_room-2.ensures (ap not c.if-not-has_room-2.true) in
+    let e = sized an c.of-measured.result.whole a.inner _ (rw c.of-measured.ensures at c.of-measured.result.whole_is) c.encoded_size_of-header.ensures in
+    sym (placed_before_full a.buf.now a.at (prefix_bytes an a.inner) a.inner (omega (arith, e)))
 
 pub overflow_add-at : goal.overflow_add-at
 overflow_add-at c =
-    let known : let a = c.args in
-    Known a.buf.now a.at c.measure-sizes.result.whole a.inner
-    (sids_of a.annotations.now) c.write-first.result c.write-first.new.buf = let m = c.measure-sizes in
     let a = c.args in
+    let m = c.of-measured.result in
     let an = sids_of a.annotations.now in
-    let h = room c.has_room-2.result a.buf.now _ c.has_room-2.ensures c.if-not-has_room-2.false-raw in
-    let e = sized an m.result.whole a.inner _ m.ensures.1 c.encoded_size_of-header.ensures in
-    let q = length_header 0xE0 (m.result.whole + a.inner) in
-    record {
-      all = omega arith;
-      runs = omega arith;
-      first = placed_count a.buf.now a.at (header_bytes 0xE0 (m.result.whole + a.inner)) _ _ c.write-first.ensures (omega arith);
-      kept = placed-length a.buf.now a.at (header_bytes 0xE0 (m.result.whole + a.inner)) _ _ c.write-first.ensures;
-    } in
-    let k = known in omega arith
+    let k = known a.buf.now a.at m.whole a.inner _ an _ _ (rw c.of-measured.ensures at m.whole_is) c.encoded_size_of-header.ensures
+    (room _ a.buf.now _ c.has_room-2.ensures (ap not c.if-not-has_room-2.false)) c.write-first.ensures in
+    omega (arith, k.runs, k.first)
 
 pub put-rest-requires : goal.put-rest-requires
 put-rest-requires c =
-    let known : let a = c.args in
-    Known a.buf.now a.at c.measure-sizes.result.whole a.inner
-    (sids_of a.annotations.now) c.write-first.result c.write-first.new.buf = let m = c.measure-sizes in
     let a = c.args in
+    let m = c.of-measured.result in
     let an = sids_of a.annotations.now in
-    let h = room c.has_room-2.result a.buf.now _ c.has_room-2.ensures c.if-not-has_room-2.false-raw in
-    let e = sized an m.result.whole a.inner _ m.ensures.1 c.encoded_size_of-header.ensures in
-    let q = length_header 0xE0 (m.result.whole + a.inner) in
-    record {
-      all = omega arith;
-      runs = omega arith;
-      first = placed_count a.buf.now a.at (header_bytes 0xE0 (m.result.whole + a.inner)) _ _ c.write-first.ensures (omega arith);
-      kept = placed-length a.buf.now a.at (header_bytes 0xE0 (m.result.whole + a.inner)) _ _ c.write-first.ensures;
-    } in
-    let k = known in
-    (c.measure-sizes.ensures.0, omega arith)
+    let k = known a.buf.now a.at m.whole a.inner _ an _ _ (rw c.of-measured.ensures at m.whole_is) c.encoded_size_of-header.ensures
+    (room _ a.buf.now _ c.has_room-2.ensures (ap not c.if-not-has_room-2.false)) c.write-first.ensures in
+    omega (arith, k.runs, k.first, k.kept, rw c.of-measured.ensures at m.whole_is)
 
 pub overflow_add-result : goal.overflow_add-result
 overflow_add-result c =
-    let known : let a = c.args in
-    Known a.buf.now a.at c.measure-sizes.result.whole a.inner
-    (sids_of a.annotations.now) c.write-first.result c.write-first.new.buf = let m = c.measure-sizes in
     let a = c.args in
+    let m = c.of-measured.result in
     let an = sids_of a.annotations.now in
-    let h = room c.has_room-2.result a.buf.now _ c.has_room-2.ensures c.if-not-has_room-2.false-raw in
-    let e = sized an m.result.whole a.inner _ m.ensures.1 c.encoded_size_of-header.ensures in
-    let q = length_header 0xE0 (m.result.whole + a.inner) in
-    record {
-      all = omega arith;
-      runs = omega arith;
-      first = placed_count a.buf.now a.at (header_bytes 0xE0 (m.result.whole + a.inner)) _ _ c.write-first.ensures (omega arith);
-      kept = placed-length a.buf.now a.at (header_bytes 0xE0 (m.result.whole + a.inner)) _ _ c.write-first.ensures;
-    } in
-    let k = known in
-    let a = c.args in
+    let k = known a.buf.now a.at m.whole a.inner _ an _ _ (rw c.of-measured.ensures at m.whole_is) c.encoded_size_of-header.ensures
+    (room _ a.buf.now _ c.has_room-2.ensures (ap not c.if-not-has_room-2.false)) c.write-first.ensures in
     omega (
       arith,
-      placed-most c.write-first.new.buf (a.at + c.write-first.result) (annotation_bytes (sids_of a.annotations.now)) _ _
-          c.put-rest.ensures,
+      k.runs,
+      k.first,
+      placed-most c.write-first.new.buf (a.at + c.write-first.result) (annotation_bytes an) _ _ (rw c.of-measured.ensures at c.put-rest.ensures),
     )
 
 pub returns : goal.returns
 unfolding prefix_bytes
 returns c =
-    let known : let a = c.args in
-    Known a.buf.now a.at c.measure-sizes.result.whole a.inner
-    (sids_of a.annotations.now) c.write-first.result c.write-first.new.buf = let m = c.measure-sizes in
     let a = c.args in
+    let m = c.of-measured.result in
     let an = sids_of a.annotations.now in
-    let h = room c.has_room-2.result a.buf.now _ c.has_room-2.ensures c.if-not-has_room-2.false-raw in
-    let e = sized an m.result.whole a.inner _ m.ensures.1 c.encoded_size_of-header.ensures in
-    let q = length_header 0xE0 (m.result.whole + a.inner) in
-    record {
-      all = omega arith;
-      runs = omega arith;
-      first = placed_count a.buf.now a.at (header_bytes 0xE0 (m.result.whole + a.inner)) _ _ c.write-first.ensures (omega arith);
-      kept = placed-length a.buf.now a.at (header_bytes 0xE0 (m.result.whole + a.inner)) _ _ c.write-first.ensures;
-    } in
-    let k = known in
-    let m = c.measure-sizes in
-    let a = c.args in
-    let an = sids_of a.annotations.now in
-    placed_then a.buf.now a.at (header_bytes 0xE0 (m.result.whole + a.inner)) _ _ c.write-first.ensures (annotation_bytes an) _ _
-    k.runs c.put-rest.ensures
-    ∙ (ap (λ (n : ℕ). placed a.buf.now a.at (header_bytes 0xE0 (n + a.inner) ++ annotation_bytes an)) m.ensures.1
+    let k = known a.buf.now a.at m.whole a.inner _ an _ _ (rw c.of-measured.ensures at m.whole_is) c.encoded_size_of-header.ensures
+    (room _ a.buf.now _ c.has_room-2.ensures (ap not c.if-not-has_room-2.false)) c.write-first.ensures in
+    placed_then a.buf.now a.at (header_bytes 0xE0 (m.whole + a.inner)) _ _ c.write-first.ensures (annotation_bytes an) _ _ k.runs
+    (rw c.of-measured.ensures at c.put-rest.ensures)
+    ∙ (ap (λ (n : ℕ). placed a.buf.now a.at (header_bytes 0xE0 (n + a.inner) ++ annotation_bytes an)) (rw c.of-measured.ensures at m.whole_is)
     ∙ sym (placed_before-fits a.buf.now a.at (prefix_bytes an a.inner) a.inner k.all))

@@ -20,9 +20,11 @@ loop-i-init c = let a = c.args in
 pub loop-i-preserved : goal.loop-i-preserved
 loop-i-preserved c = let a = c.args in
     let l = c.loop-i in
-    let n : length (take l.i a.src.now) ≡ l.i = length-take-le l.i a.src.now (omega arith) in
-    (omega arith, rw (l.invariant.1, add-one, take-suc a.src.now l.i 0 (omega arith))
-    (laid_snoc a.buf.now a.at (take l.i a.src.now) (a.at + l.i) (get_or a.src.now l.i 0) (omega arith) (omega arith)))
+    let n : length (take l.i a.src.now) ≡ l.i = length-take-le l.i a.src.now (omega arith) in (
+      omega arith,
+      rw (l.invariant.1, add-one, take-suc a.src.now l.i 0 (omega arith))
+          (laid_snoc a.buf.now a.at (take l.i a.src.now) (a.at + l.i) (get_or a.src.now l.i 0) (omega arith) (omega arith)),
+    )
 
 pub returns : goal.returns
 returns c = let a = c.args in

@@ -1,6 +1,7 @@
 -- `containers::open_annotated` meets its contract: room for the whole; the annotations are put, and the reserves before and behind them cleared.
 -- Assumes nothing.
 use mathlib.Core.Path.{◌≡◌, sym, ◌∙◌, ap}
+use mathlib.Core.Bool.{not}
 use mathlib.Core.List.{List, [], ◌∷◌, ◌++◌}
 use Prim.Native.Nat.{ℕ, ◌+◌, ◌-◌, ◌≤◌, ◌<◌}
 use native.Mathlib.Omega.{arith}
@@ -64,13 +65,12 @@ around b at A l m o h p q r =
 pub returns-then-not-has_room : goal.returns-then-not-has_room
 returns-then-not-has_room c = let a = c.args in
     let A = annotation_bytes (sids_of a.annotations.now) in
-    let h = no_room c.has_room.result a.buf.now _ c.has_room.ensures c.if-not-has_room.true in
+    let h = no_room _ a.buf.now _ c.has_room.ensures (ap not c.if-not-has_room.true) in
     sym (placed_full a.buf.now a.at (reserved A) (omega (arith, h, length-reserved A)))
 
 pub overflow_add-at : goal.overflow_add-at
 overflow_add-at c = let a = c.args in
-    let h = room c.has_room.result a.buf.now _ c.has_room.ensures c.if-not-has_room.false in
-    omega (arith, h)
+    omega (arith, room _ a.buf.now _ c.has_room.ensures (ap not c.if-not-has_room.false))
 
 pub returns-then-noted-eq0 : goal.returns-then-noted-eq0
 returns-then-noted-eq0 c = let a = c.args in
@@ -81,81 +81,60 @@ returns-then-noted-eq0 c = let a = c.args in
 
 pub overflow_add-header : goal.overflow_add-header
 overflow_add-header c =
-    let noted : List ℕ = annotation_bytes (sids_of c.args.annotations.now) in
-    let put : let a = c.args in let w = c.write_before-noted in
-    (a.at + (length (noted) + 4) ≤ length a.buf.now) × (w.result ≡ length (noted)) × (w.new.buf ≡ laid a.buf.now (a.at + 2) (noted)) = let a = c.args in
+    let a = c.args in
     let w = c.write_before-noted in
-    put_some a.buf.now a.at (sids_of a.annotations.now) w.result w.new.buf w.ensures c.if-noted-eq0.false in
-    omega (arith, (put).0)
+    let h = put_some a.buf.now a.at (sids_of a.annotations.now) w.result w.new.buf w.ensures c.if-noted-eq0.false in
+    omega (arith, h.0, h.1)
 
 pub overflow_add-header-2 : goal.overflow_add-header-2
 overflow_add-header-2 c =
-    let noted : List ℕ = annotation_bytes (sids_of c.args.annotations.now) in
-    let put : let a = c.args in let w = c.write_before-noted in
-    (a.at + (length (noted) + 4) ≤ length a.buf.now) × (w.result ≡ length (noted)) × (w.new.buf ≡ laid a.buf.now (a.at + 2) (noted)) = let a = c.args in
+    let a = c.args in
     let w = c.write_before-noted in
-    put_some a.buf.now a.at (sids_of a.annotations.now) w.result w.new.buf w.ensures c.if-noted-eq0.false in
-    omega (arith, (put).0, (put).1)
+    let h = put_some a.buf.now a.at (sids_of a.annotations.now) w.result w.new.buf w.ensures c.if-noted-eq0.false in
+    omega (arith, h.0, h.1)
 
 pub overflow_add-at-2 : goal.overflow_add-at-2
 overflow_add-at-2 c =
-    let noted : List ℕ = annotation_bytes (sids_of c.args.annotations.now) in
-    let put : let a = c.args in let w = c.write_before-noted in
-    (a.at + (length (noted) + 4) ≤ length a.buf.now) × (w.result ≡ length (noted)) × (w.new.buf ≡ laid a.buf.now (a.at + 2) (noted)) = let a = c.args in
+    let a = c.args in
     let w = c.write_before-noted in
-    put_some a.buf.now a.at (sids_of a.annotations.now) w.result w.new.buf w.ensures c.if-noted-eq0.false in
-    omega (arith, (put).0)
+    let h = put_some a.buf.now a.at (sids_of a.annotations.now) w.result w.new.buf w.ensures c.if-noted-eq0.false in
+    omega (arith, h.0, h.1)
 
 pub clear-requires : goal.clear-requires
 clear-requires c =
-    let noted : List ℕ = annotation_bytes (sids_of c.args.annotations.now) in
-    let put : let a = c.args in let w = c.write_before-noted in
-    (a.at + (length (noted) + 4) ≤ length a.buf.now) × (w.result ≡ length (noted)) × (w.new.buf ≡ laid a.buf.now (a.at + 2) (noted)) = let a = c.args in
+    let a = c.args in
     let w = c.write_before-noted in
-    put_some a.buf.now a.at (sids_of a.annotations.now) w.result w.new.buf w.ensures c.if-noted-eq0.false in
-    omega (arith, (put).0, (put).1)
+    let h = put_some a.buf.now a.at (sids_of a.annotations.now) w.result w.new.buf w.ensures c.if-noted-eq0.false in
+    omega (arith, h.0, h.1)
 
 pub overflow_add-header-3 : goal.overflow_add-header-3
 overflow_add-header-3 c =
-    let noted : List ℕ = annotation_bytes (sids_of c.args.annotations.now) in
-    let put : let a = c.args in let w = c.write_before-noted in
-    (a.at + (length (noted) + 4) ≤ length a.buf.now) × (w.result ≡ length (noted)) × (w.new.buf ≡ laid a.buf.now (a.at + 2) (noted)) = let a = c.args in
+    let a = c.args in
     let w = c.write_before-noted in
-    put_some a.buf.now a.at (sids_of a.annotations.now) w.result w.new.buf w.ensures c.if-noted-eq0.false in
-    let h = put in omega (arith, h.0, h.1)
+    let h = put_some a.buf.now a.at (sids_of a.annotations.now) w.result w.new.buf w.ensures c.if-noted-eq0.false in
+    omega (arith, h.0, h.1)
 
 pub clear-requires-2 : goal.clear-requires-2
 clear-requires-2 c =
-    let noted : List ℕ = annotation_bytes (sids_of c.args.annotations.now) in
-    let put : let a = c.args in let w = c.write_before-noted in
-    (a.at + (length (noted) + 4) ≤ length a.buf.now) × (w.result ≡ length (noted)) × (w.new.buf ≡ laid a.buf.now (a.at + 2) (noted)) = let a = c.args in
+    let a = c.args in
     let w = c.write_before-noted in
-    put_some a.buf.now a.at (sids_of a.annotations.now) w.result w.new.buf w.ensures c.if-noted-eq0.false in
-    let h = put in omega (arith, h.0, h.1)
+    let h = put_some a.buf.now a.at (sids_of a.annotations.now) w.result w.new.buf w.ensures c.if-noted-eq0.false in
+    omega (arith, h.0, h.1)
 
 pub overflow_add-result : goal.overflow_add-result
 overflow_add-result c =
-    let noted : List ℕ = annotation_bytes (sids_of c.args.annotations.now) in
-    let put : let a = c.args in let w = c.write_before-noted in
-    (a.at + (length (noted) + 4) ≤ length a.buf.now) × (w.result ≡ length (noted)) × (w.new.buf ≡ laid a.buf.now (a.at + 2) (noted)) = let a = c.args in
+    let a = c.args in
     let w = c.write_before-noted in
-    put_some a.buf.now a.at (sids_of a.annotations.now) w.result w.new.buf w.ensures c.if-noted-eq0.false in
-    let h = put in omega (arith, h.0, h.1)
+    let h = put_some a.buf.now a.at (sids_of a.annotations.now) w.result w.new.buf w.ensures c.if-noted-eq0.false in
+    omega (arith, h.0, h.1)
 
 pub returns : goal.returns
 returns c =
-    let noted : List ℕ = annotation_bytes (sids_of c.args.annotations.now) in
-    let put : let a = c.args in let w = c.write_before-noted in
-    (a.at + (length (noted) + 4) ≤ length a.buf.now) × (w.result ≡ length (noted)) × (w.new.buf ≡ laid a.buf.now (a.at + 2) (noted)) = let a = c.args in
-    let w = c.write_before-noted in
-    put_some a.buf.now a.at (sids_of a.annotations.now) w.result w.new.buf w.ensures c.if-noted-eq0.false in
     let a = c.args in
     let w = c.write_before-noted in
-    let A = noted in
-    let h = put in
+    let h = put_some a.buf.now a.at (sids_of a.annotations.now) w.result w.new.buf w.ensures c.if-noted-eq0.false in
+    let A = annotation_bytes (sids_of a.annotations.now) in
     let x : a.at + 2 - a.at ≡ 2 = omega arith in
     let y : (a.at + 2 + w.result + 2) - (a.at + 2 + w.result) ≡ 2 = omega arith in
-    let q = rw x at c.clear.ensures in
-    let r = rw (y, h.1) at c.clear-2.ensures in
     placed_by a.buf.now a.at (reserved A) _ _ (omega (arith, h.0, length-reserved A)) (omega (arith, h.1, length-reserved A))
-    (around a.buf.now a.at A w.new.buf c.clear.new.buf c.clear-2.new.buf h.0 h.2 q r)
+    (around a.buf.now a.at A w.new.buf c.clear.new.buf c.clear-2.new.buf h.0 h.2 (rw x at c.clear.ensures) (rw (y, h.1) at c.clear-2.ensures))
