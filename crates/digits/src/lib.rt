@@ -15,7 +15,13 @@ pub fn bits_used(value: u64) -> usize
 
 // The lowest `count` digits of `value`, most significant first, in the base whose greatest digit is `greatest`: no such base is zero, and each digit is a byte.
 // They are put from the last to the first.
-pub fn put_digits(buf: &mut [u8], at: usize, count: usize, greatest: u8, value: u64) -> Option<usize>
+pub fn put_digits(
+    buf: &mut [u8],
+    at: usize,
+    count: usize,
+    greatest: u8,
+    value: u64,
+) -> Option<usize>
     ensures { ◌≡◌ {A = Option ℕ × List ℕ} (result, buf.new) (placed buf.old at (low_digits (greatest + 1) count value)) }
 {
     if !buffer::has_room(buf.len(), at, count) {

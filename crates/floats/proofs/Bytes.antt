@@ -6,12 +6,11 @@ use mathlib.Core.Bool.{Bool, true, false}
 use mathlib.Core.List.{◌∷◌}
 use native.Mathlib.Omega.{arith}
 use borrow.Author.Tests.{ne_eqb}
-use lib.Ieee.{binary32, binary64, of_bits, to_bits, is_nan}
-use lib.Ieee.{fits as holds}
+use lib.Ieee.{binary32, binary64, of_bits, to_bits}
 use Rattle.encoding.specs.Digits.{low_digits}
 use Rattle.encoding.specs.Fields.{fixed_bytes}
 use Rattle.encoding.specs.Argument.{narrows, float32_bytes, float64_bytes}
-use Rattle.std.specs.Prelude.{Option, Some, None}
+use Rattle.std.specs.Prelude.{Some, None}
 use Rattle.floats.specs.Narrowed.{narrowed_to, narrowed_bits}
 
 pub float32_zero : (b : ℕ) → b ≡ 0 → float32_bytes b ≡ 0x40 ∷ fixed_bytes 0 0
@@ -21,10 +20,6 @@ float32_zero b e = rw e refl
 pub float32_other : (b : ℕ) → (b ≡ 0 → ⊥) → float32_bytes b ≡ 0x44 ∷ fixed_bytes 4 b
 unfolding float32_bytes
 float32_other b h = rw (ne_eqb b 0 h, float32_bytes)
-
-pub float64_zero : (b : ℕ) → b ≡ 0 → float64_bytes b ≡ 0x40 ∷ fixed_bytes 0 0
-unfolding float64_bytes float32_bytes fixed_bytes low_digits narrows of_bits to_bits holds is_nan
-float64_zero b e = rw e refl
 
 pub float64_narrowed : (b n : ℕ) → narrowed_bits b ≡ Some n → float64_bytes b ≡ float32_bytes n
 unfolding float64_bytes narrowed_bits

@@ -9,6 +9,7 @@ ghost use Rattle.buffer.specs.Laid.{placed};
 ghost use Rattle.encoding.specs.Fields.{fixed_bytes};
 ghost use Rattle.encoding.specs.Argument.{float32_bytes, float64_bytes};
 ghost use Rattle.floats.specs.Narrowed.{narrowed_bits, Dropped};
+ghost use Rattle.floats.specs.Zero.{float32_zero, float64_zero};
 
 // The sign bits, and the weight of the exponent's field.
 const SIGN_32: u32 = 0x8000_0000;
@@ -89,116 +90,129 @@ fn write_sized(buf: &mut [u8], at: usize, size: usize, bits: u64) -> Option<usiz
     Some(1 + count)
 }
 
-// The size of what `write_f32_bits` puts.
-pub fn f32_bits_size(bits: u32) -> usize
-    ensures { result ≡ length (float32_bytes bits) }
+// f32 and f64: the bits of each, and what becomes of them.
+pub trait Float: Copy {
+    type Bits: Copy;
+
+    // The number that bits are, the bits of a float by IEEE 754, and the bytes that a float of these bits takes.
+    ghost number: { Self.Bits → ℕ };
+
+    ghost bits_of: { Self → ℕ };
+
+    ghost bytes_of: { ℕ → List ℕ };
+
+    // A NaN has the bits of the quiet NaN: `to_bits` is not defined there.
+    fn bits(self) -> Self::Bits
+        ensures { number result ≡ bits_of self };
+
+    // Negative zero equals positive zero, so the sign bit is asked too.
+    fn is_positive_zero(self) -> bool
+        ensures { result ≡ eqb (bits_of self) 0 };
+
+    // The size of what `write_bits` puts.
+    fn bits_size(bits: Self::Bits) -> usize
+        ensures { result ≡ length (bytes_of (number bits)) };
+
+    // A float by its bits: a NaN keeps its own.
+    fn write_bits(buf: &mut [u8], at: usize, bits: Self::Bits) -> Option<usize>
+        ensures { ◌≡◌ {A = Option ℕ × List ℕ} (result, buf.new) (placed buf.old at (bytes_of (number bits))) };
+
+    ghost positive_zero: { bytes_of 0 ≡ 0x40 ∷ fixed_bytes 0 0 };
+}
+
+impl Float for f32 {
+    type Bits = u32;
+
+    ghost number = { λ n. n };
+
+    ghost bits_of = { to_bits binary32 };
+
+    ghost bytes_of = { float32_bytes };
+
+    ghost positive_zero = { float32_zero };
+
+    fn bits(self) -> u32 {
+        if self.is_nan() {
+            return QUIET_NAN_32;
+        }
+        self.to_bits()
+    }
+
+    fn is_positive_zero(self) -> bool {
+        (self == 0.0) & (self.bits() < SIGN_32)
+    }
+
+    fn bits_size(bits: u32) -> usize {
+        if bits == 0 {
+            return 1;
+        }
+        5
+    }
+
+    // Positive zero is 40; every other f32 is 44 and its own bits.
+    fn write_bits(buf: &mut [u8], at: usize, bits: u32) -> Option<usize> {
+        if bits == 0 {
+            return write_sized(buf, at, 0, 0);
+        }
+        write_sized(buf, at, 4, bits as u64)
+    }
+}
+
+impl Float for f64 {
+    type Bits = u64;
+
+    ghost number = { λ n. n };
+
+    ghost bits_of = { to_bits binary64 };
+
+    ghost bytes_of = { float64_bytes };
+
+    ghost positive_zero = { float64_zero };
+
+    fn bits(self) -> u64 {
+        if self.is_nan() {
+            return QUIET_NAN_64;
+        }
+        self.to_bits()
+    }
+
+    fn is_positive_zero(self) -> bool {
+        (self == 0.0) & (self.bits() < SIGN_64)
+    }
+
+    fn bits_size(bits: u64) -> usize {
+        match narrow(bits) {
+            Some(n) => f32::bits_size(n),
+            None => 9,
+        }
+    }
+
+    // An f64 that binary32 holds exactly goes out as an f32; every other, and every NaN, is 48 and its own bits.
+    fn write_bits(buf: &mut [u8], at: usize, bits: u64) -> Option<usize> {
+        match narrow(bits) {
+            Some(n) => f32::write_bits(buf, at, n),
+            None => write_sized(buf, at, 8, bits),
+        }
+    }
+}
+
+// The size of what `write` puts.
+#[tactic(auto, unfolding(encoding::specs::Fields::fixed_bytes, encoding::specs::Digits::low_digits))]
+pub fn size<F: Float>(v: F) -> usize
+    ensures { result ≡ length (F.bytes_of (F.bits_of v)) }
 {
-    if bits == 0 {
+    if v.is_positive_zero() {
         return 1;
     }
-    5
+    F::bits_size(v.bits())
 }
 
-// Positive zero is 40; every other f32 is 44 and its own bits, a NaN's too.
-pub fn write_f32_bits(buf: &mut [u8], at: usize, bits: u32) -> Option<usize>
-    ensures { ◌≡◌ {A = Option ℕ × List ℕ} (result, buf.new) (placed buf.old at (float32_bytes bits)) }
+// An f32 or an f64 by its value.
+pub fn write<F: Float>(buf: &mut [u8], at: usize, v: F) -> Option<usize>
+    ensures { ◌≡◌ {A = Option ℕ × List ℕ} (result, buf.new) (placed buf.old at (F.bytes_of (F.bits_of v))) }
 {
-    if bits == 0 {
+    if v.is_positive_zero() {
         return write_sized(buf, at, 0, 0);
     }
-    write_sized(buf, at, 4, bits as u64)
-}
-
-// The size of what `write_f64_bits` puts.
-pub fn f64_bits_size(bits: u64) -> usize
-    ensures { result ≡ length (float64_bytes bits) }
-{
-    match narrow(bits) {
-        Some(n) => f32_bits_size(n),
-        None => 9,
-    }
-}
-
-// An f64 that binary32 holds exactly goes out as an f32; every other, and every NaN, is 48 and its own bits.
-pub fn write_f64_bits(buf: &mut [u8], at: usize, bits: u64) -> Option<usize>
-    ensures { ◌≡◌ {A = Option ℕ × List ℕ} (result, buf.new) (placed buf.old at (float64_bytes bits)) }
-{
-    match narrow(bits) {
-        Some(n) => write_f32_bits(buf, at, n),
-        None => write_sized(buf, at, 8, bits),
-    }
-}
-
-// A NaN has the bits 7FC00000: `to_bits` is not defined there.
-fn bits_of_f32(v: f32) -> u32
-    ensures { result ≡ to_bits binary32 v }
-{
-    if v != v {
-        return QUIET_NAN_32;
-    }
-    f32::to_bits(v)
-}
-
-// A NaN has the bits 7FF8000000000000.
-fn bits_of_f64(v: f64) -> u64
-    ensures { result ≡ to_bits binary64 v }
-{
-    if v != v {
-        return QUIET_NAN_64;
-    }
-    f64::to_bits(v)
-}
-
-// Whether an f32 is positive zero. Negative zero equals it, so the sign bit is asked too.
-fn is_positive_zero_f32(v: f32) -> bool
-    ensures { result ≡ eqb (to_bits binary32 v) 0 }
-{
-    (v == 0.0) & (bits_of_f32(v) < SIGN_32)
-}
-
-// The same of an f64.
-fn is_positive_zero_f64(v: f64) -> bool
-    ensures { result ≡ eqb (to_bits binary64 v) 0 }
-{
-    (v == 0.0) & (bits_of_f64(v) < SIGN_64)
-}
-
-// The size of what `write_f32` puts.
-pub fn f32_size(v: f32) -> usize
-    ensures { result ≡ length (float32_bytes (to_bits binary32 v)) }
-{
-    if is_positive_zero_f32(v) {
-        return 1;
-    }
-    5
-}
-
-// An f32 by its value.
-pub fn write_f32(buf: &mut [u8], at: usize, v: f32) -> Option<usize>
-    ensures { ◌≡◌ {A = Option ℕ × List ℕ} (result, buf.new) (placed buf.old at (float32_bytes (to_bits binary32 v))) }
-{
-    if is_positive_zero_f32(v) {
-        return write_sized(buf, at, 0, 0);
-    }
-    write_sized(buf, at, 4, bits_of_f32(v) as u64)
-}
-
-// The size of what `write_f64` puts.
-pub fn f64_size(v: f64) -> usize
-    ensures { result ≡ length (float64_bytes (to_bits binary64 v)) }
-{
-    if is_positive_zero_f64(v) {
-        return 1;
-    }
-    f64_bits_size(bits_of_f64(v))
-}
-
-// An f64 by its value.
-pub fn write_f64(buf: &mut [u8], at: usize, v: f64) -> Option<usize>
-    ensures { ◌≡◌ {A = Option ℕ × List ℕ} (result, buf.new) (placed buf.old at (float64_bytes (to_bits binary64 v))) }
-{
-    if is_positive_zero_f64(v) {
-        return write_sized(buf, at, 0, 0);
-    }
-    write_f64_bits(buf, at, bits_of_f64(v))
+    F::write_bits(buf, at, v.bits())
 }

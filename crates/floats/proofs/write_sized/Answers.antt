@@ -1,7 +1,6 @@
 -- The bytes behind the type byte, which test the room, and a store before them. Assumes nothing.
 use Prim.Native.Nat.{ℕ, ◌+◌}
 use mathlib.Core.Path.{◌∙◌, ap, sym}
-use mathlib.Core.List.{List}
 use native.Mathlib.Omega.{arith}
 use Rattle.std.specs.Prelude.{Option}
 use Rattle.encoding.specs.Fields.{fixed_bytes}

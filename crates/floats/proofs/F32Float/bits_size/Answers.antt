@@ -1,10 +1,10 @@
 -- By the cases of the bits.
 -- Assumes nothing.
-use mathlib.Core.Path.{refl}
+use Rattle.std.proofs.Common.{refl}
 use Rattle.encoding.specs.Digits.{low_digits}
 use Rattle.encoding.specs.Fields.{fixed_bytes}
 use Rattle.floats.proofs.Bytes.{float32_zero, float32_other}
-use Rattle.floats.proofs.f32_bits_size.Goals as goal
+use Rattle.floats.proofs.F32Float.bits_size.Goals as goal
 
 pub returns-then-bits-eq0 : goal.returns-then-bits-eq0
 unfolding fixed_bytes low_digits
