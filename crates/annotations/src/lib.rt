@@ -1,7 +1,7 @@
 // Annotations, lent as bytes: eight bytes a sid, least significant first, the missing bytes of the last sid zero.
 #![tactic(auto)]
 
-ghost use Rattle.std.specs.Prelude.{◌≡◌, List, ℕ, ◌+◌, ◌*◌, ◌^◌, ◌<◌, ◌≤◌, length, get_or};
+ghost use Rattle.std.specs.Prelude.{◌≡◌, List, ℕ, Option, ◌+◌, ◌*◌, ◌^◌, ◌<◌, ◌≤◌, length, get_or};
 ghost use Rattle.encoding.specs.Fields.{var_uints_bytes};
 ghost use Rattle.encoding.specs.Headers.{annotation_bytes};
 ghost use Rattle.buffer.specs.Laid.{placed};
@@ -79,71 +79,71 @@ impl<'a> Measured<'a> {
     }
 
     // The sids, one after the other.
-    fn put_sids(self, buf: &mut [u8], at: usize) -> usize
+    fn put_sids(self, buf: &mut [u8], at: usize) -> Option<usize>
         requires { at + self.sum ≤ length buf.old }
-        ensures { ◌≡◌ {A = ℕ × List ℕ} (result, buf.new) (placed buf.old at (var_uints_bytes (sids_of self.entry.annotations.now))) }
+        ensures { ◌≡◌ {A = Option ℕ × List ℕ} (result, buf.new) (placed buf.old at (var_uints_bytes (sids_of self.entry.annotations.now))) }
     {
         let mut written: usize = 0;
         for i in 0..sid_count(self.annotations) {
-            written += var_uint::write(buf, at + written, sid_at(self.annotations, i));
+            written += var_uint::write(buf, at + written, sid_at(self.annotations, i))?;
         }
-        written
+        Some(written)
     }
 
     // The sum, then the sids.
-    fn put(self, buf: &mut [u8], at: usize) -> usize
+    fn put(self, buf: &mut [u8], at: usize) -> Option<usize>
         requires { at + self.whole ≤ length buf.old }
-        ensures { ◌≡◌ {A = ℕ × List ℕ} (result, buf.new) (placed buf.old at (annotation_bytes (sids_of self.entry.annotations.now))) }
+        ensures { ◌≡◌ {A = Option ℕ × List ℕ} (result, buf.new) (placed buf.old at (annotation_bytes (sids_of self.entry.annotations.now))) }
     {
-        let first = var_uint::write(buf, at, self.sum as u64);
-        let rest = self.put_sids(buf, at + first);
-        first + rest
+        let first = var_uint::write(buf, at, self.sum as u64)?;
+        let rest = self.put_sids(buf, at + first)?;
+        Some(first + rest)
     }
 }
 
 // The annotations: the sum of the sids' lengths as a VarUInt, then the sids.
-pub fn write(buf: &mut [u8], at: usize, annotations: &[u8]) -> usize
-    ensures { ◌≡◌ {A = ℕ × List ℕ} (result, buf.new) (placed buf.old at (annotation_bytes (sids_of annotations.now))) }
+pub fn write(buf: &mut [u8], at: usize, annotations: &[u8]) -> Option<usize>
+    ensures { ◌≡◌ {A = Option ℕ × List ℕ} (result, buf.new) (placed buf.old at (annotation_bytes (sids_of annotations.now))) }
 {
     let measured = Measured::of(annotations);
     if !buffer::has_room(buf.len(), at, measured.whole) {
-        return 0;
+        return None;
     }
     measured.put(buf, at)
 }
 
 // The same, where `inner` bytes fit behind them.
-pub fn write_before(buf: &mut [u8], at: usize, annotations: &[u8], inner: usize) -> usize
-    ensures { ◌≡◌ {A = ℕ × List ℕ} (result, buf.new)
+pub fn write_before(buf: &mut [u8], at: usize, annotations: &[u8], inner: usize) -> Option<usize>
+    ensures { ◌≡◌ {A = Option ℕ × List ℕ} (result, buf.new)
         (placed_before buf.old at (annotation_bytes (sids_of annotations.now)) inner) }
 {
     let measured = Measured::of(annotations);
     let whole = measured.whole;
     if !buffer::has_room(buf.len(), whole, inner) {
-        return 0;
+        return None;
     }
     if !buffer::has_room(buf.len(), at, whole + inner) {
-        return 0;
+        return None;
     }
     measured.put(buf, at)
 }
 
 // The wrapper's header and the annotations, before a value of `inner` bytes. Nothing is put where the value would not fit behind them.
-pub fn write_prefix(buf: &mut [u8], at: usize, annotations: &[u8], inner: usize) -> usize
-    ensures { ◌≡◌ {A = ℕ × List ℕ} (result, buf.new)
+pub fn write_prefix(buf: &mut [u8], at: usize, annotations: &[u8], inner: usize) -> Option<usize>
+    ensures { ◌≡◌ {A = Option ℕ × List ℕ} (result, buf.new)
         (placed_before buf.old at (prefix_bytes (sids_of annotations.now) inner) inner) }
 {
     let measured = Measured::of(annotations);
     let whole = measured.whole;
     if !buffer::has_room(buf.len(), whole, inner) {
-        return 0;
+        return None;
     }
     let body = whole + inner;
     let header = header::encoded_size_of(body);
     if !buffer::has_room(buf.len(), at, header + body) {
-        return 0;
+        return None;
     }
-    let first = header::write(buf, at, WRAPPER, body);
-    let rest = measured.put(buf, at + first);
-    first + rest
+    let first = header::write(buf, at, WRAPPER, body)?;
+    let rest = measured.put(buf, at + first)?;
+    Some(first + rest)
 }
