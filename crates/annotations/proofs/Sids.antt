@@ -10,8 +10,8 @@ use mathlib.Core.Logic.{⊎_elim}
 use lib.ListN.{length, take, drop, get_or, get_or-eq_default, length-append, length-drop}
 use lib.Seq.{get_or-drop, get_or-take, take_all}
 use Rattle.buffer.specs.Laid.{placed}
-use Rattle.buffer.proofs.Laid.{placed-some, placed-room, placed-length, placed_then}
-use Rattle.std.proofs.Common.{Option, Some, None}
+use Rattle.std.specs.Prelude.{Option, Some, None}
+use Rattle.buffer.proofs.Laid.{placed-some, placed_then, placed_then_none}
 use Rattle.encoding.specs.Fields.{var_uint_bytes, var_uints_bytes}
 use Rattle.encoding.specs.Headers.{annotation_bytes}
 use Rattle.encoding.proofs.Sizes.{var_uint_least, var_uint-most}
@@ -129,7 +129,7 @@ module _ (b : List ℕ) (at : ℕ) (s : List ℕ) (all : at + length (var_uints_
   module _ (i n : ℕ) (l : List ℕ) (e : ◌≡◌ {A = Option ℕ × List ℕ} (Some n, l) (placed b at (sid_bytes s i))) where
     -- no word is passed
     pub sids_end : at + n ≤ length b
-    sids_end = let w = placed-some b at (sid_bytes s i) n l e in omega (arith, w.0, w.1)
+    sids_end = omega (arith, placed-some b at (sid_bytes s i) n l e)
 
     pub sids_next : (v m : ℕ) (l' : List ℕ) → v ≡ sid_at s i → ◌≡◌ {A = Option ℕ × List ℕ} (Some m, l') (placed l (at + n) (var_uint_bytes v)) →
         ◌≡◌ {A = Option ℕ × List ℕ} (Some (n + m), l') (placed b at (sid_bytes s (i + 1)))
@@ -138,19 +138,11 @@ module _ (b : List ℕ) (at : ℕ) (s : List ℕ) (all : at + length (var_uints_
         (placed_then b at (sid_bytes s i) n l e (var_uint_bytes (sid_at s i)) m l'
         (f ∙ ap (λ (x : ℕ). placed l (at + n) (var_uint_bytes x)) q))
 
-    -- there is room for the next
-    pub sids_some-more : i < sid_count s → (v : ℕ) (l' : List ℕ) → v ≡ sid_at s i → ◌≡◌ {A = Option ℕ × List ℕ} (None, l') (placed l (at + n) (var_uint_bytes v)) → ⊥
-    sids_some-more h v l' q f =
-        let w = placed-some b at (sid_bytes s i) n l e in
-        placed-room l (at + n) (var_uint_bytes v) l'
-        (omega (
-          arith,
-          w.1,
-          placed-length b at (sid_bytes s i) (Some n) l e,
-          ap (λ (x : ℕ). length (var_uint_bytes x)) q,
-          sids_room (suc i) (omega arith),
-          length-sid_bytes_more s i,
-        )) f
+    -- the next has room
+    pub sids_put : i < sid_count s → (v : ℕ) (l' : List ℕ) → v ≡ sid_at s i → ◌≡◌ {A = Option ℕ × List ℕ} (None, l') (placed l (at + n) (var_uint_bytes v)) → ⊥
+    sids_put h v l' q f =
+        let k = placed_then_none b at (sid_bytes s i) n l e (var_uint_bytes (sid_at s i)) l' (f ∙ ap (λ (x : ℕ). placed l (at + n) (var_uint_bytes x)) q) in
+        omega (arith, sids_room (suc i) (omega arith), length-sid_bytes_more s i)
 
 -- ten bytes a sid at most
 pub sid_bytes-most : (b : List ℕ) → ((i : ℕ) → get_or b i 0 < 256) → (n : ℕ) → length (sid_bytes b n) ≤ 10 * n

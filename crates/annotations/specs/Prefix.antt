@@ -9,6 +9,6 @@ use Rattle.buffer.specs.Laid.{laid}
 unfoldable pub prefix_bytes : List ℕ → ℕ → List ℕ
 prefix_bytes an n = header_bytes (type_byte annotation_code) (length (annotation_bytes an) + n) ++ annotation_bytes an
 
--- `out` is put where it fits together with n bytes behind it: how many bytes were put, and the buffer; where it does not, none, and the buffer as it was.
+-- `out` is put where it fits together with n bytes behind it: how many bytes were put, and the buffer.
 unfoldable pub placed_before : List ℕ → ℕ → List ℕ → ℕ → Option ℕ × List ℕ
 placed_before b at out n = elim (leb (at + length out + n) (length b)) [ true ↦ (Some (length out), laid b at out) | false ↦ (None, b) ]

@@ -92,9 +92,10 @@ impl Fraction {
     fn digits_hold(self) -> bool
         ensures { result ≡ (leb self.digits 18 && ltb self.coefficient (10 ^ self.digits)) }
     {
-        (self.digits <= 18)
-            && digits::power_of_ten(u64::from(self.digits)).is_some_and(|power| self.coefficient
-                < power)
+        let Some(power) = digits::power_of_ten(u64::from(self.digits)) else {
+            return false;
+        };
+        (self.digits <= 18) & (self.coefficient < power)
     }
 }
 
@@ -418,7 +419,7 @@ impl Utc {
     }
 
     // Header and body.
-    fn size(self) -> usize
+    fn value_size(self) -> usize
         ensures { result ≡ length (value_of self.t) }
     {
         let body = self.body_size();
@@ -444,7 +445,7 @@ pub fn size(t: Timestamp) -> Option<usize>
     ensures { result ≡ size_of (checked_bytes (argument_of t)) }
 {
     let utc = t.checked()?;
-    Some(utc.size())
+    Some(utc.value_size())
 }
 
 // Header and body: the offset as a VarInt, the UTC fields as VarUInts, then any fraction as a decimal's body.

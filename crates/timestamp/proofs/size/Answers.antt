@@ -9,4 +9,4 @@ returns-in_err-utc c = rw (c.from_residual.ensures, refused c.args.t c.in_err-ut
 pub returns : goal.returns
 returns c =
     let e = c.in_ok-utc.ensures in
-    rw c.size.ensures (accepted_size c.args.t e.0 c.in_ok-utc.utc.t e.1)
+    rw c.value_size.ensures (accepted_size c.args.t e.0 c.in_ok-utc.utc.t e.1)
