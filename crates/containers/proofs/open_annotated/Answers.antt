@@ -15,7 +15,7 @@ use Rattle.std.proofs.Common.{Option, Some, None}
 use Rattle.buffer.proofs.Laid.{laid-before, laid_more, placed-some, placed_full, placed_by, no_room, room}
 use Rattle.annotations.specs.Sids.{sids_of}
 use Rattle.annotations.specs.Prefix.{placed_before}
-use Rattle.annotations.proofs.Prefix.{placed_before-some, placed_before-none}
+use Rattle.annotations.proofs.Prefix.{before-some, before-none}
 use Rattle.containers.proofs.open_annotated.Goals as goal
 
 abbrev reserved : List ℕ → List ℕ
@@ -28,12 +28,12 @@ module _ (b : List ℕ) (at : ℕ) (an l : List ℕ) where
   put_some : (n : ℕ) → ◌≡◌ {A = Option ℕ × List ℕ} (Some n, l) (placed_before b (at + 2) (annotation_bytes an) 2)
       → (at + (length (annotation_bytes an) + 4) ≤ length b) × (n ≡ length (annotation_bytes an)) × (l ≡ laid b (at + 2) (annotation_bytes an))
   put_some n e =
-      let w = placed_before-some b (at + 2) (annotation_bytes an) 2 n l e in
+      let w = before-some b (at + 2) (annotation_bytes an) 2 n l e in
       let v = placed-some b (at + 2) (annotation_bytes an) n l w.1 in
       (omega (arith, w.0), v.1, v.2)
 
   put-none : ◌≡◌ {A = Option ℕ × List ℕ} (None, l) (placed_before b (at + 2) (annotation_bytes an) 2) → (length b < at + (length (annotation_bytes an) + 4)) × (l ≡ b)
-  put-none e = let w = placed_before-none b (at + 2) (annotation_bytes an) 2 l e in (omega (arith, w.0), w.1)
+  put-none e = let w = before-none b (at + 2) (annotation_bytes an) 2 l e in (omega (arith, w.0), w.1)
 
 -- the annotations, then the reserves before and behind them
 around : (b : List ℕ) (at : ℕ) (A l m o : List ℕ) → at + (length A + 4) ≤ length b → l ≡ laid b (at + 2) A → m ≡ laid l at (replicate 2 0)
