@@ -13,7 +13,8 @@ use Rattle.ion.specs.Value.{annotation_code}
 use Rattle.encoding.specs.Headers.{type_byte, header_bytes, framed_bytes}
 use Rattle.machine.specs.declared.Container.{Container}
 use Rattle.machine.specs.Machine.{closed_bytes, length_if_moved, moved_bytes, splice, container_fits}
-use Rattle.containers.specs.Containers.{not_closed, spliced, closed_on, abandoned_on}
+use Rattle.std.proofs.Common.{None}
+use Rattle.containers.specs.Containers.{spliced, closed_on, abandoned_on}
 use Rattle.encoding.proofs.Headers.{length_header}
 use Rattle.containers.proofs.Moves.{part, length_part, slice-part}
 
@@ -36,7 +37,7 @@ module _ (c : Container) (used : ℕ) (b : List ℕ) where
       closed_on_held f u
       ∙ ap (λ (n : ℕ). spliced used c.start (closed_bytes c.start n c.code (take used b)) (moved_bytes c.start n c.code (take used b)) b) h
 
-  pub closed_on_not : (container_fits used c && leb used (length b)) ≡ false → closed_on c used b ≡ (not_closed, b)
+  pub closed_on_not : (container_fits used c && leb used (length b)) ≡ false → closed_on c used b ≡ (None, b)
   unfolding closed_on
   closed_on_not e = rw (closed_on, e) refl
 

@@ -1,7 +1,7 @@
 // Containers in a lent buffer: opening reserves two bytes for each header, closing puts the headers in their short form and moves what lies behind them.
 #![tactic(auto)]
 
-ghost use Rattle.std.specs.Prelude.{◌≡◌, Bool, true, List, [], ◌∷◌, ◌++◌, ℕ, ◌+◌, ◌-◌, ◌*◌, ◌/◌, ◌<◌, ◌≤◌, length, take, drop, replicate};
+ghost use Rattle.std.specs.Prelude.{◌≡◌, Bool, true, List, Option, [], ◌∷◌, ◌++◌, ℕ, ◌+◌, ◌-◌, ◌*◌, ◌/◌, ◌<◌, ◌≤◌, length, take, drop, replicate};
 ghost use Rattle.encoding.specs.Headers.{header_bytes, annotation_bytes};
 ghost use Rattle.machine.specs.Machine.{reserve, closed_bytes, length_if_moved, moved_bytes, container_fits};
 ghost use Rattle.buffer.specs.Laid.{laid, placed};
@@ -62,21 +62,21 @@ struct Ending {
 
 impl Ending {
     // A container without annotations: its header in the short form, and its body behind it.
-    fn close_plain(self, buf: &mut [u8]) -> Closing
+    fn close_plain(self, buf: &mut [u8]) -> Option<Closing>
         requires { (self.c.header ≡ self.c.start) × (self.used ≤ length buf.old) }
-        ensures { ◌≡◌ {A = Closing × List ℕ} (result, buf.new) (closed_on self.c self.used buf.old) }
+        ensures { ◌≡◌ {A = Option Closing × List ℕ} (result, buf.new) (closed_on self.c self.used buf.old) }
     {
         let start = self.c.start;
         let body = self.used - (start + RESERVE);
         let size = header::encoded_size_of(body);
         let end = start + size + body;
         if buf.len() < end {
-            return Closing { used: 0, moved: 0 };
+            return None;
         }
         let moved = move_bytes(buf, start + RESERVE, start + size, body);
         put_header(buf, start, self.c.code, body);
         clear(buf, end, self.used);
-        Closing { used: end, moved }
+        Some(Closing { used: end, moved })
     }
 
     // The wrapper's header, the annotations, the inner header and the body, each at its final place; `inner` and `wrapper` are the sizes of the headers.
@@ -115,9 +115,9 @@ impl Ending {
     }
 
     // A container with annotations: the wrapper's length counts the inner header in its final size.
-    fn close_annotated(self, buf: &mut [u8]) -> Closing
+    fn close_annotated(self, buf: &mut [u8]) -> Option<Closing>
         requires { (self.c.start + 2 ≤ self.c.header) × (self.used ≤ length buf.old) }
-        ensures { ◌≡◌ {A = Closing × List ℕ} (result, buf.new) (closed_on self.c self.used buf.old) }
+        ensures { ◌≡◌ {A = Option Closing × List ℕ} (result, buf.new) (closed_on self.c self.used buf.old) }
     {
         let machine::Container { start, header, .. } = self.c;
         let body = self.used - (header + RESERVE);
@@ -126,21 +126,21 @@ impl Ending {
         let wrapper = header::encoded_size_of(content);
         let end = start + wrapper + content;
         if buf.len() < end {
-            return Closing { used: 0, moved: 0 };
+            return None;
         }
         let moved = self.lay_wrapped(buf, inner, wrapper);
         clear(buf, end, self.used);
-        Closing { used: end, moved }
+        Some(Closing { used: end, moved })
     }
 }
 
 // The container that ends at `used`, with its headers in their final form: the used length on return, and how many bytes moved. Freed bytes become zero.
-// 0 and 0, and the buffer as it was, where the container does not fit or the result would pass the buffer.
-pub fn close(buf: &mut [u8], used: usize, c: machine::Container) -> Closing
-    ensures { ◌≡◌ {A = Closing × List ℕ} (result, buf.new) (closed_on c used buf.old) }
+// None, and the buffer as it was, where the container does not fit or the result would pass the buffer.
+pub fn close(buf: &mut [u8], used: usize, c: machine::Container) -> Option<Closing>
+    ensures { ◌≡◌ {A = Option Closing × List ℕ} (result, buf.new) (closed_on c used buf.old) }
 {
     if !(place::container_fits(c, used) & (used <= buf.len())) {
-        return Closing { used: 0, moved: 0 };
+        return None;
     }
     let ending = Ending { c, used };
     if c.header == c.start {
@@ -161,26 +161,23 @@ pub fn abandon(buf: &mut [u8], used: usize, start: usize) -> bool
 }
 
 // The wrapper's reserve, the annotations and the header's reserve.
-fn open_annotated(buf: &mut [u8], at: usize, annotations: &[u8]) -> usize
-    ensures { ◌≡◌ {A = ℕ × List ℕ} (result, buf.new)
+fn open_annotated(buf: &mut [u8], at: usize, annotations: &[u8]) -> Option<usize>
+    ensures { ◌≡◌ {A = Option ℕ × List ℕ} (result, buf.new)
         (placed buf.old at (0 ∷ 0 ∷ (annotation_bytes (sids_of annotations.now) ++ (0 ∷ 0 ∷ [])))) }
 {
     if !buffer::has_room(buf.len(), at, 2 * RESERVE) {
-        return 0;
+        return None;
     }
-    let noted = annotations::write_before(buf, at + RESERVE, annotations, RESERVE);
-    if noted == 0 {
-        return 0;
-    }
+    let noted = annotations::write_before(buf, at + RESERVE, annotations, RESERVE)?;
     let header = at + RESERVE + noted;
     clear(buf, at, at + RESERVE);
     clear(buf, header, header + RESERVE);
-    noted + 2 * RESERVE
+    Some(noted + 2 * RESERVE)
 }
 
 // What an opening reserves: two zero bytes; with annotations two zero bytes, the annotations and two more.
-pub fn open(buf: &mut [u8], at: usize, annotations: &[u8]) -> usize
-    ensures { ◌≡◌ {A = ℕ × List ℕ} (result, buf.new) (placed buf.old at (reserve (sids_of annotations.now))) }
+pub fn open(buf: &mut [u8], at: usize, annotations: &[u8]) -> Option<usize>
+    ensures { ◌≡◌ {A = Option ℕ × List ℕ} (result, buf.new) (placed buf.old at (reserve (sids_of annotations.now))) }
 {
     if annotations.is_empty() {
         return buffer::copy(buf, at, &[0; RESERVE]);
