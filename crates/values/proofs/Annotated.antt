@@ -14,7 +14,7 @@ use Rattle.encoding.specs.Argument.{Argument, argument_bytes, argument_checks, a
 use Rattle.encoding.proofs.Least.{argument_some}
 use Rattle.decimal.proofs.Values.{checked_bytes_refused, checked_bytes_accepted}
 use Rattle.buffer.specs.Laid.{placed, written, size_of}
-use Rattle.buffer.proofs.Laid.{placed-room, size_of-some, written-some}
+use Rattle.buffer.proofs.Laid.{placed-room, placed-some, size_of-some, written-some}
 use Rattle.annotations.specs.Sids.{sids_of}
 use Rattle.annotations.specs.Prefix.{prefix_bytes, placed_before}
 use Rattle.annotations.proofs.Sids.{sids_some}
@@ -87,3 +87,9 @@ module _ (b : List ℕ) (at : ℕ) (notes : List ℕ) (some : 0 < length notes) 
         let q = sids_some notes some in
         rw q.2 (prefix_then b at q.0 q.1 (checked_bytes a) n l (by_length (Some n) l q.0 q.1 q.2 e) m l' (f ∙ value_written a (sized a size s).0 l (at + n))
         ∙ sym (annotated_written a (sized a size s).0 b at q.0 q.1))
+
+    -- and both are in the buffer
+    pub wrapped_within : (m : ℕ) (l' : List ℕ) → ◌≡◌ {A = Option ℕ × List ℕ} (Some m, l') (written l (at + n) (checked_bytes a)) → n + m ≤ length l
+    wrapped_within m l' f =
+        let k = placed-some l (at + n) (checked_bytes a) m l' (f ∙ value_written a (sized a size s).0 l (at + n)) in
+        omega (arith, k.0, k.1)

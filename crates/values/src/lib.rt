@@ -14,7 +14,7 @@ pub fn write<V: WriteAsIon>(buf: &mut [u8], at: usize, annotations: &[u8], value
     ensures { ◌≡◌ {A = Option ℕ × List ℕ} (result, buf.new)
         (written buf.old at (annotated_checked (sids_of annotations.now) (V.argument value))) }
 {
-    if annotations.is_empty() {
+    if annotations.len() == 0 {
         return value.write(buf, at);
     }
     let size = value.size()?;
