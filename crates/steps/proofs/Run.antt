@@ -1,6 +1,6 @@
 -- What the machine answers and leaves, by how far a call gets: refused by place, refused by its own lines, or accepted.
 -- Assumes nothing.
-use Rattle.std.proofs.Common.{◌≡◌, ℕ, ◌+◌, ◌%◌, ◌^◌, ◌<◌, ◌≤◌, arith, mod-eq_of_lt, Bool, true, false, ltb, List, [], ◌∷◌, ◌++◌, length, Option, Some, None, Err, sym, refl, ap, ◌∙◌, ap₂, le-ltb, lt-ltb}
+use Rattle.std.proofs.Common.{◌≡◌, ℕ, ◌+◌, ◌%◌, ◌^◌, ◌<◌, arith, mod-eq_of_lt, Bool, true, false, ltb, List, [], ◌∷◌, ◌++◌, length, Option, Some, None, Err, sym, refl, ap, ◌∙◌, ap₂, le-ltb, lt-ltb}
 use mathlib.Core.Bool.{false≢true}
 use Rattle.ion.proofs.Tests.{by_cases}
 use Rattle.encoding.specs.Argument.{Argument, argument_checks, any_holds}
@@ -85,7 +85,6 @@ own-refusal a used room h =
 -- where none fails, what follows decides
 pub own_only : (a : Argument) (rest : List (Bool × ℕ)) → any_holds (argument_checks a) ≡ false → first_failing (argument_checks a ++ rest) ≡ first_failing rest
 own_only a rest p = first_of_right (argument_checks a) rest (no_check (argument_checks a) p)
-
 
 -- ---- the answer of a check by place
 

@@ -1,16 +1,15 @@
 -- What the call that writes a scalar cites: refused by place, by one of the value's own checks or for room, or put at the end of the used bytes.
 -- Assumes nothing.
-use Rattle.std.proofs.Common.{ℕ, ◌+◌, ◌%◌, ◌^◌, ◌<◌, ◌≤◌, ◌≡◌, refl, false, List, length, arith, Err, Option, Some, None, ap, ◌∙◌, mod-eq_of_lt}
+use Rattle.std.proofs.Common.{ℕ, ◌+◌, ◌%◌, ◌^◌, ◌<◌, ◌≡◌, refl, false, List, length, arith, Err, Option, Some, None, mod-eq_of_lt}
 use Rattle.encoding.specs.Argument.{Argument}
 use Rattle.values.specs.Values.{annotated_checked}
 use Rattle.scalars.specs.Refused.{own_refusal}
 use Rattle.buffer.specs.Laid.{written}
 use Rattle.machine.specs.declared.State.{State}
-use Rattle.machine.specs.declared.Container.{Container}
 use Rattle.machine.specs.declared.Refusal.{Refusal}
 use Rattle.machine.specs.declared.Refused.{Refused}
 use Rattle.machine.specs.Call.{write}
-use Rattle.machine.specs.Machine.{config, counted, lacks_name, checks, accepted, refused, first_failing, place_verdict, run}
+use Rattle.machine.specs.Machine.{config, lacks_name, checks, accepted, refused, first_failing, place_verdict, run}
 use Rattle.machine.specs.Numbers.{number, refused_outcome}
 use Rattle.steps.specs.Checked.{checked_as}
 use Rattle.steps.specs.Counted.{counted_cut}

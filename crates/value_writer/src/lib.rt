@@ -19,7 +19,12 @@ use timestamp::Timestamp;
 use values::{Blob, Clob, Decimal, F32Bits, F64Bits, Int, IonType, Symbol, Text, WriteAsIon};
 
 // A scalar of any type: its place is checked, it is put at the end of the used bytes, and the innermost container has a member more.
-pub fn write<V: WriteAsIon>(s: State, buf: &mut [u8], annotations: &[u8], value: V) -> Result<State, Refused>
+pub fn write<V: WriteAsIon>(
+    s: State,
+    buf: &mut [u8],
+    annotations: &[u8],
+    value: V,
+) -> Result<State, Refused>
     ensures { outcome_of result buf.new ≡ run (write (sids_of annotations.now) (V.argument value)) (config s buf.old) }
 {
     steps::check(s, buf.len(), CallKind::Value)?;
@@ -33,14 +38,24 @@ pub fn write<V: WriteAsIon>(s: State, buf: &mut [u8], annotations: &[u8], value:
 }
 
 // A null of each type.
-pub fn write_null(s: State, buf: &mut [u8], annotations: &[u8], t: IonType) -> Result<State, Refused>
+pub fn write_null(
+    s: State,
+    buf: &mut [u8],
+    annotations: &[u8],
+    t: IonType,
+) -> Result<State, Refused>
     ensures { outcome_of result buf.new ≡ run (write (sids_of annotations.now) (write_null (type_of t))) (config s buf.old) }
 {
     write(s, buf, annotations, t)
 }
 
 // 10 or 11.
-pub fn write_bool(s: State, buf: &mut [u8], annotations: &[u8], value: bool) -> Result<State, Refused>
+pub fn write_bool(
+    s: State,
+    buf: &mut [u8],
+    annotations: &[u8],
+    value: bool,
+) -> Result<State, Refused>
     ensures { outcome_of result buf.new ≡ run (write (sids_of annotations.now) (write_bool value)) (config s buf.old) }
 {
     write(s, buf, annotations, value)
@@ -54,21 +69,45 @@ pub fn write_i64(s: State, buf: &mut [u8], annotations: &[u8], value: i64) -> Re
 }
 
 // An int of any size: its sign, and its magnitude from the highest byte on.
-pub fn write_int(s: State, buf: &mut [u8], annotations: &[u8], negative: bool, magnitude: &[u8]) -> Result<State, Refused>
+pub fn write_int(
+    s: State,
+    buf: &mut [u8],
+    annotations: &[u8],
+    negative: bool,
+    magnitude: &[u8],
+) -> Result<State, Refused>
     ensures { outcome_of result buf.new ≡ run (write (sids_of annotations.now) (write_int negative magnitude.now)) (config s buf.old) }
 {
-    write(s, buf, annotations, Int { negative, magnitude })
+    write(
+        s,
+        buf,
+        annotations,
+        Int {
+            negative,
+            magnitude,
+        },
+    )
 }
 
 // A float by the bits of binary32; a NaN keeps its own.
-pub fn write_f32_bits(s: State, buf: &mut [u8], annotations: &[u8], bits: u32) -> Result<State, Refused>
+pub fn write_f32_bits(
+    s: State,
+    buf: &mut [u8],
+    annotations: &[u8],
+    bits: u32,
+) -> Result<State, Refused>
     ensures { outcome_of result buf.new ≡ run (write (sids_of annotations.now) (write_f32 bits)) (config s buf.old) }
 {
     write(s, buf, annotations, F32Bits(bits))
 }
 
 // A float by the bits of binary64, in four bytes where binary32 holds it; a NaN keeps its own.
-pub fn write_f64_bits(s: State, buf: &mut [u8], annotations: &[u8], bits: u64) -> Result<State, Refused>
+pub fn write_f64_bits(
+    s: State,
+    buf: &mut [u8],
+    annotations: &[u8],
+    bits: u64,
+) -> Result<State, Refused>
     ensures { outcome_of result buf.new ≡ run (write (sids_of annotations.now) (write_f64 bits)) (config s buf.old) }
 {
     write(s, buf, annotations, F64Bits(bits))
@@ -89,42 +128,83 @@ pub fn write_f64(s: State, buf: &mut [u8], annotations: &[u8], value: f64) -> Re
 }
 
 // A decimal: sign, coefficient from the highest byte on, exponent.
-pub fn write_decimal(s: State, buf: &mut [u8], annotations: &[u8], negative: bool, coefficient: &[u8], exponent: i64) -> Result<State, Refused>
+pub fn write_decimal(
+    s: State,
+    buf: &mut [u8],
+    annotations: &[u8],
+    negative: bool,
+    coefficient: &[u8],
+    exponent: i64,
+) -> Result<State, Refused>
     ensures { outcome_of result buf.new ≡ run (write (sids_of annotations.now) (write_decimal negative coefficient.now exponent)) (config s buf.old) }
 {
-    write(s, buf, annotations, Decimal { negative, magnitude: coefficient, exponent })
+    write(
+        s,
+        buf,
+        annotations,
+        Decimal {
+            negative,
+            magnitude: coefficient,
+            exponent,
+        },
+    )
 }
 
 // A timestamp by its local fields and its offset.
-pub fn write_timestamp(s: State, buf: &mut [u8], annotations: &[u8], value: Timestamp) -> Result<State, Refused>
+pub fn write_timestamp(
+    s: State,
+    buf: &mut [u8],
+    annotations: &[u8],
+    value: Timestamp,
+) -> Result<State, Refused>
     ensures { outcome_of result buf.new ≡ run (write (sids_of annotations.now) (argument_of value)) (config s buf.old) }
 {
     write(s, buf, annotations, value)
 }
 
 // A symbol by its sid.
-pub fn write_symbol(s: State, buf: &mut [u8], annotations: &[u8], sid: u64) -> Result<State, Refused>
+pub fn write_symbol(
+    s: State,
+    buf: &mut [u8],
+    annotations: &[u8],
+    sid: u64,
+) -> Result<State, Refused>
     ensures { outcome_of result buf.new ≡ run (write (sids_of annotations.now) (write_symbol sid)) (config s buf.old) }
 {
     write(s, buf, annotations, Symbol(sid))
 }
 
 // A string, in UTF-8.
-pub fn write_string(s: State, buf: &mut [u8], annotations: &[u8], bytes: &[u8]) -> Result<State, Refused>
+pub fn write_string(
+    s: State,
+    buf: &mut [u8],
+    annotations: &[u8],
+    bytes: &[u8],
+) -> Result<State, Refused>
     ensures { outcome_of result buf.new ≡ run (write (sids_of annotations.now) (write_string bytes.now)) (config s buf.old) }
 {
     write(s, buf, annotations, Text(bytes))
 }
 
 // A clob.
-pub fn write_clob(s: State, buf: &mut [u8], annotations: &[u8], bytes: &[u8]) -> Result<State, Refused>
+pub fn write_clob(
+    s: State,
+    buf: &mut [u8],
+    annotations: &[u8],
+    bytes: &[u8],
+) -> Result<State, Refused>
     ensures { outcome_of result buf.new ≡ run (write (sids_of annotations.now) (write_clob bytes.now)) (config s buf.old) }
 {
     write(s, buf, annotations, Clob(bytes))
 }
 
 // A blob.
-pub fn write_blob(s: State, buf: &mut [u8], annotations: &[u8], bytes: &[u8]) -> Result<State, Refused>
+pub fn write_blob(
+    s: State,
+    buf: &mut [u8],
+    annotations: &[u8],
+    bytes: &[u8],
+) -> Result<State, Refused>
     ensures { outcome_of result buf.new ≡ run (write (sids_of annotations.now) (write_blob bytes.now)) (config s buf.old) }
 {
     write(s, buf, annotations, Blob(bytes))
