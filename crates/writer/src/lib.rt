@@ -28,13 +28,13 @@ pub fn start(buf: &mut [u8]) -> Result<State, Refused>
             state: State::empty(0),
         });
     }
-    if buffer::copy(buf, 0, &MARKER).is_none() {
+    let Some(put) = buffer::copy(buf, 0, &MARKER) else {
         return Err(Refused {
             why: Refusal::NoRoom,
             state: State::empty(0),
         });
-    }
-    Ok(State::empty(4))
+    };
+    Ok(State::empty(put))
 }
 
 // A field name: its sid as a VarUInt.
