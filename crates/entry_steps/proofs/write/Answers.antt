@@ -7,7 +7,8 @@ use Rattle.machine.specs.Call.{write}
 use Rattle.machine.specs.Machine.{lacks_name}
 use Rattle.state_bytes.specs.StateBytes.{state_of}
 use Rattle.entry_steps.proofs.Entered.{refused_place}
-use Rattle.entry_steps.proofs.Values.{scalar_lines, value_refused, value_put}
+use Rattle.steps.proofs.Scalars.{scalar_lines}
+use Rattle.entry_steps.proofs.Values.{value_refused, value_put}
 use Rattle.entry_steps.proofs.write.Goals as goal
 
 pub returns-in_err-check : goal.returns-in_err-check

@@ -31,5 +31,5 @@ returns-in_default c =
 pub returns : goal.returns
 returns c =
     let a = c.args in
-    start_put a.state.now a.buf.now c.if-state-ne-STATE_SIZE.false c.if-buf-gt-LONGEST_BUFFER-2.false c.in-Some.put c.copy.new.buf c.in-Some.ensures
+    start_put a.state.now a.buf.now c.if-state-ne-STATE_SIZE.false c.if-buf-gt-LONGEST_BUFFER-2.false c.copy.new.buf c.in-Some.put c.in-Some.ensures
     c.fill.new.self c.store.new.st (c.fill.ensures.after (λ y e. e)) c.store.ensures
