@@ -13,10 +13,10 @@ pub fn encoded_size_of(negative: bool, magnitude: &[u8]) -> usize
 {
     let zeros = uint::leading_zero_bytes(magnitude);
     if zeros == magnitude.len() {
-        return negative as usize;
+        return usize::from(negative);
     }
     let high_bit = magnitude[zeros] / SIGN;
-    magnitude.len() - zeros + high_bit as usize
+    magnitude.len() - zeros + usize::from(high_bit)
 }
 
 // A first byte and those of `rest`.
@@ -36,7 +36,7 @@ pub fn write(buf: &mut [u8], at: usize, negative: bool, magnitude: &[u8]) -> Opt
     ensures { ◌≡◌ {A = Option ℕ × List ℕ} (result, buf.new) (placed buf.old at (int_bytes negative (trimmed magnitude.now))) }
 {
     let zeros = uint::leading_zero_bytes(magnitude);
-    let sign = SIGN * (negative as u8);
+    let sign = SIGN * u8::from(negative);
     if zeros == magnitude.len() {
         if negative {
             return buffer::put(buf, at, sign);

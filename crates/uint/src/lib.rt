@@ -48,14 +48,10 @@ pub fn write_framed(buf: &mut [u8], at: usize, code: u8, value: u64) -> Option<u
 pub fn leading_zero_bytes(magnitude: &[u8]) -> usize
     ensures { result + length (trimmed magnitude.now) ≡ length magnitude.now }
 {
-    let mut i: usize = 0;
-    while i < magnitude.len() {
-        if magnitude[i] != 0 {
-            return i;
-        }
-        i += 1;
-    }
-    i
+    magnitude
+        .iter()
+        .position(|byte| *byte != 0)
+        .unwrap_or(magnitude.len())
 }
 
 // A big-endian magnitude without its leading zero bytes. Zero keeps one byte.

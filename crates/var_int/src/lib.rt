@@ -29,7 +29,7 @@ pub fn encoded_size_of(magnitude: u64) -> usize
 pub fn write(buf: &mut [u8], at: usize, negative: bool, magnitude: u64) -> Option<usize>
     ensures { ◌≡◌ {A = Option ℕ × List ℕ} (result, buf.new) (placed buf.old at (var_int_bytes (signed negative magnitude))) }
 {
-    let sign = SIGN * (negative as u8);
+    let sign = SIGN * u8::from(negative);
     if magnitude < TWO_BYTES {
         return buffer::put(buf, at, END_FLAG + sign + magnitude as u8);
     }

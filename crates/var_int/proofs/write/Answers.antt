@@ -70,17 +70,17 @@ known b l at s n size put h w e p =
     }
 
 pub overflow_mul-sign : goal.overflow_mul-sign
-overflow_mul-sign c = omega (arith, bool_byte-most c.args.negative)
+overflow_mul-sign c = omega (arith, c.from-sign.ensures, bool_byte-most c.args.negative)
 
 pub overflow_add-sign : goal.overflow_add-sign
-overflow_add-sign c = omega (arith, bool_byte-most c.args.negative)
+overflow_add-sign c = omega (arith, c.from-sign.ensures, bool_byte-most c.args.negative)
 
 pub overflow_add-sign-then-magnitude-lt-TWO_BYTES : goal.overflow_add-sign-then-magnitude-lt-TWO_BYTES
-overflow_add-sign-then-magnitude-lt-TWO_BYTES c = omega (arith, bool_byte-most c.args.negative)
+overflow_add-sign-then-magnitude-lt-TWO_BYTES c = omega (arith, c.from-sign.ensures, bool_byte-most c.args.negative)
 
 pub returns-then-magnitude-lt-TWO_BYTES : goal.returns-then-magnitude-lt-TWO_BYTES
 returns-then-magnitude-lt-TWO_BYTES c = let a = c.args in
-    c.put.ensures ∙ ap (placed a.buf.now a.at) (one a.negative a.magnitude (omega arith))
+    rw c.from-sign.ensures at c.put.ensures ∙ ap (placed a.buf.now a.at) (one a.negative a.magnitude (omega arith))
 
 pub returns-in_err-put : goal.returns-in_err-put
 returns-in_err-put c = let a = c.args in
@@ -135,6 +135,7 @@ returns c =
     let s = c.encoded_size_of.ensures in
     let a = c.args in
     let k = known _ _ a.at a.negative a.magnitude _ _ (omega arith) (omega arith) c.encoded_size_of.ensures c.in_ok-put.ensures in
-    placed_by a.buf.now a.at (var_int_bytes (signed a.negative a.magnitude)) n _ (omega (arith, length-var_int_sign a.negative a.magnitude))
+    rw c.from-sign.ensures
+    (placed_by a.buf.now a.at (var_int_bytes (signed a.negative a.magnitude)) n _ (omega (arith, length-var_int_sign a.negative a.magnitude))
     (k.all.count ∙ (s ∙ sym (length-var_int_sign a.negative a.magnitude)))
-    (more a.buf.now _ a.at a.negative a.magnitude _ n (omega arith) k.size_is k.all)
+    (more a.buf.now _ a.at a.negative a.magnitude _ n (omega arith) k.size_is k.all))
