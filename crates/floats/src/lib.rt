@@ -91,6 +91,7 @@ fn write_sized(buf: &mut [u8], at: usize, size: usize, bits: u64) -> Option<usiz
 }
 
 // f32 and f64: the bits of each, and what becomes of them.
+// `bits` and `is_positive_zero` read alike in the two impls: `to_bits`, the literal 0.0 and the quiet NaN are those of each type.
 pub trait Float: Copy {
     type Bits: Copy;
 
