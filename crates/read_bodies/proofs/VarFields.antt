@@ -8,6 +8,7 @@ use mathlib.Core.Bool.{Bool, true, false, cond, ◌&&◌, not, false≢true}
 use mathlib.Core.List.{List, [], ◌∷◌}
 use mathlib.Core.Option.{Option, none, some, some-injective, none-ne-some}
 use lib.Dec.{ltb, leb, eqb}
+use Rattle.std.specs.Prelude.{Ok, Err}
 use lib.ListN.{length, get_or, drop, length-drop, drop_of_length-le}
 use lib.Seq.{drop-cons, drop-drop}
 use borrow.Author.Tests.{lt-ltb, le-ltb, le-leb, lt-leb, ltb-true, ltb-false, leb-true, leb-false, eqb-true, eqb-false}
@@ -21,7 +22,7 @@ use Rattle.reading.specs.declared.Refusal.TheVariants.{NotIon}
 use Rattle.reading.specs.declared.Number.TheVariants as N
 use Rattle.reading.specs.Headers.{var_uint_from}
 use Rattle.reading.specs.Bodies as B
-use Rattle.read_bodies.specs.declared.VarInt.TheVariants as I
+use Rattle.read_bodies.specs.declared.VarInt.{VarInt}
 use Rattle.read_bodies.specs.Places.{number_in, groups_at, var_uint_at, signed_in, var_int_at, with_sign}
 
 -- ---- the number is at least what its groups so far make
@@ -97,7 +98,7 @@ pub signed-groups : (s : Bool) (size : ℕ) (o : Option (ℕ × List ℕ)) → w
 signed-groups s size none = refl
 signed-groups s size (some x) = go (ltb x.0 (2 ^ 64)) refl
   where
-    tested : (t : Bool) → cond t (I.Is s x.0 (size - length x.1)) I.No ≡ signed_in size (check t (some (signed s x.0, x.1)))
+    tested : (t : Bool) → cond t (Ok (record { negative = s; magnitude = x.0; next = size - length x.1 })) (Err NotIon) ≡ signed_in size (check t (some (signed s x.0, x.1)))
     tested true = refl
     tested false = refl
 
@@ -106,12 +107,12 @@ signed-groups s size (some x) = go (ltb x.0 (2 ^ 64)) refl
     go false e = rw (e, not_i64 s x.0 (ltb-false x.0 (2 ^ 64) e)) refl
 
 module _ (s : List ℕ) (at b : ℕ) where
-  pub var_int_out : length s ≤ at → var_int_at s at ≡ I.No
+  pub var_int_out : length s ≤ at → var_int_at s at ≡ Err NotIon
   unfolding var_int_at var_int
   var_int_out h = rw (drop_of_length-le s {i = at} h) refl
 
   module _ (inside : at < length s) (is : b ≡ get_or s at 0) where
-    pub var_int_short : 0x7F < b → var_int_at s at ≡ I.Is (is_negative b) (b % 64) (at + 1)
+    pub var_int_short : 0x7F < b → var_int_at s at ≡ Ok (record { negative = is_negative b; magnitude = b % 64; next = at + 1 })
     unfolding var_int_at var_int
     var_int_short h =
         rw (front s at b inside is, var_int, le-ltb b 0x80 (omega arith), small_i64 (is_negative b) (b % 64) (omega arith), behind s (at + 1) (omega arith)) refl
@@ -120,37 +121,6 @@ module _ (s : List ℕ) (at b : ℕ) where
     unfolding var_int_at var_int groups_at
     var_int_long h =
         rw (front s at b inside is, var_int, lt-ltb b 0x80 (omega arith)) (sym (signed-groups (is_negative b) (length s) (groups (b % 64) (drop (at + 1) s))))
-
--- ---- the sign of a magnitude
-
-module _ (s : Bool) (v n : ℕ) (m : Number) (is : m ≡ N.Is v n) where
-  pub sign_past : 2 ^ 63 < v → I.No ≡ with_sign s m
-  sign_past h = rw (is) (go s)
-    where
-      go : (t : Bool) → I.No ≡ with_sign t (N.Is v n)
-      go false = rw (le-ltb v (2 ^ 63) (omega arith)) refl
-      go true = rw (lt-leb v (2 ^ 63) (omega arith)) refl
-
-  pub sign_edge : (eqb v (2 ^ 63) && not s) ≡ true → I.No ≡ with_sign s m
-  sign_edge h = rw (is) (go s (both {a = eqb v (2 ^ 63)} h))
-    where
-      go : (t : Bool) → (eqb v (2 ^ 63) ≡ true) × (not t ≡ true) → I.No ≡ with_sign t (N.Is v n)
-      go false e = rw (le-ltb v (2 ^ 63) (omega (arith, eqb-true v (2 ^ 63) e.0))) refl
-      go true e = absurd (false≢true e.1)
-
-  pub sign_held : v ≤ 2 ^ 63 → (eqb v (2 ^ 63) && not s) ≡ false → I.Is s v n ≡ with_sign s m
-  sign_held h e = rw (is) (go s e)
-    where
-      go : (t : Bool) → (eqb v (2 ^ 63) && not t) ≡ false → I.Is t v n ≡ with_sign t (N.Is v n)
-      go true e = rw (le-leb v (2 ^ 63) h) refl
-      go false e = edge (eqb v (2 ^ 63)) refl e
-        where
-          edge : (q : Bool) → eqb v (2 ^ 63) ≡ q → (q && true) ≡ false → I.Is false v n ≡ with_sign false (N.Is v n)
-          edge true k e = absurd (false≢true (sym e))
-          edge false k e = rw (lt-ltb v (2 ^ 63) (below k)) refl
-            where
-              below : eqb v (2 ^ 63) ≡ false → v < 2 ^ 63
-              below k = let d : v ≡ 2 ^ 63 → ⊥ = eqb-false v (2 ^ 63) k in omega (arith, h)
 
 -- ---- what a place told of a field says of the bytes
 
@@ -253,27 +223,28 @@ var_int-behind (b ∷ bs) x e = go (ltb b 0x80) e
 sign_and_size : (z : Signed) (s : Bool) (m : ℕ) → B.is_negative z ≡ s → B.magnitude z ≡ m → z ≡ signed s m
 sign_and_size (signed t n) s m e f = rw (e, f) refl
 
-pub var_int_is : (s : List ℕ) (at : ℕ) (t : Bool) (m next : ℕ) → var_int_at s at ≡ I.Is t m next → FieldAt s at (var_int (drop at s)) (signed t m) next
+pub var_int_is : (s : List ℕ) (at : ℕ) (v : VarInt) → var_int_at s at ≡ Ok v → FieldAt s at (var_int (drop at s)) (signed v.negative v.magnitude) v.next
 unfolding var_int_at
-var_int_is s at t m next e = go (var_int (drop at s)) refl e
+var_int_is s at v e = go (var_int (drop at s)) refl e
   where
-    go : (o : Option (Signed × List ℕ)) → var_int (drop at s) ≡ o → signed_in (length s) o ≡ I.Is t m next → FieldAt s at (var_int (drop at s)) (signed t m) next
+    go : (o : Option (Signed × List ℕ)) → var_int (drop at s) ≡ o → signed_in (length s) o ≡ Ok v → FieldAt s at (var_int (drop at s)) (signed v.negative v.magnitude) v.next
     go none q e = absurdly cc
     go (some x) q e =
         let p = behind-place s at x.1 (var_int-behind (drop at s) x q) in
-        let n : length s - length x.1 ≡ next = cc in
-        let f : B.is_negative x.0 ≡ t = cc in
-        let g : B.magnitude x.0 ≡ m = cc in
+        let w : record { negative = B.is_negative x.0; magnitude = B.magnitude x.0; next = length s - length x.1 } ≡ v = cc in
+        let n : length s - length x.1 ≡ v.next = ap (λ (y : VarInt). y.next) w in
+        let f : B.is_negative x.0 ≡ v.negative = ap (λ (y : VarInt). y.negative) w in
+        let g : B.magnitude x.0 ≡ v.magnitude = ap (λ (y : VarInt). y.magnitude) w in
         record {
           after = omega (arith, p.0, n);
           within = omega (arith, p.1, n);
-          is = q ∙ ap some (pair (sign_and_size x.0 t m f g) (p.2 ∙ ap (λ (i : ℕ). drop i s) n));
+          is = q ∙ ap some (pair (sign_and_size x.0 v.negative v.magnitude f g) (p.2 ∙ ap (λ (i : ℕ). drop i s) n));
         }
 
-pub var_int_none : (s : List ℕ) (at : ℕ) → var_int_at s at ≡ I.No → var_int (drop at s) ≡ none
+pub var_int_none : (s : List ℕ) (at : ℕ) (r : Refusal) → var_int_at s at ≡ Err r → var_int (drop at s) ≡ none
 unfolding var_int_at
-var_int_none s at e = go (var_int (drop at s)) refl e
+var_int_none s at r e = go (var_int (drop at s)) refl e
   where
-    go : (o : Option (Signed × List ℕ)) → var_int (drop at s) ≡ o → signed_in (length s) o ≡ I.No → var_int (drop at s) ≡ none
+    go : (o : Option (Signed × List ℕ)) → var_int (drop at s) ≡ o → signed_in (length s) o ≡ Err r → var_int (drop at s) ≡ none
     go none q e = q
     go (some x) q e = absurdly cc

@@ -12,9 +12,9 @@ returns-then-b-at c = let a = c.args in sym (var_int_out a.b.now a.at 0 (omega a
 
 pub returns-then-first-gt127 : goal.returns-then-first-gt127
 returns-then-first-gt127 c = let a = c.args in
-    sym (var_int_short a.b.now a.at c.wide-first.result (omega arith) c.wide-first.ensures.0 (omega arith))
+    sym (var_int_short a.b.now a.at c.from-first.result (omega arith) c.from-first.ensures (omega arith))
 
 pub returns : goal.returns
 returns c = let a = c.args in
-    c.with_sign.ensures ∙ ap (with_sign (is_negative c.wide-first.result)) c.groups.ensures
-    ∙ sym (var_int_long a.b.now a.at c.wide-first.result (omega arith) c.wide-first.ensures.0 (omega arith))
+    c.with_sign.ensures ∙ ap (with_sign (is_negative c.from-first.result)) c.groups.ensures
+    ∙ sym (var_int_long a.b.now a.at c.from-first.result (omega arith) c.from-first.ensures (omega arith))
