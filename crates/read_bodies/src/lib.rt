@@ -6,7 +6,7 @@ ghost use Rattle.ion.specs.Fields.{uint};
 ghost use Rattle.reading.specs.Bodies.{decimal_in, symbol_in};
 ghost use Rattle.read_bodies.specs.Places.{groups_at, var_uint_at, var_int_at, small_from, with_sign};
 
-use reading::{Decimal, Number, Refusal, Symbol};
+use reading::{Decimal, Number, Refusal};
 
 // A sign and a magnitude, and the place behind them.
 #[derive(Clone, Copy, Debug, PartialEq, Eq)]
@@ -22,14 +22,14 @@ const MOST: u64 = 0x8000_0000_0000_0000;
 // ---- "VarUInt and VarInt Fields"
 
 // The VarUInt at a place.
-pub fn var_uint(b: &[u8], at: usize) -> Number
+pub fn var_uint(b: &[u8], at: usize) -> Result<Number, Refusal>
     ensures { result ≡ var_uint_at b.now at }
 {
     read_fields::var_uint(b, at, Refusal::NotIon)
 }
 
 // The VarUInt whose groups before `at` make `acc`.
-fn groups(b: &[u8], at: usize, acc: u64) -> Number
+fn groups(b: &[u8], at: usize, acc: u64) -> Result<Number, Refusal>
     ensures { result ≡ groups_at b.now at acc }
 {
     read_fields::var_uint_from(b, at, acc, Refusal::NotIon)
@@ -39,19 +39,16 @@ fn groups(b: &[u8], at: usize, acc: u64) -> Number
 fn with_sign(negative: bool, number: Number) -> Result<VarInt, Refusal>
     ensures { result ≡ with_sign negative number }
 {
-    let Number::Is { value, next } = number else {
-        return Err(Refusal::NotIon);
-    };
-    if MOST < value {
+    if MOST < number.value {
         return Err(Refusal::NotIon);
     }
-    if (value == MOST) & !negative {
+    if (number.value == MOST) & !negative {
         return Err(Refusal::NotIon);
     }
     Ok(VarInt {
         negative,
-        magnitude: value,
-        next,
+        magnitude: number.value,
+        next: number.next,
     })
 }
 
@@ -71,7 +68,7 @@ pub fn var_int(b: &[u8], at: usize) -> Result<VarInt, Refusal>
             next: at + 1,
         });
     }
-    with_sign(negative, groups(b, at + 1, first % 64))
+    with_sign(negative, groups(b, at + 1, first % 64)?)
 }
 
 // ---- "UInt and Int Fields"
@@ -97,40 +94,27 @@ pub fn is_zero(body: &[u8]) -> bool
 }
 
 // "5: decimal".
-pub fn decimal(body: &[u8]) -> Decimal
+pub fn decimal(body: &[u8]) -> Result<Decimal, Refusal>
     ensures { result ≡ decimal_in body.now }
 {
-    if body.len() == 0 {
-        return Decimal::Is {
+    if body.is_empty() {
+        return Ok(Decimal {
             negative: false,
             exponent: 0,
             coefficient: 0,
-        };
+        });
     }
-    let exponent = var_int(body, 0);
-    let Ok(
-        VarInt {
-            negative,
-            magnitude,
-            next,
-        },
-    ) = exponent
-    else {
-        return Decimal::No(Refusal::NotIon);
-    };
-    Decimal::Is {
-        negative,
-        exponent: magnitude,
-        coefficient: next,
-    }
+    let exponent = var_int(body, 0)?;
+    Ok(Decimal {
+        negative: exponent.negative,
+        exponent: exponent.magnitude,
+        coefficient: exponent.next,
+    })
 }
 
 // "7: symbol".
-pub fn symbol(body: &[u8]) -> Symbol
+pub fn symbol(body: &[u8]) -> Result<u64, Refusal>
     ensures { result ≡ symbol_in body.now }
 {
-    let Some(sid) = small_from(body, 0, 0) else {
-        return Symbol::No(Refusal::NotIon);
-    };
-    Symbol::Is(sid)
+    small_from(body, 0, 0).ok_or(Refusal::NotIon)
 }
