@@ -5,9 +5,10 @@ use mathlib.Core.Path.{◌≡◌, refl}
 use mathlib.Core.List.{List, [], ◌∷◌}
 use mathlib.Core.Option.{Option, none, some}
 use native.Mathlib.Omega.{arith}
-use lib.Dec.{ltb}
+use mathlib.Core.Bool.{cond, false}
+use lib.Dec.{ltb, eqb}
 use lib.ListN.{length}
-use borrow.Author.Tests.{ltb-true}
+use borrow.Author.Tests.{ltb-true, ne_eqb}
 use Rattle.std.specs.Prelude.{Result, Ok, Err, Some, None}
 use Rattle.ion.specs.Value.{Signed}
 use Rattle.ion.specs.Fields.{var_int}
@@ -25,12 +26,12 @@ abbrev pub behind_exponent : Result VarInt Refusal → Result Decimal Refusal
 behind_exponent (Ok v) = Ok (record { negative = v.negative; exponent = v.magnitude; coefficient = v.next })
 behind_exponent (Err r) = Err r
 
-pub decimal_some : (b : List ℕ) → 0 < length b → behind_exponent (var_int_at b 0) ≡ decimal_in b
+pub decimal_by_exponent : (b : List ℕ) → decimal_in b ≡ cond (eqb (length b) 0) (Ok (record { negative = false; exponent = 0; coefficient = 0 })) (behind_exponent (var_int_at b 0))
 unfolding decimal_in var_int_at
-decimal_some [] h = absurd (omega arith)
-decimal_some (x ∷ xs) h = go (length (x ∷ xs)) (var_int (x ∷ xs))
+decimal_by_exponent [] = refl
+decimal_by_exponent (x ∷ xs) = rw (ne_eqb (length (x ∷ xs)) 0 (λ e. omega arith)) (go (length (x ∷ xs)) (var_int (x ∷ xs)))
   where
-    go : (size : ℕ) (o : Option (Signed × List ℕ)) → behind_exponent (signed_in size o) ≡ decimal_from size o
+    go : (size : ℕ) (o : Option (Signed × List ℕ)) → decimal_from size o ≡ behind_exponent (signed_in size o)
     go size none = refl
     go size (some e) = refl
 

@@ -9,10 +9,10 @@ use lib.Dec.{eqb}
 use borrow.Author.Tests.{lt-ltb, le-ltb, eqb-true, eqb-false, ne_eqb}
 use Rattle.std.specs.List.{list_all}
 use Rattle.ion.specs.Fields.{big_endian, uint}
+use Rattle.ion.proofs.Bytes.{drop-next}
 use Rattle.ion.proofs.Tests.{by_cases}
 use Rattle.std.specs.Prelude.{Some, None}
 use Rattle.read_bodies.specs.Places.{small_from}
-use Rattle.read_bodies.proofs.VarFields.{front}
 
 -- the number is at least what its digits so far make
 pub digits_least : (acc : ℕ) (l : List ℕ) → acc ≤ big_endian acc l
@@ -20,23 +20,24 @@ unfolding big_endian
 digits_least acc [] = omega arith
 digits_least acc (b ∷ bs) = omega (arith, digits_least (acc * 256 + b) bs)
 
-module _ (s : List ℕ) (i acc b : ℕ) (inside : i < length s) (is : b ≡ get_or s i 0) where
-  pub digit_more : small_from s i acc ≡ small_from s (i + 1) (acc * 256 + b)
+module _ (s : List ℕ) (i acc : ℕ) where
+  pub digits_out : length s ≤ i → acc < 2 ^ 64 → small_from s i acc ≡ Some acc
   unfolding small_from big_endian
-  digit_more = rw (front s i b inside is) refl
+  digits_out h k = rw (drop_of_length-le s {i = i} h, lt-ltb acc (2 ^ 64) k) refl
 
-  pub digit_past : 2 ^ 56 ≤ acc → small_from s i acc ≡ None
-  unfolding small_from big_endian
-  digit_past h =
-      rw (
-        front s i b inside is,
-        le-ltb (big_endian (acc * 256 + b) (drop (i + 1) s)) (2 ^ 64) (omega (arith, digits_least (acc * 256 + b) (drop (i + 1) s))),
-      )
-      refl
+  module _ (inside : i < length s) where
+    pub digit_more : acc < 2 ^ 56 → small_from s i acc ≡ small_from s (i + 1) (acc * 256 + get_or s i 0)
+    unfolding small_from big_endian
+    digit_more h = rw (drop-next s i inside) refl
 
-pub digits_out : (s : List ℕ) (i acc : ℕ) → length s ≤ i → acc < 2 ^ 64 → small_from s i acc ≡ Some acc
-unfolding small_from big_endian
-digits_out s i acc h k = rw (drop_of_length-le s {i = i} h, lt-ltb acc (2 ^ 64) k) refl
+    pub digit_past : 2 ^ 56 ≤ acc → small_from s i acc ≡ None
+    unfolding small_from big_endian
+    digit_past h =
+        let n = acc * 256 + get_or s i 0 in
+        rw (drop-next s i inside, le-ltb (big_endian n (drop (i + 1) s)) (2 ^ 64) (omega (arith, digits_least n (drop (i + 1) s)))) refl
+
+-- what a digit makes of those so far
+pub ruleset a_digit = (digits_out, digit_more, digit_past)
 
 -- ---- zero bytes
 

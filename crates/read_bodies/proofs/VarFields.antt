@@ -4,23 +4,22 @@ use Prim.Native.Nat.{ℕ, suc, ◌+◌, ◌-◌, ◌*◌, ◌%◌, ◌^◌, ◌�
 use native.Mathlib.Omega.{arith}
 use native.Mathlib.Numerals.{add-one}
 use mathlib.Core.Path.{◌≡◌, refl, sym, ◌∙◌, ap, subst}
-use mathlib.Core.Bool.{Bool, true, false, cond, ◌&&◌, not, false≢true}
+use mathlib.Core.Bool.{Bool, true, false}
 use mathlib.Core.List.{List, [], ◌∷◌}
 use mathlib.Core.Option.{Option, none, some, some-injective, none-ne-some}
-use lib.Dec.{ltb, leb, eqb}
+use lib.Dec.{ltb, leb}
 use Rattle.std.specs.Prelude.{Result, Ok, Err}
 use lib.ListN.{length, get_or, drop, length-drop, drop_of_length-le}
 use lib.Seq.{drop-cons, drop-drop}
-use borrow.Author.Tests.{lt-ltb, le-ltb, le-leb, lt-leb, ltb-true, ltb-false, leb-true, leb-false, eqb-true, eqb-false}
+use borrow.Author.Tests.{lt-ltb, le-ltb, le-leb, lt-leb, ltb-true, ltb-false, leb-true, leb-false}
 use Rattle.ion.specs.Value.{Signed, signed}
 use Rattle.ion.specs.Chain.{check}
 use Rattle.ion.specs.Fields.{groups, in_u64, is_i64, var_uint, give_sign, is_negative, var_int}
-use Rattle.ion.proofs.Tests.{by_cases, both}
+use Rattle.ion.proofs.Tests.{by_cases}
 use Rattle.reading.specs.declared.Number.{Number}
 use Rattle.reading.specs.declared.Refusal.{Refusal}
 use Rattle.reading.specs.declared.Refusal.TheVariants.{NotIon}
 use Rattle.reading.specs.Headers.{var_uint_from}
-use Rattle.reading.specs.Bodies as B
 use Rattle.read_bodies.specs.declared.VarInt.{VarInt}
 use Rattle.read_bodies.specs.Places.{number_in, groups_at, var_uint_at, signed_in, var_int_at, with_sign}
 
@@ -105,21 +104,26 @@ signed-groups s size (some x) =
     (λ p. by_cases (is_i64 (signed s x.0)) (λ q. rw (p, q) refl) (λ q. rw (p, q) refl))
     (λ p. rw (p, not_i64 s x.0 (ltb-false x.0 (2 ^ 64) p)) refl)
 
-module _ (s : List ℕ) (at b : ℕ) where
+module _ (s : List ℕ) (at : ℕ) where
   pub var_int_out : length s ≤ at → var_int_at s at ≡ Err NotIon
   unfolding var_int_at var_int
   var_int_out h = rw (drop_of_length-le s {i = at} h) refl
 
-  module _ (inside : at < length s) (is : b ≡ get_or s at 0) where
+  module _ (inside : at < length s) where
+    abbrev b : ℕ
+    b = get_or s at 0
+
     pub var_int_short : 0x7F < b → var_int_at s at ≡ Ok (record { negative = is_negative b; magnitude = b % 64; next = at + 1 })
     unfolding var_int_at var_int
     var_int_short h =
-        rw (front s at b inside is, var_int, le-ltb b 0x80 (omega arith), small_i64 (is_negative b) (b % 64) (omega arith), behind s (at + 1) (omega arith)) refl
+        rw (front s at b inside refl, var_int, le-ltb b 0x80 (omega arith), small_i64 (is_negative b) (b % 64) (omega arith), behind s (at + 1) (omega arith)) refl
 
     pub var_int_long : b ≤ 0x7F → var_int_at s at ≡ signed_groups (is_negative b) (groups_at s (at + 1) (b % 64))
     unfolding var_int_at var_int groups_at
     var_int_long h =
-        rw (front s at b inside is, var_int, lt-ltb b 0x80 (omega arith)) (sym (signed-groups (is_negative b) (length s) (groups (b % 64) (drop (at + 1) s))))
+        rw (front s at b inside refl, var_int, lt-ltb b 0x80 (omega arith)) (sym (signed-groups (is_negative b) (length s) (groups (b % 64) (drop (at + 1) s))))
+
+pub ruleset first_byte = (var_int_out, var_int_short, var_int_long)
 
 -- ---- what a place told of a field says of the bytes
 

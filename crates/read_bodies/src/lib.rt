@@ -53,6 +53,7 @@ fn with_sign(negative: bool, number: Number) -> Result<VarInt, Refusal>
 }
 
 // The VarInt at a place.
+#[tactic(auto, using(crate::proofs::VarFields::first_byte))]
 pub fn var_int(b: &[u8], at: usize) -> Result<VarInt, Refusal>
     ensures { result ≡ var_int_at b.now at }
 {
@@ -74,6 +75,7 @@ pub fn var_int(b: &[u8], at: usize) -> Result<VarInt, Refusal>
 // ---- "UInt and Int Fields"
 
 // The big-endian number whose digits before `at` make `acc`, where 64 bits hold it.
+#[tactic(auto, using(crate::proofs::Digits::a_digit))]
 pub fn small_from(b: &[u8], at: usize, acc: u64) -> Option<u64>
     ensures { result ≡ small_from b.now at acc }
 {
@@ -94,6 +96,7 @@ pub fn is_zero(body: &[u8]) -> bool
 }
 
 // "5: decimal".
+#[tactic(auto, using(crate::proofs::Bodies::decimal_by_exponent))]
 pub fn decimal(body: &[u8]) -> Result<Decimal, Refusal>
     ensures { result ≡ decimal_in body.now }
 {
@@ -113,6 +116,7 @@ pub fn decimal(body: &[u8]) -> Result<Decimal, Refusal>
 }
 
 // "7: symbol".
+#[tactic(auto, unfolding(crate::specs::Places::small_from, reading::specs::Bodies::symbol_in))]
 pub fn symbol(body: &[u8]) -> Result<u64, Refusal>
     ensures { result ≡ symbol_in body.now }
 {
