@@ -51,3 +51,7 @@ all_zero (b ∷ bs) =
     let h : 0 < b = (let d : b ≡ 0 → ⊥ = eqb-false b 0 p in omega arith) in
     let k : 0 < big_endian (0 * 256 + b) bs = omega (arith, digits_least (0 * 256 + b) bs) in
     rw p (sym (ne_eqb (big_endian (0 * 256 + b) bs) 0 (λ e. omega arith))))
+
+pub not_zero : (s : List ℕ) (i b : ℕ) → i < length s → b ≡ get_or s i 0 → 0 < b → 0 < big_endian 0 (drop i s)
+unfolding big_endian
+not_zero s i b inside is h = rw (drop-next s i inside, ← is) (omega (arith, digits_least (0 * 256 + b) (drop (i + 1) s)))

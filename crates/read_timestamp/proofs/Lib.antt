@@ -1,4 +1,0 @@
-pub mod Gathered
-pub mod Tested
-pub mod Coefficients
-pub mod Whole
