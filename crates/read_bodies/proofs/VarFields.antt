@@ -190,12 +190,12 @@ var_uint_is s at n e = go (in_u64 (groups 0 (drop at s))) refl e
         let m : x.0 ≡ n.value = cc in
         record { after = omega (arith, p.0, k); within = omega (arith, p.1, k); is = q ∙ ap some (pair m (p.2 ∙ ap (λ (i : ℕ). drop i s) k)) }
 
-pub var_uint-none : (s : List ℕ) (at : ℕ) (r : Refusal) → var_uint_at s at ≡ Err r → var_uint (drop at s) ≡ none
+pub var_uint_no : (s : List ℕ) (at : ℕ) (r : Refusal) → var_uint_at s at ≡ Err r → (r ≡ NotIon) × (var_uint (drop at s) ≡ none)
 unfolding var_uint_at
-var_uint-none s at r e = go (var_uint (drop at s)) refl e
+var_uint_no s at r e = go (var_uint (drop at s)) refl e
   where
-    go : (o : Option (ℕ × List ℕ)) → var_uint (drop at s) ≡ o → number_in (length s) o ≡ Err r → var_uint (drop at s) ≡ none
-    go none q e = q
+    go : (o : Option (ℕ × List ℕ)) → var_uint (drop at s) ≡ o → number_in (length s) o ≡ Err r → (r ≡ NotIon) × (var_uint (drop at s) ≡ none)
+    go none q e = (cc, q)
     go (some x) q e = absurd (cc)
 
 sign_behind : (s : Bool) (l : List ℕ) (o : Option (ℕ × List ℕ)) (x : Signed × List ℕ) → ((y : ℕ × List ℕ) → o ≡ some y → Behind l y.1)
@@ -236,11 +236,3 @@ var_int_is s at v e = go (var_int (drop at s)) refl e
           within = omega (arith, p.1, n);
           is = q ∙ ap some (pair (cc (f, g)) (p.2 ∙ ap (λ (i : ℕ). drop i s) n));
         }
-
-pub var_int_none : (s : List ℕ) (at : ℕ) (r : Refusal) → var_int_at s at ≡ Err r → var_int (drop at s) ≡ none
-unfolding var_int_at
-var_int_none s at r e = go (var_int (drop at s)) refl e
-  where
-    go : (o : Option (Signed × List ℕ)) → var_int (drop at s) ≡ o → signed_in (length s) o ≡ Err r → var_int (drop at s) ≡ none
-    go none q e = q
-    go (some x) q e = absurd (cc)

@@ -95,22 +95,24 @@ fn are_fields(f: Fields) -> bool
 // ---- the fraction
 
 // The sign of an Int.
+#[tactic(auto, using(crate::proofs::Coefficients::sign_of_int))]
 fn is_negative(c: &[u8]) -> bool
     ensures { result ≡ is_negative (int_field c.now) }
 {
-    match c.first() {
-        Some(first) => 0x80 <= *first,
-        None => false,
+    match c {
+        [] => false,
+        [first, ..] => 0x80 <= *first,
     }
 }
 
 // An Int of zero, of either sign.
+#[tactic(auto, using(crate::proofs::Coefficients::zero_of_int))]
 fn is_zero(c: &[u8]) -> bool
     ensures { result ≡ eqb (magnitude (int_field c.now)) 0 }
 {
-    match c.split_first() {
-        Some((first, rest)) => (*first % 128 == 0) && read_bodies::is_zero(rest),
-        None => true,
+    match c {
+        [] => true,
+        [first, rest @ ..] => (*first % 128 == 0) && read_bodies::is_zero(rest),
     }
 }
 
@@ -125,6 +127,7 @@ fn coefficient_fits(negative: bool, exponent: u64, c: &[u8]) -> bool
 }
 
 // What follows the fields: nothing, or an exponent and a coefficient.
+#[tactic(auto, using(crate::proofs::Coefficients::fraction_parts, std::proofs::lemmas::List::take_rest))]
 fn fraction_at(body: &[u8], at: usize) -> Result<Option<Fraction>, Refusal>
     ensures { result ≡ fraction_at body.now at }
 {
@@ -148,6 +151,7 @@ fn fraction_at(body: &[u8], at: usize) -> Result<Option<Fraction>, Refusal>
 // ---- the body
 
 // "6: timestamp".
+#[tactic(auto, using(crate::proofs::Whole::by_parts))]
 pub fn timestamp(body: &[u8]) -> Result<Timestamp, Refusal>
     ensures { result ≡ timestamp_in body.now }
 {

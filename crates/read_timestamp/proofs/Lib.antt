@@ -1,0 +1,4 @@
+pub mod Gathered
+pub mod Tested
+pub mod Coefficients
+pub mod Whole
