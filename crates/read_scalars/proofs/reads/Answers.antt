@@ -11,7 +11,7 @@ use Rattle.ion.specs.Fields.{uint}
 use Rattle.ion.specs.Text.{utf8}
 use Rattle.ion.specs.Scalars.{scalar_of}
 use Rattle.reading.specs.Scalars.{code_from, body_of}
-use Rattle.read_scalars.specs.Answers.{is_decimal, is_timestamp, is_symbol}
+use Rattle.std.specs.Prelude.{is_ok}
 use Rattle.read_timestamp.proofs.Coefficients.{checked}
 use Rattle.read_scalars.proofs.Bodies.{bool_reads, negative_reads, float_reads, decimal_is_read, timestamp_is_read, symbol_is_read}
 use Rattle.read_scalars.proofs.Codes.{null_reads, body_reads, none_reads}
@@ -41,19 +41,19 @@ returns-in-4 c = let a = c.args in
 pub returns-in-5 : goal.returns-in-5
 unfolding code_from body_of scalar_of
 returns-in-5 c = let a = c.args in
-    c.is_decimal.ensures ∙ ap is_decimal c.decimal.ensures ∙ decimal_is_read a.body.now
+    c.is_ok.ensures.value ∙ ap is_ok c.decimal.ensures ∙ decimal_is_read a.body.now
     ∙ body_reads c.args.kind c.args.body.now c.if-kind-eq15.false 5 decimal_code refl c.in-5.is
 
 pub returns-in-6 : goal.returns-in-6
 unfolding code_from body_of scalar_of
 returns-in-6 c = let a = c.args in
-    c.is_timestamp.ensures ∙ ap is_timestamp c.timestamp.ensures ∙ timestamp_is_read a.body.now
+    c.is_ok-in-6.ensures.value ∙ ap is_ok c.timestamp.ensures ∙ timestamp_is_read a.body.now
     ∙ body_reads c.args.kind c.args.body.now c.if-kind-eq15.false 6 timestamp_code refl c.in-6.is
 
 pub returns-in-7 : goal.returns-in-7
 unfolding code_from body_of scalar_of
 returns-in-7 c = let a = c.args in
-    c.is_symbol.ensures ∙ ap is_symbol c.symbol.ensures ∙ symbol_is_read a.body.now
+    c.is_ok-in-7.ensures.value ∙ ap is_ok c.symbol.ensures ∙ symbol_is_read a.body.now
     ∙ body_reads c.args.kind c.args.body.now c.if-kind-eq15.false 7 symbol_code refl c.in-7.is
 
 pub returns-in-8 : goal.returns-in-8
