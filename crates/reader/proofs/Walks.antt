@@ -1,25 +1,26 @@
 -- How a walk ends, item by item: at an item that it does not go on from, or where it ends behind that item.
 -- Assumes nothing.
-use Prim.Native.Nat.{ℕ, suc, ◌+◌, ◌-◌, ◌≤◌, ◌<◌}
+use Prim.Native.Nat.{ℕ, ◌+◌, ◌-◌, ◌≤◌, ◌<◌}
 use native.Mathlib.Omega.{arith}
-use native.Mathlib.Numerals.{sub-one}
-use mathlib.Core.Path.{◌≡◌, refl, sym, ◌∙◌, ap}
+use mathlib.Core.Path.{◌≡◌, refl, sym, ap}
 use mathlib.Core.Bool.{Bool, true, false, cond}
 use mathlib.Core.List.{List, [], ◌∷◌}
 use mathlib.Core.Option.{Option}
 use lib.ListN.{length, take}
 use lib.Seq.{slice}
+use Rattle.std.specs.Prelude as Std
 use Rattle.std.specs.Prelude.{Ok, Err, Some, None}
 use Rattle.reading.specs.declared.Item.{Item}
 use Rattle.reading.specs.declared.Passed.{Passed}
+use Rattle.reading.specs.declared.Stopped.{Stopped}
 use Rattle.reading.specs.Items.{opens, raised, Found, item_at}
 use Rattle.reading.specs.Scalars.{sids_of}
 use Rattle.reading.specs.Walk.{Event, ends, Ending, Walk, before, name_in, annotations, leaf_walk, ◌and_then◌, shows, container_walk, step_walk, walk_from}
 use Rattle.read_items.specs.Ints.{int_end}
 use Rattle.read_items.proofs.Bounds.{item_bounds}
 use Rattle.read_items.proofs.Fuel.{fuelled}
-use Rattle.read_items.proofs.Ints.{IntItem, int_item}
-use Rattle.reader.specs.Values.{Value, past, value_from, value_at}
+use Rattle.read_items.proofs.Ints.{int_item}
+use Rattle.reader.specs.Values.{stopped_at, Value, past, value_from, value_at}
 
 -- ---- how two walks end, one behind the other
 
@@ -73,16 +74,29 @@ step_ends f s parent least depth at (Ok (Some i)) = by_kind (opens i.kind)
 
 -- ---- the walk from a place, for any fuel above none
 
-pub walk_ends : (f : ℕ) → 1 ≤ f → (s : List ℕ) (parent least depth at : ℕ)
-    → (walk_from f s parent least depth at).1 ≡ behind (f - 1) s parent depth (value_at (f - 1) s parent least depth at)
+pub walk_behind : (f : ℕ) → 1 ≤ f → (s : List ℕ) (parent least depth at : ℕ) (v : Value) → v ≡ value_at (f - 1) s parent least depth at
+    → behind (f - 1) s parent depth v ≡ (walk_from f s parent least depth at).1
 unfolding walk_from value_at
-walk_ends f some s parent least depth at =
-    fuelled (λ g. (walk_from g s parent least depth at).1 ≡ behind (g - 1) s parent depth (value_at (g - 1) s parent least depth at)) f some
-    (λ g p. rw (sub-one) (step_ends g s parent least depth at (item_at s parent least depth at)))
+walk_behind f some s parent least depth at v e =
+    fuelled (λ g. behind (f - 1) s parent depth v ≡ (walk_from g s parent least depth at).1) f some
+    (λ g p. rw (e, p) (sym (step_ends g s parent least depth at (item_at s parent least depth at))))
 
 -- ---- what the walk makes of the item at a place
 
+-- an item that reads, or the place where the walk stops
+pub item_read : (at : ℕ) (x : Found) (o : Std.Option Item) → Ok o ≡ stopped_at at x → x ≡ Ok o
+item_read at (Ok i) o e = cc
+item_read at (Err r) o e = cc
+
+pub value_stops : (f : ℕ) (s : List ℕ) (least depth at : ℕ) (x : Found) (e : Stopped) → Err e ≡ stopped_at at x → Err e ≡ value_from f s least depth at x
+value_stops f s least depth at (Ok i) e h = cc
+value_stops f s least depth at (Err r) e h = let q : e ≡ record { refusal = r; place = at } = cc in ap Err q
+
 module _ (f : ℕ) (s : List ℕ) (parent least depth at : ℕ) where
+  pub value_none : item_at s parent least depth at ≡ Ok None → value_at f s parent least depth at ≡ Ok None
+  unfolding value_at
+  value_none e = rw (e) refl
+
   module _ (i : Item) (is : item_at s parent least depth at ≡ Ok (Some i)) where
     pub value_leaf : opens i.kind ≡ false → value_at f s parent least depth at ≡ Ok (Some (record { next = i.stop; least = raised least i.kind i.name }))
     unfolding value_at

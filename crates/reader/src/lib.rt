@@ -55,6 +55,7 @@ fn body(s: &[u8], holder: Holder, at: usize) -> Result<(), Stopped>
 }
 
 // How the walk over the bytes before `end` ends, from `at` on, in what holds them.
+#[tactic(auto, unfolding(reading::specs::Walk::walk_in))]
 pub fn read(s: &[u8], end: usize, holder: Holder, at: usize) -> Result<(), Stopped>
     ensures { result ≡ (walk_in s.now end holder.kind holder.least holder.depth at).1 }
 {
@@ -68,6 +69,7 @@ pub fn read(s: &[u8], end: usize, holder: Holder, at: usize) -> Result<(), Stopp
 }
 
 // The item at `at` of the bytes before `end`, in what holds them.
+#[tactic(auto, unfolding(crate::specs::Values::next_in))]
 pub fn next(s: &[u8], end: usize, holder: Holder, at: usize) -> Result<Option<Item>, Refusal>
     ensures { result ≡ next_in s.now end holder.kind holder.least holder.depth at }
 {

@@ -1,5 +1,5 @@
 -- Sids that are whole and end within the wrapper, and the value behind them. Assumes nothing.
-use Rattle.std.proofs.Common.{sym, ◌∙◌, arith, ◌+◌, length, refl, ◌≡◌}
+use Rattle.std.proofs.Common.{sym, ◌∙◌, arith, ◌+◌, length, refl}
 use borrow.Author.Tests.{le-leb}
 use Rattle.read_items.proofs.Parts.{part_slice}
 use Rattle.read_items.proofs.annotated_value.Goals as goal
