@@ -7,7 +7,7 @@ ghost use Rattle.read_header.specs.Usual.{least_length, usual};
 
 use reading::{Header, Number, Refusal};
 
-// Type codes.
+// Type codes. They are numbers, and no enum: four bits of the type byte, which is answered as it stands, and the tables below go by them.
 const BOOL: u8 = 1;
 
 const NEGATIVE_INT: u8 = 3;

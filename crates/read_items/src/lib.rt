@@ -12,7 +12,7 @@ ghost use Rattle.read_items.specs.Sids.{groups_with};
 
 use reading::{Header, Holder, Item, Number, Refusal, Wrapped};
 
-// Type bytes. Those below null's are pads.
+// Type bytes. Those below null's are pads. They are numbers, and no enum: an item answers the byte of the stream as it stands, its length bits too.
 const NULL: u8 = 0x0F;
 
 const INT_ZERO: u8 = 0x20;
