@@ -138,6 +138,6 @@ fraction_some s at inside = front (length s) (drop at s) (rw (length-drop at s) 
         let p : (signed t m, rest) ≡ (signed t m, drop e.next s) = some-injective (signed t m, rest) (signed t m, drop e.next s) (sym q ∙ w.is) in
         digits_by_exponent (length s) (length rest) t m (int_field rest)
         ∙ ap (λ (y : Signed × List ℕ). cond (is_some (fraction_of (signed t m) (int_field y.1)))
-            (Ok (cond (t && not (eqb m 0)) (Some (record { digits = m; coefficient = e.next })) None)) (Err NotIon)) p
+        (Ok (cond (t && not (eqb m 0)) (Some (record { digits = m; coefficient = e.next })) None)) (Err NotIon)) p
 
 pub ruleset fraction_parts = (fraction_none, fraction_some)

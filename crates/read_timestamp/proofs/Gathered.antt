@@ -223,7 +223,7 @@ fields_are s at x inside e =
     let u = t.behind in
     let r : x.1 ≡ drop (at + u.count) s = u.is ∙ drop-drop u.count at s in
     let p : length s - length x.1 ≡ at + u.count =
-        ap (λ (l : List ℕ). length s - length l) r ∙ behind s (at + u.count) (omega (arith, u.most, length-drop at s)) in
+    ap (λ (l : List ℕ). length s - length l) r ∙ behind s (at + u.count) (omega (arith, u.most, length-drop at s)) in
     record { few = t.few; told = six_places x.0 t.few; rest = r ∙ ap (λ (j : ℕ). drop j s) (sym p) }
 
 pub fields_few : (s : List ℕ) (at : ℕ) (x : FieldsTo) → fields_at s at ≡ Ok x → x.fields.count ≤ 6

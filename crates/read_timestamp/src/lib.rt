@@ -11,6 +11,7 @@ ghost use Rattle.reading.specs.Bodies.{is_negative, magnitude, known_offset, tim
 ghost use Rattle.reading.specs.Told.{fields_told};
 ghost use Rattle.read_timestamp.specs.Parts.{fields_at, fraction_at};
 
+use read_bodies::VarInt;
 use reading::{Fields, Fraction, Offset, Refusal, Timestamp};
 
 // The fields, and the place behind them.
@@ -23,13 +24,16 @@ struct FieldsTo {
 // ---- the offset
 
 // Negative zero is the unknown offset.
-fn known_offset(negative: bool, minutes: u64) -> Option<Offset>
-    ensures { result ≡ known_offset (signed negative minutes) }
+fn known_offset(offset: VarInt) -> Option<Offset>
+    ensures { result ≡ known_offset (signed offset.negative offset.magnitude) }
 {
-    if negative & (minutes == 0) {
+    if offset.negative & (offset.magnitude == 0) {
         return None;
     }
-    Some(Offset { negative, minutes })
+    Some(Offset {
+        negative: offset.negative,
+        minutes: offset.magnitude,
+    })
 }
 
 // ---- fields
@@ -117,11 +121,11 @@ fn is_zero(c: &[u8]) -> bool
 }
 
 // Below one and not below zero, with the Int's bytes; an exponent that is not below zero only has zero.
-fn coefficient_fits(negative: bool, exponent: u64, c: &[u8]) -> bool
-    ensures { result ≡ is_some (fraction_of (signed negative exponent) (int_field c.now)) }
+fn coefficient_fits(exponent: VarInt, c: &[u8]) -> bool
+    ensures { result ≡ is_some (fraction_of (signed exponent.negative exponent.magnitude) (int_field c.now)) }
 {
-    if negative & ((exponent != 0) & !is_negative(c)) {
-        return read_fraction::below_one(c, exponent);
+    if exponent.negative & ((exponent.magnitude != 0) & !is_negative(c)) {
+        return read_fraction::below_one(c, exponent.magnitude);
     }
     is_zero(c)
 }
@@ -136,7 +140,7 @@ fn fraction_at(body: &[u8], at: usize) -> Result<Option<Fraction>, Refusal>
     }
     let exponent = read_bodies::var_int(body, at)?;
     let coefficient = exponent.next;
-    if !coefficient_fits(exponent.negative, exponent.magnitude, &body[coefficient..]) {
+    if !coefficient_fits(exponent, &body[coefficient..]) {
         return Err(Refusal::NotIon);
     }
     if exponent.negative & (exponent.magnitude != 0) {
@@ -161,9 +165,8 @@ pub fn timestamp(body: &[u8]) -> Result<Timestamp, Refusal>
         return Err(Refusal::NotIon);
     }
     let fraction = fraction_at(body, next)?;
-    let offset = known_offset(offset.negative, offset.magnitude);
     Ok(Timestamp {
-        offset,
+        offset: known_offset(offset),
         fields,
         fraction,
     })

@@ -24,7 +24,7 @@ loop-field-preserved c = let l = c.loop-field in
 pub returns : goal.returns
 returns c = let l = c.loop-field in
     elim c.loop-field-test.branch [
-      else-loop-field-test w ↦ rw w.f-is (gathered_all c.args.body.now c.args.at l.field-items l.count l.next l.invariant.1 (λ k. absurd (omega arith)))
+      | else-loop-field-test w ↦ rw w.f-is (gathered_all c.args.body.now c.args.at l.field-items l.count l.next l.invariant.1 (λ k. absurd (omega arith)))
       | then-loop-field-test+then-body-next w ↦
           rw (w.f-is, set-get_or) (gathered_all c.args.body.now c.args.at l.field-items l.count l.next l.invariant.1 (λ k. w.if-body-next.true))
     ]
