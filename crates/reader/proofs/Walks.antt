@@ -2,17 +2,16 @@
 -- Assumes nothing.
 use Prim.Native.Nat.{ℕ, ◌+◌, ◌-◌, ◌≤◌, ◌<◌}
 use native.Mathlib.Omega.{arith}
-use mathlib.Core.Path.{◌≡◌, refl, sym, ap}
+use mathlib.Core.Path.{◌≡◌, refl, sym}
 use mathlib.Core.Bool.{Bool, true, false, cond}
 use mathlib.Core.List.{List, [], ◌∷◌}
 use mathlib.Core.Option.{Option}
 use lib.ListN.{length, take}
 use lib.Seq.{slice}
-use Rattle.std.specs.Prelude as Std
 use Rattle.std.specs.Prelude.{Ok, Err, Some, None}
 use Rattle.reading.specs.declared.Item.{Item}
 use Rattle.reading.specs.declared.Passed.{Passed}
-use Rattle.reading.specs.declared.Stopped.{Stopped}
+use Rattle.reading.specs.declared.Refusal.{Refusal}
 use Rattle.reading.specs.Items.{opens, raised, Found, item_at}
 use Rattle.reading.specs.Scalars.{sids_of}
 use Rattle.reading.specs.Walk.{Event, ends, Ending, Walk, before, name_in, annotations, leaf_walk, ◌and_then◌, shows, container_walk, step_walk, walk_from}
@@ -20,7 +19,7 @@ use Rattle.read_items.specs.Ints.{int_end}
 use Rattle.read_items.proofs.Bounds.{item_bounds}
 use Rattle.read_items.proofs.Fuel.{fuelled}
 use Rattle.read_items.proofs.Ints.{int_item}
-use Rattle.reader.specs.Values.{stopped_at, Value, past, value_from, value_at}
+use Rattle.reader.specs.Values.{Value, past, value_from, value_at}
 
 -- ---- how two walks end, one behind the other
 
@@ -83,19 +82,14 @@ walk_behind f some s parent least depth at v e =
 
 -- ---- what the walk makes of the item at a place
 
--- an item that reads, or the place where the walk stops
-pub item_read : (at : ℕ) (x : Found) (o : Std.Option Item) → Ok o ≡ stopped_at at x → x ≡ Ok o
-item_read at (Ok i) o e = cc
-item_read at (Err r) o e = cc
-
-pub value_stops : (f : ℕ) (s : List ℕ) (least depth at : ℕ) (x : Found) (e : Stopped) → Err e ≡ stopped_at at x → Err e ≡ value_from f s least depth at x
-value_stops f s least depth at (Ok i) e h = cc
-value_stops f s least depth at (Err r) e h = let q : e ≡ record { refusal = r; place = at } = cc in ap Err q
-
 module _ (f : ℕ) (s : List ℕ) (parent least depth at : ℕ) where
   pub value_none : item_at s parent least depth at ≡ Ok None → value_at f s parent least depth at ≡ Ok None
   unfolding value_at
   value_none e = rw (e) refl
+
+  pub value_stops : (r : Refusal) → item_at s parent least depth at ≡ Err r → value_at f s parent least depth at ≡ Err (record { refusal = r; place = at })
+  unfolding value_at
+  value_stops r e = rw (e) refl
 
   module _ (i : Item) (is : item_at s parent least depth at ≡ Ok (Some i)) where
     pub value_leaf : opens i.kind ≡ false → value_at f s parent least depth at ≡ Ok (Some (record { next = i.stop; least = raised least i.kind i.name }))

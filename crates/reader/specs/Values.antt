@@ -2,16 +2,10 @@
 -- Assumes nothing.
 use Rattle.std.specs.Prelude.{ℕ, ◌+◌, cond, List, leb, length, take, Result, Ok, Err, Option, Some, None}
 use Rattle.reading.specs.declared.Refusal.TheVariants.{PastTheEnd}
-use Rattle.reading.specs.declared.Item.{Item}
 use Rattle.reading.specs.declared.Stopped.{Stopped}
 use Rattle.reading.specs.declared.Passed.{Passed}
 use Rattle.reading.specs.Items.{opens, raised, Found, item_at}
 use Rattle.reading.specs.Walk.{Ending, walk_from}
-
--- an item that does not read stops the walk, by its place
-abbrev pub stopped_at : ℕ → Found → Result (Option Item) Stopped
-stopped_at at (Ok i) = Ok i
-stopped_at at (Err r) = Err (record { refusal = r; place = at })
 
 -- what the walk makes of an item: it passes it, or there is none, or it stops
 abbrev pub Value : Type 0

@@ -2,18 +2,10 @@
 #![tactic(auto)]
 
 ghost use Rattle.std.specs.Prelude.{◌≡◌, ℕ, ◌+◌, ◌-◌, ◌≤◌, length};
-ghost use Rattle.reading.specs.Items.{item_at};
 ghost use Rattle.reading.specs.Walk.{walk_from, walk_in};
-ghost use Rattle.reader.specs.Values.{stopped_at, value_at, next_in};
+ghost use Rattle.reader.specs.Values.{value_at, next_in};
 
 use reading::{Holder, Item, Passed, Refusal, Stopped};
-
-// The item at `at`. The walk stops there where it does not read.
-fn item_of_walk(s: &[u8], holder: Holder, at: usize) -> Result<Option<Item>, Stopped>
-    ensures { result ≡ stopped_at at (item_at s.now holder.kind holder.least holder.depth at) }
-{
-    read_items::item(s, holder, at).map_err(|refusal| Stopped { refusal, place: at })
-}
 
 // The item at `at` and all that it holds; none where the bytes end.
 #[cycle(body_value)]
@@ -23,8 +15,10 @@ fn value(s: &[u8], holder: Holder, at: usize) -> Result<Option<Passed>, Stopped>
     if let Some(next) = read_items::int_end(s, holder.kind, at) {
         return Ok(Some(Passed { next, least: 0 }));
     }
-    let Some(item) = item_of_walk(s, holder, at)? else {
-        return Ok(None);
+    let item = match read_items::item(s, holder, at) {
+        Ok(Some(item)) => item,
+        Ok(None) => return Ok(None),
+        Err(refusal) => return Err(Stopped { refusal, place: at }),
     };
     if read_items::is_container(item.kind) {
         let inside = Holder {

@@ -4,8 +4,8 @@ use Rattle.std.proofs.Math.Seq.{length-take-le}
 use Rattle.reading.specs.Items.{raised}
 use Rattle.reading.specs.Walk.{Ending}
 use Rattle.read_items.proofs.Bounds.{item_bounds}
-use Rattle.reader.specs.Values.{past, value_at}
-use Rattle.reader.proofs.Walks.{walk_behind, item_read, value_stops, value_none, value_int, value_leaf, value_container, value_goes_on}
+use Rattle.reader.specs.Values.{past}
+use Rattle.reader.proofs.Walks.{walk_behind, value_stops, value_none, value_int, value_leaf, value_container, value_goes_on}
 use Rattle.reader.proofs.+body_value.Goals as goal
 use Rattle.reader.proofs.+body_value.Goals.{value-then-is_container+in_ok-body, value-else-is_container}
 
@@ -54,59 +54,56 @@ value-returns-in-Some t c = λ f h.
     let a = c.args in
     sym (value_int f a.s.now a.holder.kind a.holder.least a.holder.depth a.at c.in-Some.next (sym c.in-Some.ensures))
 
-pub value-returns-in_err-item : goal.value-returns-in_err-item
-unfolding value_at
-value-returns-in_err-item t c = λ f h.
+pub value-returns-in-Ok-None : goal.value-returns-in-Ok-None
+value-returns-in-Ok-None t c = λ f h.
     let a = c.args in
-    let stopped : c.from_residual.result ≡ Err c.in_err-item.field-0.0 = search rules in
-    stopped ∙ value_stops f a.s.now a.holder.least a.holder.depth a.at _ c.in_err-item.field-0.0 c.in_err-item.ensures
+    sym (value_none f a.s.now a.holder.kind a.holder.least a.holder.depth a.at (sym c.item.ensures ∙ c.in-Ok-None.is ∙ ap Ok c.in-Ok-None.field-0-is))
 
-pub value-returns-in_default-2 : goal.value-returns-in_default-2
-value-returns-in_default-2 t c = λ f h.
+pub value-returns-in-Err : goal.value-returns-in-Err
+value-returns-in-Err t c = λ f h.
     let a = c.args in
-    let is = item_read a.at _ c.in_ok-item.field-0 c.in_ok-item.ensures in
-    sym (value_none f a.s.now a.holder.kind a.holder.least a.holder.depth a.at (is ∙ ap Ok c.in_default-2.is))
+    sym (value_stops f a.s.now a.holder.kind a.holder.least a.holder.depth a.at c.in-Err.refusal (sym c.item.ensures ∙ c.in-Err.is))
 
 pub value-overflow_add-inside : goal.value-overflow_add-inside
 value-overflow_add-inside t c =
     let a = c.args in
-    let is = item_read a.at _ c.in_ok-item.field-0 c.in_ok-item.ensures ∙ ap Ok c.in-Some-2.is in
-    let p = item_bounds a.s.now a.holder.kind a.holder.least a.holder.depth a.at c.in-Some-2.item is in
+    let is = sym c.item.ensures ∙ c.in-Ok-Some.is ∙ ap Ok c.in-Ok-Some.field-0-is in
+    let p = item_bounds a.s.now a.holder.kind a.holder.least a.holder.depth a.at c.in-Ok-Some.item is in
     let room = p.room (sym c.is_container.ensures ∙ c.if-is_container.true) in
     omega (arith, room)
 
 pub value-slice_bounds-body-end : goal.value-slice_bounds-body-end
 value-slice_bounds-body-end t c =
     let a = c.args in
-    let is = item_read a.at _ c.in_ok-item.field-0 c.in_ok-item.ensures ∙ ap Ok c.in-Some-2.is in
-    let p = item_bounds a.s.now a.holder.kind a.holder.least a.holder.depth a.at c.in-Some-2.item is in
-    sym (length-take-le c.in-Some-2.item.stop a.s.now p.held.within)
+    let is = sym c.item.ensures ∙ c.in-Ok-Some.is ∙ ap Ok c.in-Ok-Some.field-0-is in
+    let p = item_bounds a.s.now a.holder.kind a.holder.least a.holder.depth a.at c.in-Ok-Some.item is in
+    sym (length-take-le c.in-Ok-Some.item.stop a.s.now p.held.within)
 
 pub value-body-requires : goal.value-body-requires
 value-body-requires t c =
     let a = c.args in
-    let is = item_read a.at _ c.in_ok-item.field-0 c.in_ok-item.ensures ∙ ap Ok c.in-Some-2.is in
-    let w = (item_bounds a.s.now a.holder.kind a.holder.least a.holder.depth a.at c.in-Some-2.item is).held in
-    let prefix = length-take-le c.in-Some-2.item.stop a.s.now w.within in
+    let is = sym c.item.ensures ∙ c.in-Ok-Some.is ∙ ap Ok c.in-Ok-Some.field-0-is in
+    let w = (item_bounds a.s.now a.holder.kind a.holder.least a.holder.depth a.at c.in-Ok-Some.item is).held in
+    let prefix = length-take-le c.in-Ok-Some.item.stop a.s.now w.within in
     (omega (arith, prefix, w.after, w.behind, w.before, w.body, w.within), tt)
 
 pub value-returns-in_err-body : goal.value-returns-in_err-body
 value-returns-in_err-body t c = λ f h.
     let a = c.args in
-    let is = item_read a.at _ c.in_ok-item.field-0 c.in_ok-item.ensures ∙ ap Ok c.in-Some-2.is in
-    let w = (item_bounds a.s.now a.holder.kind a.holder.least a.holder.depth a.at c.in-Some-2.item is).held in
-    let prefix = length-take-le c.in-Some-2.item.stop a.s.now w.within in
-    let stopped : c.from_residual-in_err-body.result ≡ Err c.in_err-body.field-0.0 = search rules in
+    let is = sym c.item.ensures ∙ c.in-Ok-Some.is ∙ ap Ok c.in-Ok-Some.field-0-is in
+    let w = (item_bounds a.s.now a.holder.kind a.holder.least a.holder.depth a.at c.in-Ok-Some.item is).held in
+    let prefix = length-take-le c.in-Ok-Some.item.stop a.s.now w.within in
+    let stopped : c.from_residual.result ≡ Err c.in_err-body.field-0.0 = search rules in
     stopped
-    ∙ ap (λ (e : Ending). past e (record { next = c.in-Some-2.item.stop; least = raised a.holder.least c.in-Some-2.item.kind c.in-Some-2.item.name }))
+    ∙ ap (λ (e : Ending). past e (record { next = c.in-Ok-Some.item.stop; least = raised a.holder.least c.in-Ok-Some.item.kind c.in-Ok-Some.item.name }))
     (c.in_err-body.ensures f (omega (arith, prefix, w.after, w.behind, w.before, w.body, w.within)))
-    ∙ sym (value_container f a.s.now a.holder.kind a.holder.least a.holder.depth a.at c.in-Some-2.item is (sym c.is_container.ensures ∙ c.if-is_container.true))
+    ∙ sym (value_container f a.s.now a.holder.kind a.holder.least a.holder.depth a.at c.in-Ok-Some.item is (sym c.is_container.ensures ∙ c.if-is_container.true))
 
 pub value-returns : goal.value-returns
 value-returns t c = λ f h.
     let a = c.args in
-    let i = c.in-Some-2.item in
-    let is = item_read a.at _ c.in_ok-item.field-0 c.in_ok-item.ensures ∙ ap Ok c.in-Some-2.is in
+    let i = c.in-Ok-Some.item in
+    let is = sym c.item.ensures ∙ c.in-Ok-Some.is ∙ ap Ok c.in-Ok-Some.field-0-is in
     let w = (item_bounds a.s.now a.holder.kind a.holder.least a.holder.depth a.at i is).held in
     let prefix = length-take-le i.stop a.s.now w.within in
     ap (λ (l : ℕ). Ok (Some (record { next = i.stop; least = l }))) c.least_after.ensures
