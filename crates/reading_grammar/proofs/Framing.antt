@@ -1,5 +1,6 @@
 -- The other way, at one header: a header that is found at a place is one of the grammar.
 -- Assumes nothing.
+use Rattle.std.specs.Prelude.{Result, Ok, Err, Some, None}
 use Prim.Native.Nat.{ℕ, suc, ◌+◌, ◌*◌, ◌/◌, ◌%◌, ◌≤◌, ◌<◌}
 use native.Mathlib.Omega.{arith}
 use native.Mathlib.Nat.{div-add-mod'}
@@ -17,8 +18,6 @@ use Rattle.ion.specs.Grammar.{Header, short, long}
 use Rattle.ion.proofs.Tests.{by_cases}
 use Rattle.reading.specs.declared.Refusal.{Refusal}
 use Rattle.reading.specs.declared.Number.{Number}
-use Rattle.reading.specs.declared.Number.TheVariants as N
-use Rattle.reading.specs.declared.Header.TheVariants as H
 use Rattle.reading.specs.Headers as S
 use Rattle.reading.specs.Headers.{var_uint_at, impossible, alone, measured, never, header_at}
 use Rattle.reading_grammar.proofs.Tests.{neither, contrary, or_left}
@@ -43,10 +42,10 @@ pub record Framed (s : List ℕ) (at k start stop : ℕ) : Type 0 where
   pub possible : impossible (k / 16) (k % 16) ≡ false
   pub framing : Framing k (length body) tail
 
-header_injective : {a b c k m n : ℕ} → H.Is a b c ≡ H.Is k m n → (a ≡ k) × ((b ≡ m) × (c ≡ n))
+header_injective : {a b c k m n : ℕ} → Ok (record { kind = a; start = b; stop = c }) ≡ Ok (record { kind = k; start = m; stop = n }) → (a ≡ k) × ((b ≡ m) × (c ≡ n))
 header_injective e = (cc, (cc, cc))
 
-pub no_header : {X : Type 0} {r : Refusal} {k m n : ℕ} → H.No r ≡ H.Is k m n → X
+pub no_header : {X : Type 0} {r : Refusal} {k m n : ℕ} → Err r ≡ Ok (record { kind = k; start = m; stop = n }) → X
 no_header e = absurd (let z : ◌≡◌ {A = ℕ} 0 1 = cc in omega arith)
 
 -- the n bytes at the front, and those behind them
@@ -54,7 +53,7 @@ cut_at : (n : ℕ) (m : List ℕ) → n ≤ length m → (m ≡ take n m ++ drop
 cut_at n m h = (sym (take-append-drop n m), length-take-le n m h)
 
 module _ (out : Refusal) (s : List ℕ) (at b k start stop : ℕ) (can : impossible (b / 16) (b % 16) ≡ false) where
-  framed_bounds : (n next : ℕ) → S.framed out s b n next ≡ H.Is k start stop
+  framed_bounds : (n next : ℕ) → S.framed out s b n next ≡ Ok (record { kind = k; start = start; stop = stop })
       → ((b ≡ k) × ((next ≡ start) × (next + n ≡ stop))) × ((never (b / 16) (b % 16) n ≡ false) × (next + n ≤ length s))
   framed_bounds n next e =
       by_cases (never (b / 16) (b % 16) n)
@@ -65,7 +64,7 @@ module _ (out : Refusal) (s : List ℕ) (at b k start stop : ℕ) (can : impossi
 
   -- a body of n bytes from `next`, behind the bytes t
   frames : (t m : List ℕ) (n next : ℕ) → next ≡ at + 1 + length t → Rest s at (b ∷ (t ++ m))
-      → (never (b / 16) (b % 16) n ≡ false → Framing b n t) → S.framed out s b n next ≡ H.Is k start stop → Framed s at k start stop
+      → (never (b / 16) (b % 16) n ≡ false → Framing b n t) → S.framed out s b n next ≡ Ok (record { kind = k; start = start; stop = stop }) → Framed s at k start stop
   frames t m n next p x g e =
       let c = framed_bounds n next e in
       let fits : n ≤ length m = omega (arith, rest-length x, length-append t m, c.1.1) in
@@ -83,19 +82,19 @@ module _ (out : Refusal) (s : List ℕ) (at b k start stop : ℕ) (can : impossi
         framing = subst (λ (j : ℕ). Framing b j t) (sym d.1) (g c.1.0);
       })
 
-  by_number : (m : List ℕ) (o : Number) → var_uint_at out s (at + 1) ≡ o → alone (b / 16) (b % 16) ≡ false → measured (b / 16) (b % 16) ≡ true
-      → Rest s at (b ∷ m) → S.framed_by out s b o ≡ H.Is k start stop → Framed s at k start stop
-  by_number m (N.No r) q a l x e = no_header e
-  by_number m (N.Is n next) q a l x e =
-      let v = found_number out s (at + 1) n next q in
+  by_number : (m : List ℕ) (o : Result Number Refusal) → var_uint_at out s (at + 1) ≡ o → alone (b / 16) (b % 16) ≡ false → measured (b / 16) (b % 16) ≡ true
+      → Rest s at (b ∷ m) → S.framed_by out s b o ≡ Ok (record { kind = k; start = start; stop = stop }) → Framed s at k start stop
+  by_number m (Err r) q a l x e = no_header e
+  by_number m (Ok nn) q a l x e =
+      let v = found_number out s (at + 1) nn.value nn.next q in
       let y : m ≡ v.front ++ v.rest = sym (rest-tail x).is ∙ v.joins in
-      frames v.front v.rest n next v.ends (rw y at x) (λ f. by_field a l f v.reads) e
+      frames v.front v.rest nn.value nn.next v.ends (rw y at x) (λ f. by_field a l f v.reads) e
 
-  headed-framed : (m : List ℕ) → Rest s at (b ∷ m) → S.headed out s at b ≡ H.Is k start stop → Framed s at k start stop
+  headed-framed : (m : List ℕ) → Rest s at (b ∷ m) → S.headed out s at b ≡ Ok (record { kind = k; start = start; stop = stop }) → Framed s at k start stop
   headed-framed m x e =
       by_cases (alone (b / 16) (b % 16))
       (λ a.
-      let f : H.Is b (at + 1) (at + 1) ≡ H.Is k start stop = rw a at (rw can at e) in
+      let f : Ok (record { kind = b; start = at + 1; stop = at + 1 }) ≡ Ok (record { kind = k; start = start; stop = stop }) = rw a at (rw can at e) in
       let c = header_injective f in
       subst (λ (j : ℕ). Framed s at j start stop) c.0
       (record {
@@ -112,7 +111,7 @@ module _ (out : Refusal) (s : List ℕ) (at b k start stop : ℕ) (can : impossi
       (λ l. by_number m (var_uint_at out s (at + 1)) refl a l x (rw l at (rw a at (rw can at e))))
       (λ l. frames [] m (b % 16) (at + 1) (omega arith) x (λ f. by_low_bits a l refl) (rw l at (rw a at (rw can at e)))))
 
-pub header_framed : (out : Refusal) (s : List ℕ) (at k start stop : ℕ) → header_at out s at ≡ H.Is k start stop → Framed s at k start stop
+pub header_framed : (out : Refusal) (s : List ℕ) (at k start stop : ℕ) → header_at out s at ≡ Ok (record { kind = k; start = start; stop = stop }) → Framed s at k start stop
 unfolding header_at
 header_framed out s at k start stop e =
     by_cases (ltb at (length s))

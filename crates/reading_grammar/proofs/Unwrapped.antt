@@ -1,5 +1,6 @@
 -- The other way, at a value in its annotation wrapper: what is found is a wrapper of the grammar, or a bare value.
 -- Assumes nothing.
+use Rattle.std.specs.Prelude.{Result, Ok, Err, Some, None}
 use Prim.Native.Nat.{ℕ, ◌+◌, ◌/◌, ◌%◌, ◌≤◌, ◌<◌}
 use native.Mathlib.Omega.{arith}
 use mathlib.Core.Path.{◌≡◌, refl, sym, ◌∙◌, ap}
@@ -18,10 +19,7 @@ use Rattle.ion.proofs.Tests.{by_cases, both}
 use Rattle.reading.specs.declared.Refusal.{Refusal}
 use Rattle.reading.specs.declared.Refusal.TheVariants.{NotIon}
 use Rattle.reading.specs.declared.Number.{Number}
-use Rattle.reading.specs.declared.Number.TheVariants as N
 use Rattle.reading.specs.declared.Header.{Header as Head}
-use Rattle.reading.specs.declared.Header.TheVariants as H
-use Rattle.reading.specs.declared.Wrapped.TheVariants as W
 use Rattle.reading.specs.Headers.{impossible, var_uint_at, header_at}
 use Rattle.reading.specs.Scalars.{is_some, sids_of}
 use Rattle.reading.specs.Items.{is_pad, is_wrapper, filled, annotated, wrapped_at, unwrapped}
@@ -31,10 +29,10 @@ use Rattle.reading_grammar.proofs.Places.{Rest, rest-length, rest-next, rest-sli
 use Rattle.reading_grammar.proofs.Numbers.{found_number, found_sids}
 use Rattle.reading_grammar.proofs.Framing.{Framing, Framed, header_framed, framing_header}
 
-pub no_wrapped : {X : Type 0} {r : Refusal} {a b c d e : ℕ} → W.No r ≡ W.Is a b c d e → X
+pub no_wrapped : {X : Type 0} {r : Refusal} {a b c d e : ℕ} → Err r ≡ Ok (record { sids = a; sids_end = b; kind = c; start = d; stop = e }) → X
 no_wrapped e = absurd (let z : ◌≡◌ {A = ℕ} 0 1 = cc in omega arith)
 
-wrapped_injective : {a b c d e a' b' c' d' e' : ℕ} → W.Is a b c d e ≡ W.Is a' b' c' d' e' → (a ≡ a') × (b ≡ b') × (c ≡ c') × (d ≡ d') × (e ≡ e')
+wrapped_injective : {a b c d e a' b' c' d' e' : ℕ} → Ok (record { sids = a; sids_end = b; kind = c; start = d; stop = e }) ≡ Ok (record { sids = a'; sids_end = b'; kind = c'; start = d'; stop = e' }) → (a ≡ a') × (b ≡ b') × (c ≡ c') × (d ≡ d') × (e ≡ e')
 wrapped_injective e = (cc, cc, cc, cc, cc)
 
 -- ---- the body of a wrapper
@@ -55,7 +53,7 @@ record Wrapping (t : List ℕ) (at from to k start stop : ℕ) : Type 0 where
   stops : to ≡ from + length n
   known : sids_of n ≡ some an
   some_sid : an ≢ []
-  headed : header_at NotIon t to ≡ H.Is k start stop
+  headed : header_at NotIon t to ≡ Ok (record { kind = k; start = start; stop = stop })
   pad : is_pad k ≡ false
   wrapper : is_wrapper k ≡ false
   ends : stop ≡ length t
@@ -63,14 +61,14 @@ record Wrapping (t : List ℕ) (at from to k start stop : ℕ) : Type 0 where
 module _ (t : List ℕ) (at from to k start stop : ℕ) where
   wrapping_filled : (l n b an : List ℕ) (i j : ℕ) → Rest t at (l ++ (n ++ b)) → VarUInt l (length n) → i ≡ at + length l → j ≡ i + length n
       → sids_of n ≡ some an → an ≢ []
-      → (o : Head) → header_at NotIon t j ≡ o → filled t i j o ≡ W.Is from to k start stop → Wrapping t at from to k start stop
-  wrapping_filled l n b an i j x v p q y z (H.No r) u e = no_wrapped e
-  wrapping_filled l n b an i j x v p q y z (H.Is c f g) u e =
-      by_cases (is_pad c || (is_wrapper c || not (eqb g (length t))))
+      → (o : Head) → header_at NotIon t j ≡ o → filled t i j o ≡ Ok (record { sids = from; sids_end = to; kind = k; start = start; stop = stop }) → Wrapping t at from to k start stop
+  wrapping_filled l n b an i j x v p q y z (Err r) u e = no_wrapped e
+  wrapping_filled l n b an i j x v p q y z (Ok hh) u e =
+      by_cases (is_pad hh.kind || (is_wrapper hh.kind || not (eqb hh.stop (length t))))
       (λ m. no_wrapped (rw m at e))
       (λ m.
-      let d = neither {a = is_pad c} m in
-      let h = neither {a = is_wrapper c} d.1 in
+      let d = neither {a = is_pad hh.kind} m in
+      let h = neither {a = is_wrapper hh.kind} d.1 in
       let w = wrapped_injective (rw m at e) in
       record {
         l = l;
@@ -86,32 +84,32 @@ module _ (t : List ℕ) (at from to k start stop : ℕ) where
         headed = rw (← w.1, ← w.2, ← w.3, ← w.4) u;
         pad = rw (← w.2) d.0;
         wrapper = rw (← w.2) h.0;
-        ends = sym w.4 ∙ eqb-true g (length t) (not-false (eqb g (length t)) h.1);
+        ends = sym w.4 ∙ eqb-true hh.stop (length t) (not-false (eqb hh.stop (length t)) h.1);
       })
 
-  wrapping_annotated : at ≤ length t → (o : Number) → var_uint_at NotIon t at ≡ o → annotated t o ≡ W.Is from to k start stop → Wrapping t at from to k start stop
-  wrapping_annotated le (N.No r) u e = no_wrapped e
-  wrapping_annotated le (N.Is c i) u e =
-      by_cases (leb 1 c && (leb (i + c) (length t) && is_some (sids_of (slice i (i + c) t))))
+  wrapping_annotated : at ≤ length t → (o : Result Number Refusal) → var_uint_at NotIon t at ≡ o → annotated t o ≡ Ok (record { sids = from; sids_end = to; kind = k; start = start; stop = stop }) → Wrapping t at from to k start stop
+  wrapping_annotated le (Err r) u e = no_wrapped e
+  wrapping_annotated le (Ok n) u e =
+      by_cases (leb 1 n.value && (leb (n.next + n.value) (length t) && is_some (sids_of (slice n.next (n.next + n.value) t))))
       (λ m.
-      let d = both {a = leb 1 c} m in
-      let g = both {a = leb (i + c) (length t)} d.1 in
-      let v = found_number NotIon t at c i u in
+      let d = both {a = leb 1 n.value} m in
+      let g = both {a = leb (n.next + n.value) (length t)} d.1 in
+      let v = found_number NotIon t at n.value n.next u in
       let x : Rest t at (v.front ++ v.rest) = record { within = le; is = v.joins } in
-      let fits : c ≤ length v.rest = omega (arith, rest-length x, length-append v.front v.rest, v.ends, leb-true (i + c) (length t) g.0) in
-      let size : length (take c v.rest) ≡ c = length-take-le c v.rest fits in
-      let y : Rest t at (v.front ++ (take c v.rest ++ drop c v.rest)) = rw (take-append-drop c v.rest) x in
-      let z : slice i (i + c) t ≡ take c v.rest =
-      rest-slice (take c v.rest) (drop c v.rest) (i + c) (omega arith)
-      (rest-next v.front (take c v.rest ++ drop c v.rest) i v.ends y) in
-      let k = some_of (sids_of (take c v.rest)) (rw z at g.1) in
-      wrapping_filled v.front (take c v.rest) (drop c v.rest) k.0 i (i + c) y
+      let fits : n.value ≤ length v.rest = omega (arith, rest-length x, length-append v.front v.rest, v.ends, leb-true (n.next + n.value) (length t) g.0) in
+      let size : length (take n.value v.rest) ≡ c = length-take-le n.value v.rest fits in
+      let y : Rest t at (v.front ++ (take n.value v.rest ++ drop n.value v.rest)) = rw (take-append-drop n.value v.rest) x in
+      let z : slice n.next (n.next + n.value) t ≡ take n.value v.rest =
+      rest-slice (take n.value v.rest) (drop n.value v.rest) (n.next + n.value) (omega arith)
+      (rest-next v.front (take n.value v.rest ++ drop n.value v.rest) n.next v.ends y) in
+      let k = some_of (sids_of (take n.value v.rest)) (rw z at g.1) in
+      wrapping_filled v.front (take n.value v.rest) (drop n.value v.rest) k.0 n.next (n.next + n.value) y
       (v.reads ∙ ap (λ (j : ℕ). some (j, [])) (sym size)) v.ends (omega arith) k.1
-      (λ q. omega (arith, sids_none (found_sids (take c v.rest) k.0 k.1) q, leb-true 1 c d.0))
-      (header_at NotIon t (i + c)) refl (rw m at e))
+      (λ q. omega (arith, sids_none (found_sids (take n.value v.rest) k.0 k.1) q, leb-true 1 n.value d.0))
+      (header_at NotIon t (n.next + n.value)) refl (rw m at e))
       (λ m. no_wrapped (rw m at e))
 
-  wrapping : at ≤ length t → wrapped_at t at ≡ W.Is from to k start stop → Wrapping t at from to k start stop
+  wrapping : at ≤ length t → wrapped_at t at ≡ Ok (record { sids = from; sids_end = to; kind = k; start = start; stop = stop }) → Wrapping t at from to k start stop
   unfolding wrapped_at
   wrapping le e = wrapping_annotated le (var_uint_at NotIon t at) refl e
 
@@ -250,18 +248,18 @@ module _ (s : List ℕ) (at c i j from to k start stop : ℕ) (f : Framed s at c
       }
 
 valued_head : (out : Refusal) (s : List ℕ) (at from to k start stop : ℕ) (o : Head) → header_at out s at ≡ o
-    → unwrapped s o ≡ W.Is from to k start stop → Valued s at from to k start stop
-valued_head out s at from to k start stop (H.No r) q e = no_wrapped e
-valued_head out s at from to k start stop (H.Is c i j) q e =
-    let f = header_framed out s at c i j q in
-    let x : Rest s i (f.body ++ f.rest) = rest-next (c ∷ f.tail) (f.body ++ f.rest) i (omega (arith, f.starts)) f.here in
-    let y : Rest (take j s) i f.body = rest_within f.body f.rest j f.stops x in
-    by_cases (is_wrapper c)
-    (λ m. wrapped_valued s at c i j from to k start stop f m (wrapping (take j s) i from to k start stop y.within (rw m at e)))
+    → unwrapped s o ≡ Ok (record { sids = from; sids_end = to; kind = k; start = start; stop = stop }) → Valued s at from to k start stop
+valued_head out s at from to k start stop (Err r) q e = no_wrapped e
+valued_head out s at from to k start stop (Ok h) q e =
+    let f = header_framed out s at h.kind h.start h.stop q in
+    let x : Rest s h.start (f.body ++ f.rest) = rest-next (h.kind ∷ f.tail) (f.body ++ f.rest) h.start (omega (arith, f.starts)) f.here in
+    let y : Rest (take h.stop s) h.start f.body = rest_within f.body f.rest h.stop f.stops x in
+    by_cases (is_wrapper h.kind)
+    (λ m. wrapped_valued s at h.kind h.start h.stop from to k start stop f m (wrapping (take h.stop s) h.start from to k start stop y.within (rw m at e)))
     (λ m.
     let w = wrapped_injective (rw m at e) in
-    rw (← w.0, ← w.1, ← w.2, ← w.3, ← w.4) (bare_valued s at c i j f))
+    rw (← w.0, ← w.1, ← w.2, ← w.3, ← w.4) (bare_valued s at h.kind h.start h.stop f))
 
-pub found_value : (out : Refusal) (s : List ℕ) (at from to k start stop : ℕ) → unwrapped s (header_at out s at) ≡ W.Is from to k start stop
+pub found_value : (out : Refusal) (s : List ℕ) (at from to k start stop : ℕ) → unwrapped s (header_at out s at) ≡ Ok (record { sids = from; sids_end = to; kind = k; start = start; stop = stop })
     → Valued s at from to k start stop
 found_value out s at from to k start stop e = valued_head out s at from to k start stop (header_at out s at) refl e

@@ -1,5 +1,8 @@
 -- One item of a walk that comes to its end: it is a pad, a value or a version marker of the grammar, and the walk shows its events.
 -- Bodies are taken as read. Assumes nothing.
+use Rattle.std.specs.Prelude.{Result, Ok, Err, Some, None}
+use Rattle.reading.specs.Items.{Found}
+use Rattle.reading.specs.Walk.{Ending, refused}
 use Prim.Native.Nat.{ℕ, ◌+◌, ◌/◌, ◌%◌, ◌≤◌, ◌<◌}
 use native.Mathlib.Omega.{arith}
 use mathlib.Core.Path.{◌≡◌, refl, sym, ◌∙◌, ap}
@@ -16,10 +19,6 @@ use Rattle.ion.specs.Grammar.{sorted, padding, bare, one, members, fields, ◌�
 use Rattle.ion.proofs.Tests.{by_cases, both}
 use Rattle.reading.specs.declared.Refusal.{Refusal}
 use Rattle.reading.specs.declared.Header.{Header as Head}
-use Rattle.reading.specs.declared.Header.TheVariants as H
-use Rattle.reading.specs.declared.Wrapped.TheVariants as W
-use Rattle.reading.specs.declared.Reading.{Reading}
-use Rattle.reading.specs.declared.Reading.TheVariants as R
 use Rattle.reading.specs.Headers.{impossible, header_at, marker_at, top_header_at}
 use Rattle.reading.specs.Scalars.{scalar_in}
 use Rattle.reading.specs.Items.{is_pad, is_marker, opens, is_stream, has_names, is_sorted_struct, reads, head_in, unwrapped}
@@ -38,14 +37,14 @@ use Rattle.reading_grammar.proofs.Steps.{out_in, pad_shows-none}
 
 -- ---- two walks in a row that come to their end
 
-pub refused_not_whole : {X : Type 0} {r : Refusal} {place : ℕ} → R.Refused r place ≡ R.Whole → X
+pub refused_not_whole : {X : Type 0} {r : Refusal} {place : ℕ} → refused r place ≡ Ok tt → X
 refused_not_whole e = absurd (let z : ◌≡◌ {A = ℕ} 0 1 = cc in omega arith)
 
-before-whole : (es : List Event) (r : Reading) (w : Walk) → (before es r w).1 ≡ R.Whole → (r ≡ R.Whole) × (w.1 ≡ R.Whole) × ((before es r w).0 ≡ es ++ w.0)
-before-whole es R.Whole w e = (refl, e, refl)
-before-whole es (R.Refused r place) w e = refused_not_whole e
+before-whole : (es : List Event) (r : Ending) (w : Walk) → (before es r w).1 ≡ Ok tt → (r ≡ Ok tt) × (w.1 ≡ Ok tt) × ((before es r w).0 ≡ es ++ w.0)
+before-whole es (Ok tt) w e = (refl, e, refl)
+before-whole es (Err e) w e = refused_not_whole e
 
-pub then_whole : (v w : Walk) → (v and_then w).1 ≡ R.Whole → (v.1 ≡ R.Whole) × (w.1 ≡ R.Whole) × ((v and_then w).0 ≡ v.0 ++ w.0)
+pub then_whole : (v w : Walk) → (v and_then w).1 ≡ Ok tt → (v.1 ≡ Ok tt) × (w.1 ≡ Ok tt) × ((v and_then w).0 ≡ v.0 ++ w.0)
 then_whole v w e = before-whole v.0 v.1 w e
 
 -- ---- what the walks over bodies show, given their fuel
@@ -66,12 +65,12 @@ pub record FieldsRead (b : List ℕ) (parent least depth : ℕ) (es : List Event
 abbrev pub MembersSound : ℕ → Type 0
 MembersSound f =
     (s : List ℕ) (parent least depth at : ℕ) (b : List ℕ) → has_names parent ≡ false → is_stream parent ≡ false → depth ≤ 32 → Rest s at b → length b < f
-    → (walk_from f s parent least depth at).1 ≡ R.Whole → MembersRead b depth (walk_from f s parent least depth at).0
+    → (walk_from f s parent least depth at).1 ≡ Ok tt → MembersRead b depth (walk_from f s parent least depth at).0
 
 abbrev pub FieldsSound : ℕ → Type 0
 FieldsSound f =
     (s : List ℕ) (parent least depth at : ℕ) (b : List ℕ) → has_names parent ≡ true → is_stream parent ≡ false → depth ≤ 32 → Rest s at b → length b < f
-    → (walk_from f s parent least depth at).1 ≡ R.Whole → FieldsRead b parent least depth (walk_from f s parent least depth at).0
+    → (walk_from f s parent least depth at).1 ≡ Ok tt → FieldsRead b parent least depth (walk_from f s parent least depth at).0
 
 -- ---- one item
 
@@ -92,8 +91,8 @@ record BareRead (q an : List ℕ) (depth : ℕ) (name : Option ℕ) (w : Walk) :
   shallow : depth + tree_depth v ≤ 32
   shown : w.0 ≡ tree_events name v
 
-container_whole : (k : ℕ) (name : Option ℕ) (an : List ℕ) (w : Walk) → (container_walk k name an w).1 ≡ R.Whole
-    → (w.1 ≡ R.Whole) × ((container_walk k name an w).0 ≡ begins name an (container_type k) ∷ (w.0 ++ (ends ∷ [])))
+container_whole : (k : ℕ) (name : Option ℕ) (an : List ℕ) (w : Walk) → (container_walk k name an w).1 ≡ Ok tt
+    → (w.1 ≡ Ok tt) × ((container_walk k name an w).0 ≡ begins name an (container_type k) ∷ (w.0 ++ (ends ∷ [])))
 container_whole k name an w e =
     let a = then_whole (shows (begins name an (container_type k) ∷ [])) (w and_then shows (ends ∷ [])) e in
     let b = then_whole w (shows (ends ∷ [])) a.1 in
@@ -114,7 +113,7 @@ struct_type k l = rw (le-ltb k 0xC0 (omega arith), le-ltb k 0xD0 l)
 
 module _ (f : ℕ) (ihm : MembersSound f) (ihf : FieldsSound f) (an : List ℕ) (k : ℕ) (tail body : List ℕ) (fr : Framing k (length body) tail) (o : Opening k)
     (t : List ℕ) (start depth : ℕ) (name : Option ℕ) (x : Rest t start body) (lt : length body < f) (under : depth < 32)
-    (whole : (container_walk k name an (walk_from f t k 0 (depth + 1) start)).1 ≡ R.Whole) where
+    (whole : (container_walk k name an (walk_from f t k 0 (depth + 1) start)).1 ≡ Ok tt) where
   not_stream : is_stream k ≡ false
   not_stream = ne_eqb k 0 (λ e. omega (arith, o.least))
 
@@ -185,7 +184,7 @@ not_marker k can = ne_eqb k 0xE0 (λ e. contrary can (rw e))
 module _ (f : ℕ) (ihm : MembersSound f) (ihf : FieldsSound f) (s : List ℕ) (parent depth next name from to k start stop : ℕ)
     (w : Valued s next from to k start stop)
     (le : depth ≤ 32) (shallow : (opens k && leb 32 depth) ≡ false) (good : reads k (slice start stop s) ≡ true) (size : length w.p ≤ f) where
-  value_read : is_pad k ≡ false → (item_walk (λ t p l d i. walk_from f t p l d i) s parent depth name from to k start stop).1 ≡ R.Whole
+  value_read : is_pad k ≡ false → (item_walk (λ t p l d i. walk_from f t p l d i) s parent depth name from to k start stop).1 ≡ Ok tt
       → BareRead (k ∷ (w.tail ++ w.body)) w.an depth (name_in parent name)
       (item_walk (λ t p l d i. walk_from f t p l d i) s parent depth name from to k start stop)
   value_read p e =
@@ -199,7 +198,7 @@ module _ (f : ℕ) (ihm : MembersSound f) (ihf : FieldsSound f) (s : List ℕ) (
       (λ q. rw (q, w.known, w.held) (leaf_read w.an k w.tail w.body depth (name_in parent name) w.possible w.framing le p
       (not_marker k w.possible) q (rw w.held at good)))
 
-  value_item : (item_walk (λ t p l d i. walk_from f t p l d i) s parent depth name from to k start stop).1 ≡ R.Whole
+  value_item : (item_walk (λ t p l d i. walk_from f t p l d i) s parent depth name from to k start stop).1 ≡ Ok tt
       → ItemRead s parent depth next stop k (name_in parent name) (item_walk (λ t p l d i. walk_from f t p l d i) s parent depth name from to k start stop).0
   value_item e =
       by_cases (is_pad k)
@@ -220,15 +219,15 @@ record MarkerFound (s : List ℕ) (next k stop : ℕ) : Type 0 where
   kind : k ≡ 0xE0
   ends : stop ≡ next + 4
 
-marker-found : (s : List ℕ) (next from to k start stop : ℕ) (o : Head) → marker_at s next ≡ o → unwrapped s o ≡ W.Is from to k start stop
+marker-found : (s : List ℕ) (next from to k start stop : ℕ) (o : Head) → marker_at s next ≡ o → unwrapped s o ≡ Ok (record { sids = from; sids_end = to; kind = k; start = start; stop = stop })
     → MarkerFound s next k stop
 unfolding marker_at
-marker-found s next from to k start stop (H.No r) q e = no_wrapped e
-marker-found s next from to k start stop (H.Is c i j) q e =
-    let m = marked-bytes (0xE0 ∷ 0x01 ∷ 0x00 ∷ 0xEA ∷ []) next (drop next s) c i j q in
-    let z : W.Is i i 0xE0 i j ≡ W.Is from to k start stop = rw m.2 at e in
+marker-found s next from to k start stop (Err r) q e = no_wrapped e
+marker-found s next from to k start stop (Ok h) q e =
+    let m = marked-bytes (0xE0 ∷ 0x01 ∷ 0x00 ∷ 0xEA ∷ []) next (drop next s) h.kind h.start h.stop q in
+    let z : Ok (record { sids = h.start; sids_end = h.start; kind = 0xE0; start = h.start; stop = h.stop }) ≡ Ok (record { sids = from; sids_end = to; kind = k; start = start; stop = stop }) = rw m.2 at e in
     let k₁ : 0xE0 ≡ k = cc in
-    let k₂ : j ≡ stop = cc in
+    let k₂ : h.stop ≡ stop = cc in
     record { rest = m.0; bytes = m.1; kind = sym k₁; ends = omega (arith, m.3) }
 
 stream_marker_head : (s : List ℕ) (parent next : ℕ) → (is_stream parent && eqb (get_or s next 0) 0xE0) ≡ true → head_in s parent next ≡ marker_at s next
@@ -244,7 +243,7 @@ other_head s parent next e = by_cases (is_stream parent) (λ p. rw (p, (rw p at 
 module _ (f : ℕ) (ihm : MembersSound f) (ihf : FieldsSound f) (s : List ℕ) (parent least depth at name from to k start stop : ℕ)
     (j : Judged s parent least depth at name from to k start stop)
     (le : depth ≤ 32) (size : length s ≤ at + f) (after : at ≤ j.next) (within : j.next ≤ length s) where
-  pub item_read : (item_walk (λ t p l d i. walk_from f t p l d i) s parent depth name from to k start stop).1 ≡ R.Whole
+  pub item_read : (item_walk (λ t p l d i. walk_from f t p l d i) s parent depth name from to k start stop).1 ≡ Ok tt
       → ItemRead s parent depth j.next stop k (name_in parent name) (item_walk (λ t p l d i. walk_from f t p l d i) s parent depth name from to k start stop).0
   item_read e =
       by_cases (is_stream parent && eqb (get_or s j.next 0) 0xE0)
