@@ -1,7 +1,6 @@
 -- A header of the grammar is found at its place: type byte, then length, then a body that lies within the bytes.
 -- Assumes nothing.
-use Rattle.std.specs.Prelude.{Result, Ok, Err, Some, None}
-use Rattle.reading.specs.Items.{Found}
+use Rattle.std.specs.Prelude.{Ok}
 use Prim.Native.Nat.{ℕ, ◌+◌, ◌*◌, ◌/◌, ◌%◌, ◌≤◌, ◌<◌}
 use native.Mathlib.Omega.{arith}
 use mathlib.Core.Path.{◌≡◌, refl, ◌∙◌, ap}

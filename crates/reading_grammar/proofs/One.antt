@@ -1,7 +1,6 @@
 -- A value, bare or in its annotation wrapper, and a pad, at a place: as the walk finds them.
 -- Assumes nothing.
-use Rattle.std.specs.Prelude.{Result, Ok, Err, Some, None}
-use Rattle.reading.specs.Items.{Found}
+use Rattle.std.specs.Prelude.{Ok}
 use Prim.Native.Nat.{ℕ, ◌+◌, ◌≤◌, ◌<◌}
 use native.Mathlib.Omega.{arith}
 use mathlib.Core.Path.{◌≡◌, refl, sym, ◌∙◌, ap}

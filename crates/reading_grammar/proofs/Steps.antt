@@ -1,7 +1,6 @@
 -- One step of the walk, at a value, at a pad and at a version marker of the grammar.
 -- Assumes nothing.
-use Rattle.std.specs.Prelude.{Result, Ok, Err, Some, None}
-use Rattle.reading.specs.Items.{Found}
+use Rattle.std.specs.Prelude.{Ok, Some}
 use Prim.Native.Nat.{ℕ, suc, ◌+◌, ◌/◌, ◌%◌, ◌≤◌, ◌<◌}
 use native.Mathlib.Omega.{arith}
 use mathlib.Core.Path.{◌≡◌, sym, ◌∙◌, ap}
@@ -90,7 +89,8 @@ module _ (s : List ℕ) (parent least depth at name next : ℕ) (b : List ℕ) (
       (not_deep w.kind depth (tree_depth v) w.deep shallow)
 
   item_walks : (f : ℕ) → length b ≤ f
-      → item_walk (λ t k l d m. walk_from f t k l d m) s parent depth name from to w.kind start stop
+      → item_walk (λ t k l d m. walk_from f t k l d m) s parent depth
+      (record { name = name; sids = from; sids_end = to; kind = w.kind; start = start; stop = stop })
       ≡ shows (tree_events (name_in parent name) v)
   item_walks f h =
       let lt : length w.body < f =

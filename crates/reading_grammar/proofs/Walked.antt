@@ -1,7 +1,6 @@
 -- Every reading is what the walk shows: recursion over the grammar's productions.
 -- Assumes nothing.
-use Rattle.std.specs.Prelude.{Result, Ok, Err, Some, None}
-use Rattle.reading.specs.Items.{Found}
+use Rattle.std.specs.Prelude.{Ok}
 use Rattle.reading.specs.Walk.{Ending, refused}
 use Prim.Native.Nat.{ℕ, zero, suc, ◌+◌, ◌≤◌, ◌<◌}
 use native.Mathlib.Omega.{arith}
@@ -233,6 +232,5 @@ reading_is_walked s at is h r le =
 pub refused_is_no_reading : (s : List ℕ) (at : ℕ) (is : List (Item Scalar)) (r : Refusal) (place : ℕ) → at ≤ length s
     → (walk s at).1 ≡ refused r place → Reads (drop at s) is → stream_depth is ≤ most_open → ⊥
 refused_is_no_reading s at is r place h e x le =
-    let w : (Ok tt) ≡ refused r place = sym (ap (λ (y : Walk). y.1) (reading_is_walked s at is h x le)) ∙ e in
-    let z : ◌≡◌ {A = ℕ} 0 1 = cc in
-    omega arith
+    let w : ◌≡◌ {A = Ending} (Ok tt) (refused r place) = sym (ap (λ (y : Walk). y.1) (reading_is_walked s at is h x le)) ∙ e in
+    absurd (cc)

@@ -1,8 +1,6 @@
 -- What the walk has to do with the grammar (document 02, Item 1): the statements. The proofs are in proofs/{Walked,Read}.antt.
 -- Assumes nothing.
-use Rattle.std.specs.Prelude.{Result, Ok, Err, Some, None}
-use Rattle.reading.specs.declared.Refusal.{Refusal}
-use Rattle.std.specs.Prelude.{ℕ, ◌≤◌, ◌≡◌, List, length, drop}
+use Rattle.std.specs.Prelude.{ℕ, ◌≤◌, ◌≡◌, List, length, drop, Ok}
 use Rattle.ion.specs.Value.{Scalar, Item}
 use Rattle.ion.specs.Grammar.{Reads}
 use Rattle.reading.specs.Items.{most_open}
