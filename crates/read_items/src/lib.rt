@@ -255,7 +255,8 @@ fn named_item(s: &[u8], holder: Holder, name: Number) -> Result<Option<Item>, Re
     judge(s, holder, name.value, unwrap(s, header)?)
 }
 
-// The item at `at`, in what holds it, whose end the bytes reach to.
+// The item at `at`, in what holds it, whose end the bytes reach to. It is not inlined: a walk that enters containers would take its frame for each.
+#[inline(never)]
 #[tactic(auto, unfolding(reading::specs::Items::item_at))]
 pub fn item(s: &[u8], holder: Holder, at: usize) -> Result<Option<Item>, Refusal>
     ensures { result ≡ item_at s.now holder.kind holder.least holder.depth at }

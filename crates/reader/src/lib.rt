@@ -7,14 +7,25 @@ ghost use Rattle.reader.specs.Values.{value_at, next_in};
 
 use reading::{Holder, Item, Passed, Refusal, Stopped};
 
-// The item at `at` and all that it holds; none where the bytes end.
+// The item at `at` and all that it holds; none where the bytes end. The end and the ints of a list are asked first: they take no call.
 #[cycle(body_value)]
 fn value(s: &[u8], holder: Holder, at: usize) -> Result<Option<Passed>, Stopped>
     ensures { (f : ℕ) → length s.now - at ≤ f → result ≡ value_at f s.now holder.kind holder.least holder.depth at }
 {
+    if at == s.len() {
+        return Ok(None);
+    }
     if let Some(next) = read_items::int_end(s, holder.kind, at) {
         return Ok(Some(Passed { next, least: 0 }));
     }
+    any_value(s, holder, at)
+}
+
+// The same, whatever stands at `at`.
+#[cycle(body_value)]
+fn any_value(s: &[u8], holder: Holder, at: usize) -> Result<Option<Passed>, Stopped>
+    ensures { (f : ℕ) → length s.now - at ≤ f → result ≡ value_at f s.now holder.kind holder.least holder.depth at }
+{
     let item = match read_items::item(s, holder, at) {
         Ok(Some(item)) => item,
         Ok(None) => return Ok(None),

@@ -1,13 +1,15 @@
 -- A body's loop by what the walk makes of the item at each place; a value by the item that stands there. Assumes nothing.
-use Rattle.std.proofs.Common.{rules, ◌≡◌, ℕ, ◌-◌, length, sym, ap, ◌∙◌, arith, Ok, Err, Some, None}
+use Rattle.std.proofs.Common.{rules, ◌≡◌, ℕ, ◌-◌, length, refl, sym, ap, ◌∙◌, arith, Ok, Err, Some, None}
 use Rattle.std.proofs.Math.Seq.{length-take-le}
 use Rattle.reading.specs.Items.{raised}
 use Rattle.reading.specs.Walk.{Ending}
+use borrow.Author.Tests.{le-ltb, eq-eqb}
+use Rattle.reading.specs.Items.{item_at}
 use Rattle.read_items.proofs.Bounds.{item_bounds}
 use Rattle.reader.specs.Values.{past}
 use Rattle.reader.proofs.Walks.{walk_behind, value_stops, value_none, value_int, value_leaf, value_container, value_goes_on}
 use Rattle.reader.proofs.+body_value.Goals as goal
-use Rattle.reader.proofs.+body_value.Goals.{value-then-is_container+in_ok-body, value-else-is_container}
+use Rattle.reader.proofs.+body_value.Goals.{any_value-then-is_container+in_ok-body, any_value-else-is_container}
 
 -- ---- the body
 
@@ -54,41 +56,48 @@ value-returns-in-Some t c = λ f h.
     let a = c.args in
     sym (value_int f a.s.now a.holder.kind a.holder.least a.holder.depth a.at c.in-Some.next (sym c.in-Some.ensures))
 
-pub value-returns-in-Ok-None : goal.value-returns-in-Ok-None
-value-returns-in-Ok-None t c = λ f h.
+pub value-returns-then-at-s : goal.value-returns-then-at-s
+unfolding item_at
+value-returns-then-at-s t c = λ f h.
+    let a = c.args in
+    sym (value_none f a.s.now a.holder.kind a.holder.least a.holder.depth a.at
+    (rw (le-ltb (length a.s.now) a.at (omega arith), eq-eqb a.at (length a.s.now) c.if-at-s.true) refl))
+
+pub any_value-returns-in-Ok-None : goal.any_value-returns-in-Ok-None
+any_value-returns-in-Ok-None t c = λ f h.
     let a = c.args in
     sym (value_none f a.s.now a.holder.kind a.holder.least a.holder.depth a.at (sym c.item.ensures ∙ c.in-Ok-None.is ∙ ap Ok c.in-Ok-None.field-0-is))
 
-pub value-returns-in-Err : goal.value-returns-in-Err
-value-returns-in-Err t c = λ f h.
+pub any_value-returns-in-Err : goal.any_value-returns-in-Err
+any_value-returns-in-Err t c = λ f h.
     let a = c.args in
     sym (value_stops f a.s.now a.holder.kind a.holder.least a.holder.depth a.at c.in-Err.refusal (sym c.item.ensures ∙ c.in-Err.is))
 
-pub value-overflow_add-inside : goal.value-overflow_add-inside
-value-overflow_add-inside t c =
+pub any_value-overflow_add-inside : goal.any_value-overflow_add-inside
+any_value-overflow_add-inside t c =
     let a = c.args in
     let is = sym c.item.ensures ∙ c.in-Ok-Some.is ∙ ap Ok c.in-Ok-Some.field-0-is in
     let p = item_bounds a.s.now a.holder.kind a.holder.least a.holder.depth a.at c.in-Ok-Some.item is in
     let room = p.room (sym c.is_container.ensures ∙ c.if-is_container.true) in
     omega (arith, room)
 
-pub value-slice_bounds-body-end : goal.value-slice_bounds-body-end
-value-slice_bounds-body-end t c =
+pub any_value-slice_bounds-body-end : goal.any_value-slice_bounds-body-end
+any_value-slice_bounds-body-end t c =
     let a = c.args in
     let is = sym c.item.ensures ∙ c.in-Ok-Some.is ∙ ap Ok c.in-Ok-Some.field-0-is in
     let p = item_bounds a.s.now a.holder.kind a.holder.least a.holder.depth a.at c.in-Ok-Some.item is in
     sym (length-take-le c.in-Ok-Some.item.stop a.s.now p.held.within)
 
-pub value-body-requires : goal.value-body-requires
-value-body-requires t c =
+pub any_value-body-requires : goal.any_value-body-requires
+any_value-body-requires t c =
     let a = c.args in
     let is = sym c.item.ensures ∙ c.in-Ok-Some.is ∙ ap Ok c.in-Ok-Some.field-0-is in
     let w = (item_bounds a.s.now a.holder.kind a.holder.least a.holder.depth a.at c.in-Ok-Some.item is).held in
     let prefix = length-take-le c.in-Ok-Some.item.stop a.s.now w.within in
     (omega (arith, prefix, w.after, w.behind, w.before, w.body, w.within), tt)
 
-pub value-returns-in_err-body : goal.value-returns-in_err-body
-value-returns-in_err-body t c = λ f h.
+pub any_value-returns-in_err-body : goal.any_value-returns-in_err-body
+any_value-returns-in_err-body t c = λ f h.
     let a = c.args in
     let is = sym c.item.ensures ∙ c.in-Ok-Some.is ∙ ap Ok c.in-Ok-Some.field-0-is in
     let w = (item_bounds a.s.now a.holder.kind a.holder.least a.holder.depth a.at c.in-Ok-Some.item is).held in
@@ -99,8 +108,8 @@ value-returns-in_err-body t c = λ f h.
     (c.in_err-body.ensures f (omega (arith, prefix, w.after, w.behind, w.before, w.body, w.within)))
     ∙ sym (value_container f a.s.now a.holder.kind a.holder.least a.holder.depth a.at c.in-Ok-Some.item is (sym c.is_container.ensures ∙ c.if-is_container.true))
 
-pub value-returns : goal.value-returns
-value-returns t c = λ f h.
+pub any_value-returns : goal.any_value-returns
+any_value-returns t c = λ f h.
     let a = c.args in
     let i = c.in-Ok-Some.item in
     let is = sym c.item.ensures ∙ c.in-Ok-Some.is ∙ ap Ok c.in-Ok-Some.field-0-is in
@@ -108,10 +117,10 @@ value-returns t c = λ f h.
     let prefix = length-take-le i.stop a.s.now w.within in
     ap (λ (l : ℕ). Ok (Some (record { next = i.stop; least = l }))) c.least_after.ensures
     ∙ (elim c.if-is_container.branch [
-      | value-then-is_container+in_ok-body b ↦
+      | any_value-then-is_container+in_ok-body b ↦
           ap (λ (e : Ending). past e (record { next = i.stop; least = raised a.holder.least i.kind i.name }))
           (b.in_ok-body.ensures f (omega (arith, prefix, w.after, w.behind, w.before, w.body, w.within)))
           ∙ sym (value_container f a.s.now a.holder.kind a.holder.least a.holder.depth a.at i is (sym c.is_container.ensures ∙ b.if-is_container.true))
-      | value-else-is_container b ↦
+      | any_value-else-is_container b ↦
           sym (value_leaf f a.s.now a.holder.kind a.holder.least a.holder.depth a.at i is (sym c.is_container.ensures ∙ b.if-is_container.false))
     ])

@@ -1,15 +1,18 @@
 -- A value and a body, which call each other: for any fuel above the count of the bytes that are left, what they answer is what the walk says.
--- The loop of a body keeps that however the walk ends from i on, it ends from the beginning; the measures are twice the bytes that are left.
+-- The loop of a body keeps that however the walk ends from i on, it ends from the beginning; the measures are three times the bytes that are left.
 -- Assumes nothing.
 use Rattle.std.proofs.Common.{length, ◌-◌, ◌≡◌, ℕ, ◌+◌, ◌≤◌, ◌*◌}
 use Rattle.reading.specs.Walk.{Ending, walk_from}
 use Rattle.reader.proofs.+body_value.Given as goal
 
 abbrev pub decreases-body : goal.decreases-body
-decreases-body l = 2 * (length l.s.now - l.at) + 1
+decreases-body l = 3 * (length l.s.now - l.at) + 2
 
 abbrev pub decreases-value : goal.decreases-value
-decreases-value l = 2 * (length l.s.now - l.at)
+decreases-value l = 3 * (length l.s.now - l.at) + 1
+
+abbrev pub decreases-any_value : goal.decreases-any_value
+decreases-any_value l = 3 * (length l.s.now - l.at)
 
 abbrev pub invariant-body-loop-passed : goal.invariant-body-loop-passed
 invariant-body-loop-passed l =
