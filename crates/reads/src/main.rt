@@ -22,7 +22,7 @@ fn print_stream(rt: &impl Print, line: &[u8]) -> io::Result<()> {
     }
     let mut bytes = [0u8; LONGEST_STREAM];
     let n = words::hex::bytes(hex, &mut bytes);
-    let position = words::numbers::natural(words::word(line, 1), u64::MAX);
+    let position = words::numbers::natural(words::word(line, 1), u64::MAX).unwrap_or(0);
     walk::print_walk(rt, &bytes[..n], position as usize)
 }
 

@@ -40,11 +40,11 @@ impl<'a> Call<'a> {
     }
 
     fn number(self, n: usize) -> u64 {
-        numbers::natural(self.word(n), u64::MAX)
+        numbers::natural(self.word(n), u64::MAX).unwrap_or(0)
     }
 
     fn number_u32(self, n: usize) -> u32 {
-        numbers::natural_u32(self.word(n))
+        numbers::natural_u32(self.word(n)).unwrap_or(0)
     }
 
     fn is_negative(self) -> bool {
@@ -52,7 +52,7 @@ impl<'a> Call<'a> {
     }
 
     fn signed(self, n: usize) -> i64 {
-        numbers::i64_of(self.word(n))
+        numbers::i64_of(self.word(n)).unwrap_or(0)
     }
 
     fn bits(self) -> u64 {
@@ -62,7 +62,7 @@ impl<'a> Call<'a> {
     fn offset(self) -> Offset {
         match self.word(1) {
             b"?" => Offset::Unknown,
-            minutes => Offset::Minutes(numbers::i32_of(minutes)),
+            minutes => Offset::Minutes(numbers::i32_of(minutes).unwrap_or(0)),
         }
     }
 

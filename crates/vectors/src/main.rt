@@ -10,8 +10,7 @@ ghost use Rattle.std.specs.Prelude.{◌≤◌, length};
 
 use calls::{AT, Call};
 use functions::NoFunction;
-use std::fmt;
-use std::io;
+use std::{fmt, io};
 
 const ROOM: usize = 512;
 
@@ -119,7 +118,7 @@ struct Counts {
 }
 
 // A line that has no words is no vector.
-fn count_lines(rt: &impl Print, text: &[u8]) -> io::Result<Counts> {
+fn count_lines(rt: &HostRuntime, text: &[u8]) -> io::Result<Counts> {
     let mut counts = Counts::default();
     for line in text.split_inclusive(|byte| *byte == b'\n') {
         let vector = words_of(line);
