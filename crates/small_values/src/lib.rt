@@ -7,15 +7,14 @@ ghost use Rattle.unpadded.specs.Rule.{is_one_value};
 ghost use Rattle.small_values.specs.Listing as S;
 ghost use Rattle.small_values.specs.Listing.{next_of};
 
+const LONGEST: usize = 3;
+
 // How many byte strings of a size are asked: all up to three bytes.
 pub fn limit(size: usize) -> u32
     ensures { result ≡ S.limit size }
 {
     match size {
-        0 => 1,
-        1 => 256,
-        2 => 65_536,
-        3 => 16_777_216,
+        0..=LONGEST => 256u32.pow(size as u32),
         _ => 0,
     }
 }
@@ -33,7 +32,7 @@ fn is_value(size: usize, number: u32) -> bool
     requires { size ≤ 3 }
     ensures { result ≡ is_one_value (low_digits 256 size number) }
 {
-    let mut bytes = [0u8; 3];
+    let mut bytes = [0u8; LONGEST];
     spell(&mut bytes[..size], number);
     unpadded::is_one_value(&bytes[..size])
 }
@@ -43,12 +42,10 @@ pub fn next(size: usize, from: u32) -> u32
     ensures { result ≡ next_of size from }
 {
     let end = limit(size);
-    let mut number = from;
-    while number < end {
+    for number in from..end {
         if is_value(size, number) {
             return number;
         }
-        number += 1;
     }
-    number
+    from.max(end)
 }
