@@ -5,7 +5,7 @@ ghost use Rattle.std.specs.Prelude.{◌≡◌, ◌≤◌, length};
 ghost use Rattle.encoding.specs.Digits.{low_digits};
 ghost use Rattle.unpadded.specs.Rule.{is_one_value};
 ghost use Rattle.small_values.specs.Listing as S;
-ghost use Rattle.small_values.specs.Listing.{next_of};
+ghost use Rattle.small_values.specs.Listing.{next_value};
 
 const LONGEST: usize = 3;
 
@@ -37,15 +37,14 @@ fn is_value(size: usize, number: u32) -> bool
     unpadded::is_one_value(&bytes[..size])
 }
 
-// The number of the next small value of a size, from a number on; where there is none, the limit, or that number if it is past the limit.
-pub fn next(size: usize, from: u32) -> u32
-    ensures { result ≡ next_of size from }
+// The number of the next small value of a size, from a number on, if there is one.
+pub fn next(size: usize, from: u32) -> Option<u32>
+    ensures { result ≡ next_value size from }
 {
-    let end = limit(size);
-    for number in from..end {
+    for number in from..limit(size) {
         if is_value(size, number) {
-            return number;
+            return Some(number);
         }
     }
-    from.max(end)
+    None
 }
