@@ -1,12 +1,11 @@
 -- The answers of the code, as document 01's table "Checks by place" numbers them.
 -- Assumes nothing.
-use Rattle.std.specs.Prelude.{ℕ, ◌≡◌, Bool, List, [], ◌∷◌}
+use Rattle.std.specs.Prelude.{ℕ, ◌≡◌, Bool, List, [], ◌∷◌, Result, Ok, Err}
 use Rattle.machine.specs.declared.Refusal.{Refusal}
 use Rattle.machine.specs.declared.Refusal.TheVariants.{BufferTooLong, StateUnfit, Misplaced, TooDeep, NegativeZero}
 use Rattle.machine.specs.declared.Refusal.TheVariants.{NotUtf8, BadTimestamp, DecimalTooLong, NoRoom}
-use Rattle.machine.specs.declared.Answer.{Answer}
-use Rattle.machine.specs.declared.Answer.TheVariants.{Accepted, Refused}
-use Rattle.machine.specs.declared.Written.{Written}
+use Rattle.machine.specs.declared.State.{State}
+use Rattle.machine.specs.declared.Refused.{Refused}
 use Rattle.machine.specs.declared.Closed.{Closed}
 use Rattle.machine.specs.Call.{Call}
 use Rattle.machine.specs.Machine.{checks, Verdict, accepted, refused, verdict, start_lines, Outcome, Config, config, no_figures}
@@ -22,21 +21,27 @@ number BadTimestamp = 7
 number DecimalTooLong = 8
 number NoRoom = 10
 
-abbrev pub verdict_of : Answer → Verdict
-verdict_of Accepted = accepted
-verdict_of (Refused r) = refused (number r)
+-- the first line that fails, or none
+abbrev pub verdict_of : Result (Unit {0}) Refusal → Verdict
+verdict_of (Ok x) = accepted
+verdict_of (Err why) = refused (number why)
+
+abbrev pub refused_outcome : Refused → List ℕ → Outcome
+refused_outcome r b = record { verdict = refused (number r.why); config = config r.state b; figures = no_figures }
 
 -- What the code returns, with the buffer that it leaves, as the machine's outcome. Only a closing answers figures.
-abbrev pub outcome_of : Written → List ℕ → Outcome
-outcome_of r b = record { verdict = verdict_of r.answer; config = config r.state b; figures = no_figures }
+abbrev pub outcome_of : Result State Refused → List ℕ → Outcome
+outcome_of (Ok s) b = record { verdict = accepted; config = config s b; figures = no_figures }
+outcome_of (Err r) b = refused_outcome r b
 
-abbrev pub closed_outcome : Closed → List ℕ → Outcome
-closed_outcome r b =
+abbrev pub closed_outcome : Result Closed Refused → List ℕ → Outcome
+closed_outcome (Ok r) b =
     record {
-      verdict = verdict_of r.answer;
+      verdict = accepted;
       config = config r.state b;
       figures = record { size = r.size; members = r.members; moved = r.moved };
     }
+closed_outcome (Err r) b = refused_outcome r b
 
 -- ---- the numbers of the table are those of the code's refusals: proofs/Table.antt
 

@@ -1,5 +1,9 @@
-// The writer's state, by value. What each call does to it and to the lent buffer is defined in specs/; no function runs here.
+// The writer's state, by value, and what a call answers. What each call does to the state and to the lent buffer is defined in specs/.
 #![tactic(auto)]
+
+ghost use Rattle.std.specs.Prelude.{◌≡◌};
+ghost use Rattle.machine.specs.Machine.{empty_state};
+ghost use Rattle.machine.specs.Numbers.{number};
 
 // Check 1: a longer buffer is refused.
 pub const LONGEST_BUFFER: usize = 16_777_215;
@@ -28,6 +32,16 @@ pub struct Container {
     pub members: usize,
 }
 
+impl Container {
+    // A record that means nothing.
+    pub const EMPTY: Container = Container {
+        start: 0,
+        header: 0,
+        code: 0,
+        members: 0,
+    };
+}
+
 // The used length of the lent buffer, how many containers are open, whether a field name waits for its value, and the containers, outermost first.
 // The records from `depth` on mean nothing.
 #[derive(Clone, Copy)]
@@ -38,8 +52,22 @@ pub struct State {
     pub containers: [Container; MOST_OPEN],
 }
 
+impl State {
+    // No container is open, and no name waits.
+    pub fn empty(used: usize) -> State
+        ensures { result ≡ empty_state used }
+    {
+        State {
+            used,
+            depth: 0,
+            waiting: false,
+            containers: [Container::EMPTY; MOST_OPEN],
+        }
+    }
+}
+
 // Why a call is refused: the lines of the table "Checks by place". The definition `number` gives each its number.
-#[derive(Clone, Copy)]
+#[derive(Clone, Copy, Debug, PartialEq, Eq)]
 pub enum Refusal {
     BufferTooLong,
     StateUnfit,
@@ -52,24 +80,35 @@ pub enum Refusal {
     NoRoom,
 }
 
-#[derive(Clone, Copy)]
-pub enum Answer {
-    Accepted,
-    Refused(Refusal),
+impl From<Refusal> for u8 {
+    ghost from_gives = { λ why n. n ≡ number why };
+
+    fn from(why: Refusal) -> u8 {
+        match why {
+            Refusal::BufferTooLong => 1,
+            Refusal::StateUnfit => 2,
+            Refusal::Misplaced => 3,
+            Refusal::TooDeep => 4,
+            Refusal::NegativeZero => 5,
+            Refusal::NotUtf8 => 6,
+            Refusal::BadTimestamp => 7,
+            Refusal::DecimalTooLong => 8,
+            Refusal::NoRoom => 10,
+        }
+    }
 }
 
-// What a call answers: whether it is accepted, and the state to hand to the next call.
+// What a refused call answers: why, and the state to hand to the next call, which is the one given, and for a start the empty one.
 #[derive(Clone, Copy)]
-pub struct Written {
-    pub answer: Answer,
+pub struct Refused {
+    pub why: Refusal,
     pub state: State,
 }
 
-// What a closing answers: the same, how many bytes the closed container takes, headers and annotations counted, how many members it has,
-// and how many bytes moved: the body's, if the body moved, and the annotations', if these moved. All three are 0 where it is refused.
+// What an accepted closing answers: the state to hand to the next call, how many bytes the closed container takes, headers and annotations counted,
+// how many members it has, and how many bytes moved: the body's, if the body moved, and the annotations', if these moved.
 #[derive(Clone, Copy)]
 pub struct Closed {
-    pub answer: Answer,
     pub state: State,
     pub size: usize,
     pub members: usize,

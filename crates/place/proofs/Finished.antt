@@ -1,42 +1,35 @@
--- The finished length: all used bytes, or none.
+-- The finished length: all used bytes where a version marker may stand and no name waits, and else none.
 -- Assumes nothing.
-use Prim.Native.Nat.{ℕ, ◌≤◌, ◌<◌}
-use mathlib.Core.Bool.{Bool, true, false, true≢false, false≢true, not, ◌&&◌, ◌||◌, and-false}
-use mathlib.Core.Path.{◌≡◌, refl}
-use lib.Dec.{leb, eqb}
-use borrow.Author.Tests.{le-leb, lt-leb}
+use Rattle.std.proofs.Common.{ℕ, ◌≤◌, ◌<◌, ◌≡◌, refl, Bool, true, false, not, ◌&&◌, ◌||◌, ◌⊎◌, inl, inr, [], ◌∷◌, Result, Ok, Err, leb, ltb}
+use Rattle.std.specs.Result.{is_err}
+use Rattle.std.proofs.lemmas.Bool.Decides.{leb_tells}
+use borrow.Author.Tests.{lt-ltb, le-ltb}
 use Rattle.machine.specs.declared.State.{State}
-use Rattle.machine.specs.Machine.{longest_buffer, open_containers, is_open, fits, used_if, finished_length}
-use Rattle.place.proofs.Laws.{open_of}
+use Rattle.machine.specs.declared.Refusal.{Refusal}
+use Rattle.machine.specs.Machine.{longest_buffer, open_containers, is_open, fits, used_if, place_verdict, finished_length, first_failing}
+use Rattle.machine.specs.Numbers.{verdict_of}
 
-pub unfinished_long : (s : State) (room : ℕ) → longest_buffer < room → 0 ≡ finished_length s room
-unfolding finished_length
-unfinished_long s room h = rw (lt-leb room longest_buffer h)
-
-pub unfinished_unfit : (s : State) (room : ℕ) → fits s room ≡ false → 0 ≡ finished_length s room
-unfolding finished_length
-unfinished_unfit s room e = rw (e, and-false)
-
--- a container is open, or a name waits
-pub unfinished_open : (s : State) (room : ℕ) → (not (eqb s.depth 0) || s.waiting) ≡ true → 0 ≡ finished_length s room
-unfolding finished_length
-unfinished_open s room e =
-    of_tests (leb room longest_buffer) (fits s room) (is_open (open_containers s)) s.waiting (rw (open_of s.containers s.depth) at e)
+leb_not-ltb : (a b : ℕ) → leb a b ≡ not (ltb b a)
+leb_not-ltb a b = of_cases (leb_tells a b)
   where
-    of_tests : (a b o w : Bool) → (o || w) ≡ true → ◌≡◌ {A = ℕ} 0 (used_if (a && (b && (not o && not w))) s.used)
-    of_tests true true true w h = refl
-    of_tests true true false true h = refl
-    of_tests true true false false h = absurd (false≢true h)
-    of_tests true false o w h = refl
-    of_tests false b o w h = refl
+    of_cases : ((leb a b ≡ true) × (a ≤ b)) ⊎ ((leb a b ≡ false) × (b < a)) → leb a b ≡ not (ltb b a)
+    of_cases (inl h) = rw (h.0, le-ltb b a h.1) refl
+    of_cases (inr h) = rw (h.0, lt-ltb b a h.1) refl
 
-pub finished_all : (s : State) (room : ℕ) → room ≤ longest_buffer → fits s room ≡ true → (not (eqb s.depth 0) || s.waiting) ≡ false
-    → s.used ≡ finished_length s room
-unfolding finished_length
-finished_all s room h f e =
-    rw (le-leb room longest_buffer h, f) (of_tests (is_open (open_containers s)) s.waiting (rw (open_of s.containers s.depth) at e))
+-- `barred` says that the marker is refused or a name waits
+pub finished_is : (s : State) (room : ℕ) (r : Result (Unit {0}) Refusal) → verdict_of r ≡ place_verdict s room (is_open (open_containers s))
+    → (barred : Bool) → barred ≡ (is_err r || s.waiting) → used_if (not barred) s.used ≡ finished_length s room
+unfolding finished_length place_verdict
+finished_is s room r e barred b =
+    rw (b, leb_not-ltb room longest_buffer) (of_tests (ltb longest_buffer room) (fits s room) (is_open (open_containers s)) s.waiting r e)
   where
-    of_tests : (o w : Bool) → (o || w) ≡ false → s.used ≡ used_if (not o && not w) s.used
-    of_tests true w h = absurd (true≢false h)
-    of_tests false true h = absurd (true≢false h)
-    of_tests false false h = refl
+    of_tests : (l f o w : Bool) (r : Result (Unit {0}) Refusal) → verdict_of r ≡ first_failing ((l, 1) ∷ (not f, 2) ∷ (o, 3) ∷ [])
+        → used_if (not (is_err r || w)) s.used ≡ used_if (not l && (f && (not o && not w))) s.used
+    of_tests false true false w (Ok x) e = refl
+    of_tests false true true w (Ok x) e = cc
+    of_tests false false o w (Ok x) e = cc
+    of_tests true f o w (Ok x) e = cc
+    of_tests false true false w (Err x) e = cc
+    of_tests false true true w (Err x) e = refl
+    of_tests false false o w (Err x) e = refl
+    of_tests true f o w (Err x) e = refl

@@ -1,13 +1,80 @@
 // The checks 1 to 3 of the table "Checks by place", by the state and the length of the buffer that is lent with it.
-// They hold for any state that anyone can hand in.
+// They hold for any state that anyone can hand in, by value or as lent bytes.
 #![tactic(auto)]
 
-ghost use Rattle.std.specs.Prelude.{◌≡◌, Bool, true, not, ◌||◌, ◌≤◌};
+ghost use Rattle.std.specs.Prelude.{◌≡◌, get_or};
 ghost use Rattle.machine.specs.declared.State.{State};
-ghost use Rattle.machine.specs.Machine.{most_open, open_containers, is_open, in_struct, container_fits, fits, lacks_name, place_verdict};
+ghost use Rattle.machine.specs.Machine.{no_container, innermost_first, in_struct, container_fits, containers_fit, fits, place_verdict, finished_length};
 ghost use Rattle.machine.specs.Numbers.{verdict_of};
+ghost use Rattle.place.specs.Misplaced.{misplaced_where, misplaced};
 
-use machine::{Answer, Container, LIST, LONGEST_BUFFER, MOST_OPEN, Refusal, SEXP, STRUCT, State};
+use machine::{Container, LIST, LONGEST_BUFFER, MOST_OPEN, Refusal, SEXP, STRUCT, State};
+
+// What line 3 tells apart: a scalar or an opening, a field name, a closing, an abandonment, and a version marker or an emptying.
+#[derive(Clone, Copy, Debug, PartialEq, Eq)]
+pub enum CallKind {
+    Value,
+    Name,
+    Closing,
+    Abandonment,
+    Top,
+}
+
+impl CallKind {
+    // Whether line 3 fails, where a container is open or not, the innermost is a struct or not, and a name waits or not.
+    pub fn is_misplaced(self, any_open: bool, in_struct: bool, waits: bool) -> bool
+        ensures { result ≡ misplaced_where self any_open in_struct waits }
+    {
+        match self {
+            CallKind::Value => in_struct & !waits,
+            CallKind::Name => !in_struct | waits,
+            CallKind::Closing => !any_open | waits,
+            CallKind::Abandonment => !any_open,
+            CallKind::Top => any_open,
+        }
+    }
+}
+
+// What the checks ask of a state. `state` is the state that stands behind the answers.
+pub trait Standing {
+    ghost state: { Self → State };
+
+    // The used length.
+    fn used(&self) -> usize
+        ensures { result ≡ (state self.now).used };
+
+    // How many containers are open.
+    fn depth(&self) -> usize
+        ensures { result ≡ (state self.now).depth };
+
+    // Whether a name waits.
+    fn waits(&self) -> bool
+        ensures { result ≡ (state self.now).waiting };
+
+    // The container i of the array; one of zeros past its end.
+    fn container(&self, i: usize) -> Container
+        ensures { result ≡ get_or (state self.now).containers i no_container };
+}
+
+impl Standing for State {
+    ghost state = { λ s. s };
+
+    fn used(&self) -> usize {
+        self.used
+    }
+
+    fn depth(&self) -> usize {
+        self.depth
+    }
+
+    fn waits(&self) -> bool {
+        self.waiting
+    }
+
+    fn container(&self, i: usize) -> Container {
+        self.containers.get(i).copied().unwrap_or(Container::EMPTY)
+    }
+}
 
 // A container by itself, with what follows it starting at `limit`. Differences are tested, so that no sum wraps.
 pub fn container_fits(c: Container, limit: usize) -> bool
@@ -32,41 +99,20 @@ pub fn container_fits(c: Container, limit: usize) -> bool
         & (c.members <= held - 2)
 }
 
-// Whether the innermost container is a struct; of a state with too many containers it says nothing.
-fn in_struct(s: State) -> bool
-    ensures { s.depth ≤ most_open → result ≡ in_struct (open_containers s) }
+// Whether the container below `depth` is a struct.
+pub fn in_struct<S: Standing>(s: &S, depth: usize) -> bool
+    ensures { result ≡ in_struct (innermost_first (S.state s.now).containers depth) }
 {
-    let depth = s.depth;
-    if depth == 0 {
-        return false;
-    }
-    if MOST_OPEN < depth {
-        return false;
-    }
-    let c = s.containers[depth - 1];
-    c.code == STRUCT
+    0 < depth && s.container(depth - 1).code == STRUCT
 }
 
 // From the innermost container outwards: each has to end before the next begins.
-pub fn state_fits(s: State, room: usize) -> bool
-    ensures { result ≡ fits s room }
+fn containers_fit<S: Standing>(s: &S, used: usize, depth: usize) -> bool
+    ensures { result ≡ containers_fit used (innermost_first (S.state s.now).containers depth) }
 {
-    let used = s.used;
-    let depth = s.depth;
-    if room < used {
-        return false;
-    }
-    if MOST_OPEN < depth {
-        return false;
-    }
-    if s.waiting & !in_struct(s) {
-        return false;
-    }
-    let mut i = depth;
     let mut limit = used;
-    while 0 < i {
-        i -= 1;
-        let c = s.containers[i];
+    for i in (0..depth).rev() {
+        let c = s.container(i);
         if !container_fits(c, limit) {
             return false;
         }
@@ -75,58 +121,47 @@ pub fn state_fits(s: State, room: usize) -> bool
     true
 }
 
-// The first of the lines 1 to 3 that fails, of a state that `fit` speaks of; line 3 counts only where it fits.
-pub fn judged(room: usize, fit: bool, misplaced: bool) -> Answer
-    ensures { (s : State) (m : Bool) → fit ≡ fits s room → (fit ≡ true → misplaced ≡ m) → verdict_of result ≡ place_verdict s room m }
+// Line 2: whether the state fits.
+pub fn state_fits<S: Standing>(s: &S, room: usize) -> bool
+    ensures { result ≡ fits (S.state s.now) room }
+{
+    let used = s.used();
+    let depth = s.depth();
+    if room < used {
+        return false;
+    }
+    if MOST_OPEN < depth {
+        return false;
+    }
+    if s.waits() & !in_struct(s, depth) {
+        return false;
+    }
+    containers_fit(s, used, depth)
+}
+
+// The first of the lines 1 to 3 that fails.
+pub fn check<S: Standing>(s: &S, room: usize, call: CallKind) -> Result<(), Refusal>
+    ensures { verdict_of result ≡ place_verdict (S.state s.now) room (misplaced call (S.state s.now)) }
 {
     if LONGEST_BUFFER < room {
-        return Answer::Refused(Refusal::BufferTooLong);
+        return Err(Refusal::BufferTooLong);
     }
-    if !fit {
-        return Answer::Refused(Refusal::StateUnfit);
+    if !state_fits(s, room) {
+        return Err(Refusal::StateUnfit);
     }
-    if misplaced {
-        return Answer::Refused(Refusal::Misplaced);
+    let depth = s.depth();
+    if call.is_misplaced(depth != 0, in_struct(s, depth), s.waits()) {
+        return Err(Refusal::Misplaced);
     }
-    Answer::Accepted
+    Ok(())
 }
 
-// Where a scalar or an opening may stand: in a struct only behind a name.
-pub fn value_place(s: State, room: usize) -> Answer
-    ensures { verdict_of result ≡ place_verdict s room (lacks_name s) }
+// How many bytes from the buffer's front are finished.
+pub fn finished_length<S: Standing>(s: &S, room: usize) -> usize
+    ensures { result ≡ finished_length (S.state s.now) room }
 {
-    let misplaced = in_struct(s) & !s.waiting;
-    judged(room, state_fits(s, room), misplaced)
-}
-
-// Where a field name may stand: in a struct, with none waiting.
-pub fn name_place(s: State, room: usize) -> Answer
-    ensures { verdict_of result ≡ place_verdict s room (not (in_struct (open_containers s)) || s.waiting) }
-{
-    let misplaced = !in_struct(s) | s.waiting;
-    judged(room, state_fits(s, room), misplaced)
-}
-
-// Where a closing may stand: in a container, with no name waiting.
-pub fn close_place(s: State, room: usize) -> Answer
-    ensures { verdict_of result ≡ place_verdict s room (not (is_open (open_containers s)) || s.waiting) }
-{
-    let misplaced = (s.depth == 0) | s.waiting;
-    judged(room, state_fits(s, room), misplaced)
-}
-
-// Where an abandonment may stand: in a container.
-pub fn abandon_place(s: State, room: usize) -> Answer
-    ensures { verdict_of result ≡ place_verdict s room (not (is_open (open_containers s))) }
-{
-    let misplaced = s.depth == 0;
-    judged(room, state_fits(s, room), misplaced)
-}
-
-// Where a version marker or an emptying may stand: outside all containers.
-pub fn top_place(s: State, room: usize) -> Answer
-    ensures { verdict_of result ≡ place_verdict s room (is_open (open_containers s)) }
-{
-    let misplaced = s.depth != 0;
-    judged(room, state_fits(s, room), misplaced)
+    if check(s, room, CallKind::Top).is_err() | s.waits() {
+        return 0;
+    }
+    s.used()
 }

@@ -1,8 +1,7 @@
 -- What the machine answers and leaves, by how far a call gets: refused by place, refused by its own lines, or accepted.
 -- Assumes nothing.
-use Rattle.std.proofs.Common.{◌≡◌, ℕ, ◌+◌, ◌%◌, ◌^◌, ◌<◌, ◌≤◌, Bool, true, false, eqb, ltb, List, [], ◌∷◌, ◌++◌, length, sym, refl, ap, ◌∙◌, ap₂, ⊎_elim, mod-eq_of_lt, arith, le-ltb, lt-ltb, eqb-true}
+use Rattle.std.proofs.Common.{◌≡◌, ℕ, zero, suc, ◌+◌, ◌^◌, ◌<◌, ◌≤◌, Bool, true, false, ltb, List, [], ◌∷◌, ◌++◌, length, sym, refl, ap, ◌∙◌, ap₂, ⊎_elim, mod-eq_of_lt, arith, le-ltb, lt-ltb, Err}
 use mathlib.Core.Bool.{false≢true}
-use borrow.Author.Tests.{eqb-false}
 use Rattle.ion.proofs.Tests.{by_cases}
 use Rattle.encoding.specs.Argument.{Argument, argument_checks, any_holds}
 use Rattle.buffer.specs.Laid.{laid, placed}
@@ -15,10 +14,9 @@ use Rattle.machine.specs.Machine.{Config, config, put, at_end, Figures, no_figur
 use Rattle.machine.specs.Machine.{first_failing, place_verdict, is_accepted, verdict, Outcome, run}
 use Rattle.machine.specs.declared.Refusal.{Refusal}
 use Rattle.machine.specs.declared.Refusal.TheVariants.{NoRoom}
-use Rattle.machine.specs.declared.Written.{Written}
-use Rattle.machine.specs.declared.Answer.{Answer}
-use Rattle.machine.specs.declared.Answer.TheVariants.{Accepted, Refused}
-use Rattle.machine.specs.Numbers.{number, verdict_of, outcome_of}
+use Rattle.machine.specs.declared.Refused.{Refused}
+use Rattle.machine.specs.Numbers.{number, refused_outcome, outcome_of}
+use Rattle.steps.specs.Ended.{checked_as, ended_as}
 use Rattle.steps.specs.Refused.{own_refusal}
 
 -- ---- the first failing line of two lists
@@ -93,15 +91,13 @@ own_only a rest p = first_of_right (argument_checks a) rest (no_check (argument_
 -- ---- the answer of a check by place
 
 -- the first four parameters of each law below: what line 3 says, and the lines behind it
-module _ (c : Call) (s : State) (b : List ℕ) (m : Bool) (rest : List (Bool × ℕ))
-    (q : checks c (config s b) ≡ place_lines s (length b) m ++ rest) (p : Answer) (e : verdict_of p ≡ place_verdict s (length b) m) where
-  pub refused_place : (why : Refusal) → p ≡ Refused why → outcome (verdict_of p) s b ≡ run c (config s b)
-  refused_place why h =
-      let v : verdict_of p ≡ refused (number why) = ap verdict_of h in
-      ap (λ (x : Verdict). outcome x s b) v ∙ sym (run_misplaced c s b m rest (number why) q (sym e ∙ v))
+module _ (c : Call) (s : State) (b : List ℕ) (m : Bool) (rest : List (Bool × ℕ)) (q : checks c (config s b) ≡ place_lines s (length b) m ++ rest) where
+  pub refused_place : (r : Refused) → checked_as (place_verdict s (length b) m) s (Err r) → refused_outcome r b ≡ run c (config s b)
+  refused_place r e =
+      ap (λ (x : State). outcome (refused (number r.why)) x b) e.1 ∙ sym (run_misplaced c s b m rest (number r.why) q e.0)
 
-  pub passed-place : p ≡ Accepted → first_failing (checks c (config s b)) ≡ first_failing rest
-  passed-place h = past-place c s b m rest q (sym e ∙ ap verdict_of h)
+  pub passed-place : place_verdict s (length b) m ≡ accepted → first_failing (checks c (config s b)) ≡ first_failing rest
+  passed-place e = past-place c s b m rest q e
 
 -- ---- a call that puts bytes at the end of the used ones
 
@@ -169,22 +165,13 @@ end_run c s b out n l waits cs e past pos f g = record {
   some = λ h. end_accepted c s b out n l e past s.depth waits cs f g h;
 }
 
--- what `ended` and `scalar_ended` say of their answers: the used length is cut to 64 bits, which alters none that fits
-abbrev pub Ended : Written → State → ℕ → Bool → List Container → Refusal → Type 0
-Ended r s n waits cs why =
-    (n ≡ 0 → r ≡ record { answer = Refused why; state = s })
-    × ((n ≡ 0 → ⊥) → r ≡ record {
-      answer = Accepted;
-      state = record { used = (s.used + n) % 2 ^ 64; depth = s.depth; waiting = waits; containers = cs };
-    })
-
-pub ended_run : (r : Written) (c : Call) (s : State) (b : List ℕ) (n : ℕ) (l : List ℕ) (waits : Bool) (cs : List Container) (why : Refusal)
-    → ((n ≡ 0 → ⊥) → s.used + n < 2 ^ 64) → Ended r s n waits cs why → Ends c s b n l waits cs why → outcome_of r l ≡ run c (config s b)
-ended_run r c s b n l waits cs why small e h =
-    by_cases (eqb n 0)
-    (λ p. let z = eqb-true n 0 p in ap (λ (x : Written). outcome_of x l) (e.0 z) ∙ h.none z)
-    (λ p.
-    let z = eqb-false n 0 p in
-    ap (λ (x : Written). outcome_of x l) (e.1 z)
-    ∙ ap (λ (u : ℕ). outcome accepted (record { used = u; depth = s.depth; waiting = waits; containers = cs }) l) (mod-eq_of_lt (small z))
-    ∙ h.some z)
+-- what `ended` and `scalar_ended` answer
+pub ended_run : (c : Call) (s : State) (b : List ℕ) (n : ℕ) (l : List ℕ) (waits : Bool) (cs : List Container) (why : Refusal)
+    → ((n ≡ 0 → ⊥) → s.used + n < 2 ^ 64) → Ends c s b n l waits cs why → outcome_of (ended_as s n waits cs why) l ≡ run c (config s b)
+ended_run c s b zero l waits cs why small h = h.none refl
+ended_run c s b (suc n) l waits cs why small h =
+    ap (λ (u : ℕ). outcome accepted (record { used = u; depth = s.depth; waiting = waits; containers = cs }) l) (mod-eq_of_lt (small (nonzero n)))
+    ∙ h.some (nonzero n)
+  where
+    nonzero : (n : ℕ) → suc n ≡ 0 → ⊥
+    nonzero n q = omega arith

@@ -1,4 +1,5 @@
 pub mod Counted
+pub mod Ended
 pub mod Kinds
 pub mod Refused
 pub mod Start

@@ -1,22 +1,24 @@
-// What the calls share: the kinds of containers, why a value that may stand where it stands was not put, and the answer of a call that puts bytes.
-// The laws in proofs/ say what the machine answers and leaves, by how far a call gets.
+// What the calls share: the kinds of containers, the check by place of a state by value, why a value that may stand where it stands was not put,
+// and the answer of a call that puts bytes. The laws in proofs/ say what the machine answers and leaves, by how far a call gets.
 #![tactic(auto)]
 
-ghost use Rattle.std.specs.Prelude.{◌≡◌, ◌+◌, ◌%◌, ◌^◌, false, ◌≢◌};
+ghost use Rattle.std.specs.Prelude.{◌≡◌, false};
 ghost use Rattle.encoding.specs.Argument.{write_int, write_decimal, write_string};
-ghost use Rattle.machine.specs.Machine.{container_code, refused};
+ghost use Rattle.machine.specs.Machine.{container_code, refused, place_verdict};
 ghost use Rattle.machine.specs.Numbers.{number};
-ghost use Rattle.machine.specs.declared.Answer.TheVariants.{Accepted, Refused};
+ghost use Rattle.place.specs.Misplaced.{misplaced};
 ghost use Rattle.timestamp.specs.Arguments.{argument_of};
 ghost use Rattle.steps.specs.Counted.{counted_cut};
+ghost use Rattle.steps.specs.Ended.{checked_as, ended_as};
 ghost use Rattle.steps.specs.Kinds.{kind_of};
 ghost use Rattle.steps.specs.Refused.{own_refusal};
 
 use decimal::MAX_BODY;
-use machine::{Answer, Container, LIST, MOST_OPEN, Refusal, SEXP, STRUCT, State, Written};
+use machine::{Container, LIST, MOST_OPEN, Refusal, Refused, SEXP, STRUCT, State};
+use place::CallKind;
 use timestamp::Timestamp;
 
-#[derive(Clone, Copy)]
+#[derive(Clone, Copy, Debug, PartialEq, Eq)]
 pub enum ContainerType {
     List,
     Sexp,
@@ -24,14 +26,23 @@ pub enum ContainerType {
 }
 
 // The type byte of a container.
-pub fn type_code(kind: ContainerType) -> u8
-    ensures { result ≡ container_code (kind_of kind) }
-{
-    match kind {
-        ContainerType::List => LIST,
-        ContainerType::Sexp => SEXP,
-        ContainerType::Struct => STRUCT,
+impl From<ContainerType> for u8 {
+    ghost from_gives = { λ kind code. code ≡ container_code (kind_of kind) };
+
+    fn from(kind: ContainerType) -> u8 {
+        match kind {
+            ContainerType::List => LIST,
+            ContainerType::Sexp => SEXP,
+            ContainerType::Struct => STRUCT,
+        }
     }
+}
+
+// The lines 1 to 3, of a state by value: a refusal hands it back.
+pub fn check(s: State, room: usize, call: CallKind) -> Result<(), Refused>
+    ensures { checked_as (place_verdict s room (misplaced call s)) s result }
+{
+    place::check(&s, room, call).map_err(|why| Refused { why, state: s })
 }
 
 // Why an int that may stand where it stands was not put: the first of its own checks that fails, or 10.
@@ -75,26 +86,17 @@ pub fn string_refusal(bytes: &[u8]) -> Refusal
 }
 
 // The answer of a call that has put `put` bytes at the end of the used ones, or none for the reason `why`.
-pub fn ended(s: State, put: usize, waiting: bool, why: Refusal) -> Written
-    ensures { (put ≡ 0 → result ≡ record { answer = Refused why; state = s })
-        × ((put ≢ 0) → result ≡ record {
-          answer = Accepted;
-          state = record { used = (s.used + put) % 2 ^ 64; depth = s.depth; waiting = waiting; containers = s.containers };
-        }) }
+pub fn ended(s: State, put: usize, waiting: bool, why: Refusal) -> Result<State, Refused>
+    ensures { result ≡ ended_as s put waiting s.containers why }
 {
     if put == 0 {
-        return Written {
-            answer: Answer::Refused(why),
-            state: s,
-        };
+        return Err(Refused { why, state: s });
     }
-    let mut next = s;
-    next.used = std::num::wrapping_add_usize(s.used, put);
-    next.waiting = waiting;
-    Written {
-        answer: Answer::Accepted,
-        state: next,
-    }
+    Ok(State {
+        used: s.used.wrapping_add(put),
+        waiting,
+        ..s
+    })
 }
 
 // The innermost container with one member more; with none open the state is as it was.
@@ -114,24 +116,17 @@ pub fn counted(s: State) -> State
         start: c.start,
         header: c.header,
         code: c.code,
-        members: std::num::wrapping_add_usize(c.members, 1),
+        members: c.members.wrapping_add(1),
     };
     next
 }
 
 // The answer of a call that has put a scalar of `put` bytes, which is a member of the innermost container, or none for the reason `why`.
-pub fn scalar_ended(s: State, put: usize, why: Refusal) -> Written
-    ensures { (put ≡ 0 → result ≡ record { answer = Refused why; state = s })
-        × ((put ≢ 0) → result ≡ record {
-          answer = Accepted;
-          state = record { used = (s.used + put) % 2 ^ 64; depth = s.depth; waiting = false; containers = counted_cut s.containers s.depth };
-        }) }
+pub fn scalar_ended(s: State, put: usize, why: Refusal) -> Result<State, Refused>
+    ensures { result ≡ ended_as s put false (counted_cut s.containers s.depth) why }
 {
     if put == 0 {
-        return Written {
-            answer: Answer::Refused(why),
-            state: s,
-        };
+        return Err(Refused { why, state: s });
     }
     ended(counted(s), put, false, why)
 }

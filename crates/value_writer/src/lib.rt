@@ -14,41 +14,51 @@ ghost use Rattle.annotations.specs.Sids.{sids_of};
 ghost use Rattle.scalars.specs.Types.{type_of, scalar_argument};
 ghost use Rattle.timestamp.specs.Arguments.{argument_of};
 
-use machine::{Answer, Refusal, State, Written};
+use machine::{Refusal, Refused, State};
+use place::CallKind;
 use scalars::{IonType, Scalar};
 use timestamp::Timestamp;
 
 // A scalar that no check of its own refuses.
-fn write_scalar(s: State, buf: &mut [u8], annotations: &[u8], value: Scalar) -> Written
+fn write_scalar(
+    s: State,
+    buf: &mut [u8],
+    annotations: &[u8],
+    value: Scalar,
+) -> Result<State, Refused>
     ensures { outcome_of result buf.new ≡ run (write (sids_of annotations.now) (scalar_argument value)) (config s buf.old) }
 {
-    let place = place::value_place(s, buf.len());
-    let Answer::Accepted = place else {
-        return Written {
-            answer: place,
-            state: s,
-        };
-    };
+    steps::check(s, buf.len(), CallKind::Value)?;
     let put = values::write_scalar(buf, s.used, annotations, value);
     steps::scalar_ended(s, put, Refusal::NoRoom)
 }
 
 // A null of each type.
-pub fn write_null(s: State, buf: &mut [u8], annotations: &[u8], t: IonType) -> Written
+pub fn write_null(
+    s: State,
+    buf: &mut [u8],
+    annotations: &[u8],
+    t: IonType,
+) -> Result<State, Refused>
     ensures { outcome_of result buf.new ≡ run (write (sids_of annotations.now) (write_null (type_of t))) (config s buf.old) }
 {
     write_scalar(s, buf, annotations, Scalar::Null(t))
 }
 
 // 10 or 11.
-pub fn write_bool(s: State, buf: &mut [u8], annotations: &[u8], value: bool) -> Written
+pub fn write_bool(
+    s: State,
+    buf: &mut [u8],
+    annotations: &[u8],
+    value: bool,
+) -> Result<State, Refused>
     ensures { outcome_of result buf.new ≡ run (write (sids_of annotations.now) (write_bool value)) (config s buf.old) }
 {
     write_scalar(s, buf, annotations, Scalar::Bool(value))
 }
 
 // An int of 64 bits with its sign.
-pub fn write_i64(s: State, buf: &mut [u8], annotations: &[u8], value: i64) -> Written
+pub fn write_i64(s: State, buf: &mut [u8], annotations: &[u8], value: i64) -> Result<State, Refused>
     ensures { outcome_of result buf.new ≡ run (write (sids_of annotations.now) (write_i64 value)) (config s buf.old) }
 {
     write_scalar(s, buf, annotations, Scalar::I64(value))
@@ -61,43 +71,47 @@ pub fn write_int(
     annotations: &[u8],
     negative: bool,
     magnitude: &[u8],
-) -> Written
+) -> Result<State, Refused>
     ensures { outcome_of result buf.new
         ≡ run (write (sids_of annotations.now) (write_int negative magnitude.now)) (config s buf.old) }
 {
-    let place = place::value_place(s, buf.len());
-    let Answer::Accepted = place else {
-        return Written {
-            answer: place,
-            state: s,
-        };
-    };
+    steps::check(s, buf.len(), CallKind::Value)?;
     let put = values::write_int(buf, s.used, annotations, negative, magnitude);
     if put == 0 {
-        return Written {
-            answer: Answer::Refused(steps::int_refusal(negative, magnitude)),
+        return Err(Refused {
+            why: steps::int_refusal(negative, magnitude),
             state: s,
-        };
+        });
     }
     steps::scalar_ended(s, put, Refusal::NoRoom)
 }
 
 // A float by the bits of binary32; a NaN keeps its own.
-pub fn write_f32_bits(s: State, buf: &mut [u8], annotations: &[u8], bits: u32) -> Written
+pub fn write_f32_bits(
+    s: State,
+    buf: &mut [u8],
+    annotations: &[u8],
+    bits: u32,
+) -> Result<State, Refused>
     ensures { outcome_of result buf.new ≡ run (write (sids_of annotations.now) (write_f32 bits)) (config s buf.old) }
 {
     write_scalar(s, buf, annotations, Scalar::F32Bits(bits))
 }
 
 // A float by the bits of binary64, in four bytes where binary32 holds it; a NaN keeps its own.
-pub fn write_f64_bits(s: State, buf: &mut [u8], annotations: &[u8], bits: u64) -> Written
+pub fn write_f64_bits(
+    s: State,
+    buf: &mut [u8],
+    annotations: &[u8],
+    bits: u64,
+) -> Result<State, Refused>
     ensures { outcome_of result buf.new ≡ run (write (sids_of annotations.now) (write_f64 bits)) (config s buf.old) }
 {
     write_scalar(s, buf, annotations, Scalar::F64Bits(bits))
 }
 
 // A float by its value; a NaN has the bits 7FC00000.
-pub fn write_f32(s: State, buf: &mut [u8], annotations: &[u8], value: f32) -> Written
+pub fn write_f32(s: State, buf: &mut [u8], annotations: &[u8], value: f32) -> Result<State, Refused>
     ensures { outcome_of result buf.new
         ≡ run (write (sids_of annotations.now) (write_f32 (to_bits binary32 value))) (config s buf.old) }
 {
@@ -105,7 +119,7 @@ pub fn write_f32(s: State, buf: &mut [u8], annotations: &[u8], value: f32) -> Wr
 }
 
 // A float by its value; a NaN has the bits 7FF8000000000000.
-pub fn write_f64(s: State, buf: &mut [u8], annotations: &[u8], value: f64) -> Written
+pub fn write_f64(s: State, buf: &mut [u8], annotations: &[u8], value: f64) -> Result<State, Refused>
     ensures { outcome_of result buf.new
         ≡ run (write (sids_of annotations.now) (write_f64 (to_bits binary64 value))) (config s buf.old) }
 {
@@ -120,105 +134,100 @@ pub fn write_decimal(
     negative: bool,
     coefficient: &[u8],
     exponent: i64,
-) -> Written
+) -> Result<State, Refused>
     ensures { outcome_of result buf.new
         ≡ run (write (sids_of annotations.now) (write_decimal negative coefficient.now exponent)) (config s buf.old) }
 {
-    let place = place::value_place(s, buf.len());
-    let Answer::Accepted = place else {
-        return Written {
-            answer: place,
-            state: s,
-        };
-    };
+    steps::check(s, buf.len(), CallKind::Value)?;
     let put = values::write_decimal(buf, s.used, annotations, negative, coefficient, exponent);
     if put == 0 {
-        return Written {
-            answer: Answer::Refused(steps::decimal_refusal(negative, coefficient, exponent)),
+        return Err(Refused {
+            why: steps::decimal_refusal(negative, coefficient, exponent),
             state: s,
-        };
+        });
     }
     steps::scalar_ended(s, put, Refusal::NoRoom)
 }
 
 // A timestamp by its local fields and its offset.
-pub fn write_timestamp(s: State, buf: &mut [u8], annotations: &[u8], value: Timestamp) -> Written
+pub fn write_timestamp(
+    s: State,
+    buf: &mut [u8],
+    annotations: &[u8],
+    value: Timestamp,
+) -> Result<State, Refused>
     ensures { outcome_of result buf.new ≡ run (write (sids_of annotations.now) (argument_of value)) (config s buf.old) }
 {
-    let place = place::value_place(s, buf.len());
-    let Answer::Accepted = place else {
-        return Written {
-            answer: place,
-            state: s,
-        };
-    };
+    steps::check(s, buf.len(), CallKind::Value)?;
     let put = values::write_timestamp(buf, s.used, annotations, value);
     if put == 0 {
-        return Written {
-            answer: Answer::Refused(steps::timestamp_refusal(value)),
+        return Err(Refused {
+            why: steps::timestamp_refusal(value),
             state: s,
-        };
+        });
     }
     steps::scalar_ended(s, put, Refusal::NoRoom)
 }
 
 // A symbol by its sid.
-pub fn write_symbol(s: State, buf: &mut [u8], annotations: &[u8], sid: u64) -> Written
+pub fn write_symbol(
+    s: State,
+    buf: &mut [u8],
+    annotations: &[u8],
+    sid: u64,
+) -> Result<State, Refused>
     ensures { outcome_of result buf.new ≡ run (write (sids_of annotations.now) (write_symbol sid)) (config s buf.old) }
 {
     write_scalar(s, buf, annotations, Scalar::Symbol(sid))
 }
 
 // A string, in UTF-8.
-pub fn write_string(s: State, buf: &mut [u8], annotations: &[u8], bytes: &[u8]) -> Written
+pub fn write_string(
+    s: State,
+    buf: &mut [u8],
+    annotations: &[u8],
+    bytes: &[u8],
+) -> Result<State, Refused>
     ensures { outcome_of result buf.new
         ≡ run (write (sids_of annotations.now) (write_string bytes.now)) (config s buf.old) }
 {
-    let place = place::value_place(s, buf.len());
-    let Answer::Accepted = place else {
-        return Written {
-            answer: place,
-            state: s,
-        };
-    };
+    steps::check(s, buf.len(), CallKind::Value)?;
     let put = values::write_string(buf, s.used, annotations, bytes);
     if put == 0 {
-        return Written {
-            answer: Answer::Refused(steps::string_refusal(bytes)),
+        return Err(Refused {
+            why: steps::string_refusal(bytes),
             state: s,
-        };
+        });
     }
     steps::scalar_ended(s, put, Refusal::NoRoom)
 }
 
 // A clob.
-pub fn write_clob(s: State, buf: &mut [u8], annotations: &[u8], bytes: &[u8]) -> Written
+pub fn write_clob(
+    s: State,
+    buf: &mut [u8],
+    annotations: &[u8],
+    bytes: &[u8],
+) -> Result<State, Refused>
     ensures { outcome_of result buf.new
         ≡ run (write (sids_of annotations.now) (write_clob bytes.now)) (config s buf.old) }
 {
-    let place = place::value_place(s, buf.len());
-    let Answer::Accepted = place else {
-        return Written {
-            answer: place,
-            state: s,
-        };
-    };
+    steps::check(s, buf.len(), CallKind::Value)?;
     let put = values::write_clob(buf, s.used, annotations, bytes);
     steps::scalar_ended(s, put, Refusal::NoRoom)
 }
 
 // A blob.
-pub fn write_blob(s: State, buf: &mut [u8], annotations: &[u8], bytes: &[u8]) -> Written
+pub fn write_blob(
+    s: State,
+    buf: &mut [u8],
+    annotations: &[u8],
+    bytes: &[u8],
+) -> Result<State, Refused>
     ensures { outcome_of result buf.new
         ≡ run (write (sids_of annotations.now) (write_blob bytes.now)) (config s buf.old) }
 {
-    let place = place::value_place(s, buf.len());
-    let Answer::Accepted = place else {
-        return Written {
-            answer: place,
-            state: s,
-        };
-    };
+    steps::check(s, buf.len(), CallKind::Value)?;
     let put = values::write_blob(buf, s.used, annotations, bytes);
     steps::scalar_ended(s, put, Refusal::NoRoom)
 }

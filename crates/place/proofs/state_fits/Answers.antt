@@ -1,37 +1,28 @@
--- `place::state_fits` meets its contract. The loop's invariant: the state fits exactly if the first i containers do, before the limit.
+-- `place::state_fits` meets its contract: each return is the first of the definition's tests that fails, and what is left is whether the containers fit.
 -- Assumes nothing.
-use native.Mathlib.Omega.{arith}
-use mathlib.Core.Path.{refl, sym, ◌∙◌}
-use borrow.Author.Tests.{not-true, not-false}
-use Rattle.place.proofs.Laws.{chain_step, chain_none, fits_overused, fits_overopen, fits_nameless, fits_containers}
+use Rattle.std.proofs.Common.{sym}
+use Rattle.place.proofs.Laws.{fits_overused, fits_overopen, fits_nameless, fits_containers}
 use Rattle.place.proofs.state_fits.Goals as goal
 
 pub returns-then-room-used : goal.returns-then-room-used
-returns-then-room-used c = let a = c.args in fits_overused a.s a.room (omega arith)
+returns-then-room-used g c =
+    let s = g.S.Standing.state c.args.s.now in
+    fits_overused s c.args.room (rw (← c.used-used.ensures) c.if-room-used.true)
 
 pub returns-then-depth-gt-MOST_OPEN : goal.returns-then-depth-gt-MOST_OPEN
-returns-then-depth-gt-MOST_OPEN c = let a = c.args in fits_overopen a.s a.room (omega arith) (omega arith)
+returns-then-depth-gt-MOST_OPEN g c =
+    let s = g.S.Standing.state c.args.s.now in
+    fits_overopen s c.args.room (rw (← c.used-used.ensures) c.if-room-used.false) (rw (← c.depth-depth.ensures) c.if-depth-gt-MOST_OPEN.true)
 
-pub returns-then-s-in_struct : goal.returns-then-s-in_struct
-returns-then-s-in_struct c = let a = c.args in
-    fits_nameless a.s a.room (omega arith) (omega arith) (rw (c.in_struct.ensures (omega arith)) at c.if-s-in_struct.true)
-
-pub loop-i-init : goal.loop-i-init
-loop-i-init c = let a = c.args in (
-  omega arith,
-  fits_containers a.s a.room (omega arith) (omega arith) (rw (c.in_struct.ensures (omega arith)) at c.if-s-in_struct.false),
-)
-
-pub returns-then-not-container_fits : goal.returns-then-not-container_fits
-returns-then-not-container_fits c = let n = sym c.container_fits.ensures ∙ not-true _ c.if-not-container_fits.true-raw in
-    let a = c.args in
-    sym (c.loop-i.invariant.1 ∙ (chain_step a.s.containers c.loop-i.i c.loop-i.limit (omega arith) ∙ rw n refl))
-
-pub loop-i-preserved : goal.loop-i-preserved
-loop-i-preserved c = let n = sym c.container_fits.ensures ∙ not-false _ c.if-not-container_fits.false-raw in
-    let a = c.args in
-    (omega arith, c.loop-i.invariant.1 ∙ (chain_step a.s.containers c.loop-i.i c.loop-i.limit (omega arith) ∙ rw n refl))
+pub returns-then-waits-in_struct : goal.returns-then-waits-in_struct
+returns-then-waits-in_struct g c =
+    let s = g.S.Standing.state c.args.s.now in
+    fits_nameless s c.args.room (rw (← c.used-used.ensures) c.if-room-used.false) (rw (← c.depth-depth.ensures) c.if-depth-gt-MOST_OPEN.false)
+    (rw (← c.depth-depth.ensures, ← c.waits.ensures, ← c.in_struct.ensures) c.if-waits-in_struct.true)
 
 pub returns : goal.returns
-returns c = let a = c.args in
-    sym (c.loop-i.invariant.1 ∙ chain_none a.s.containers c.loop-i.i c.loop-i.limit (omega arith))
+returns g c =
+    let s = g.S.Standing.state c.args.s.now in
+    rw (c.containers_fit.ensures, c.used-used.ensures, c.depth-depth.ensures) (sym (fits_containers s c.args.room
+    (rw (← c.used-used.ensures) c.if-room-used.false) (rw (← c.depth-depth.ensures) c.if-depth-gt-MOST_OPEN.false)
+    (rw (← c.depth-depth.ensures, ← c.waits.ensures, ← c.in_struct.ensures) c.if-waits-in_struct.false)))

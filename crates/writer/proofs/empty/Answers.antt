@@ -1,22 +1,24 @@
 -- `writer::empty` meets its contract: refused by place, or the used length alone alters.
 -- Assumes nothing.
-use native.Mathlib.Omega.{arith}
-use mathlib.Core.Path.{refl, sym, ◌∙◌}
-use lib.ListN.{length}
-use borrow.Author.Tests.{le-ltb}
+use Rattle.std.proofs.Common.{refl, sym, ◌∙◌, length, arith, le-ltb}
+use Rattle.std.proofs.lemmas.Result.{err_from_is_err_and}
 use Rattle.machine.specs.Call.{emptying}
-use Rattle.machine.specs.Machine.{open_containers, is_open}
+use Rattle.place.specs.declared.CallKind.TheVariants.{Top}
+use Rattle.place.specs.Misplaced.{misplaced}
 use Rattle.steps.proofs.Run.{room_line, refused_place, passed-place, run_accepted}
 use Rattle.writer.proofs.empty.Goals as goal
 
-pub returns-in_default : goal.returns-in_default
-returns-in_default c = let a = c.args in
-    refused_place emptying a.s a.buf.now (is_open (open_containers a.s)) (room_line emptying a.s a.buf.now) refl
-    c.top_place-place.result c.top_place-place.ensures _ c.in_default.is
+pub returns-in_err-check : goal.returns-in_err-check
+returns-in_err-check c =
+    let s = c.args.s in
+    let b = c.args.buf.now in
+    let p = err_from_is_err_and c.from_residual.result c.from_residual.ensures.1 in
+    rw (p.1, p.2)
+    (refused_place emptying s b (misplaced Top s) (room_line emptying s b) refl c.in_err-check.field-0.0 c.in_err-check.ensures)
 
 pub returns : goal.returns
-returns c = let a = c.args in
-    let past =
-    passed-place emptying a.s a.buf.now (is_open (open_containers a.s)) (room_line emptying a.s a.buf.now) refl
-    c.top_place-place.result c.top_place-place.ensures c.in-Accepted.is in
-    sym (run_accepted emptying a.s a.buf.now (past ∙ rw (le-ltb (length a.buf.now) 0 (omega arith))))
+returns c =
+    let s = c.args.s in
+    let b = c.args.buf.now in
+    let past = passed-place emptying s b (misplaced Top s) (room_line emptying s b) refl c.in_ok-check.ensures in
+    sym (run_accepted emptying s b (past ∙ rw (le-ltb (length b) 0 (omega arith))))
