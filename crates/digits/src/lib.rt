@@ -1,7 +1,7 @@
 // Digits of a number in a base, and the bits that tell how many there are.
 #![tactic(auto)]
 
-ghost use Rattle.std.specs.Prelude.{◌≡◌, List, ℕ, ◌+◌, ◌-◌};
+ghost use Rattle.std.specs.Prelude.{◌≡◌, List, ℕ, ◌+◌, ◌-◌, ◌^◌, ◌≤◌, SomeIff};
 ghost use Rattle.std.specs.Int.Count.{count_leading_zeros};
 ghost use Rattle.encoding.specs.Digits.{low_digits};
 ghost use Rattle.buffer.specs.Laid.{placed};
@@ -30,4 +30,35 @@ pub fn put_digits(buf: &mut [u8], at: usize, count: usize, greatest: u8, value: 
         rest = rest / base;
     }
     count
+}
+
+// The powers of ten that 64 bits hold, each at its exponent.
+const POWERS_OF_TEN: [u64; 20] = [
+    1,
+    10,
+    100,
+    1_000,
+    10_000,
+    100_000,
+    1_000_000,
+    10_000_000,
+    100_000_000,
+    1_000_000_000,
+    10_000_000_000,
+    100_000_000_000,
+    1_000_000_000_000,
+    10_000_000_000_000,
+    100_000_000_000_000,
+    1_000_000_000_000_000,
+    10_000_000_000_000_000,
+    100_000_000_000_000_000,
+    1_000_000_000_000_000_000,
+    10_000_000_000_000_000_000,
+];
+
+// Ten to `exponent`, where 64 bits hold it: up to 19.
+pub fn power_of_ten(exponent: u64) -> Option<u64>
+    ensures { SomeIff result (exponent ≤ 19) (10 ^ exponent) }
+{
+    POWERS_OF_TEN.get(exponent as usize).copied()
 }

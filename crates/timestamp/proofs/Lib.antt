@@ -1,7 +1,6 @@
-pub mod Signed
 pub mod Valid
-pub mod Utc
+pub mod UtcFields
 pub mod Fields
-pub mod Small
+pub mod SmallFields
 pub mod Body
-pub mod Checked
+pub mod Values

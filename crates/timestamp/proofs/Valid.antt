@@ -1,30 +1,24 @@
 -- Check 7's local rules from their tests in field order, and what each tells once it is passed.
 -- By cases on the precision. Assumes nothing.
-use Prim.Native.Nat.{ℕ, ◌^◌, ◌≤◌, ◌<◌}
-use native.Mathlib.Omega.{arith}
-use mathlib.Core.Path.{◌≡◌, refl, sym, ◌∙◌}
-use mathlib.Core.Bool.{Bool, true, false, cond, ◌&&◌, ◌||◌, and_assoc, and-true}
+use Prim.Native.Nat.{ℕ, ◌≤◌, ◌<◌}
+use mathlib.Core.Path.{◌≡◌, refl, sym, ◌∙◌, subst}
+use mathlib.Core.Bool.{Bool, true, ◌&&◌, ◌||◌, and_assoc, and-true}
 use mathlib.Core.Option.{Option, some}
-use borrow.Author.Tests.{leb-true, ltb-true, lt-leb, le-ltb}
+use Rattle.std.specs.Prelude.{Some}
+use Rattle.std.specs.Prelude.{Option as RustOption}
+use borrow.Author.Tests.{leb-true, ltb-true, le-ltb}
 use lib.Dec.{leb, ltb}
 use lib.ListN.{length}
 use lib.IntN.{ℤ, nat_abs}
 use Rattle.ion.specs.Value.{Fraction}
 use Rattle.ion.specs.Calendar.{days_in_month, is_month}
-use Rattle.ion.proofs.Tests.{both, NoneBelow, none_below}
-use Rattle.encoding.specs.Timestamp.{timestamp_rules, first_bad, is_none, is_local_timestamp, is_timestamp}
+use Rattle.ion.proofs.Tests.{both}
+use Rattle.encoding.specs.Timestamp.{is_local_timestamp}
 use Rattle.encoding.proofs.Rules.{offset_fits, fraction_fits, is_local_timestamp-rules}
 use Rattle.timestamp.specs.declared.Precision.{Precision}
 use Rattle.timestamp.specs.declared.Precision.TheVariants.{Year, Month, Day, Minute, Second}
-use Rattle.timestamp.specs.Arguments.{fields_by}
-
--- how many fields count
-abbrev pub field_count : Precision → ℕ
-field_count Year = 1
-field_count Month = 2
-field_count Day = 3
-field_count Minute = 5
-field_count Second = 6
+use Rattle.timestamp.specs.declared.Timestamp.{Timestamp}
+use Rattle.timestamp.specs.Arguments.{offset_minutes, fraction_digits, field_count, fields_by, fields_of}
 
 pub length-fields_by : (p : Precision) (y m d h i s : ℕ) → length (fields_by p y m d h i s) ≡ field_count p
 length-fields_by Year y m d h i s = refl
@@ -32,16 +26,6 @@ length-fields_by Month y m d h i s = refl
 length-fields_by Day y m d h i s = refl
 length-fields_by Minute y m d h i s = refl
 length-fields_by Second y m d h i s = refl
-
--- a precision has one of the counts of fields that a timestamp has, so a timestamp that does not pass has a field that breaks its rule
-pub is_timestamp-first_bad : (p : Precision) (y m d h i s : ℕ) (o : Option ℤ) (x : Fraction) →
-    is_timestamp o (fields_by p y m d h i s) x ≡ is_none (first_bad (timestamp_rules o (fields_by p y m d h i s) x))
-unfolding is_timestamp
-is_timestamp-first_bad Year y m d h i s o x = refl
-is_timestamp-first_bad Month y m d h i s o x = refl
-is_timestamp-first_bad Day y m d h i s o x = refl
-is_timestamp-first_bad Minute y m d h i s o x = refl
-is_timestamp-first_bad Second y m d h i s o x = refl
 
 -- the tests from the year down, each where the count of fields reaches it
 pub is_local_timestamp_tests : (p : Precision) (y m d h i s : ℕ) (o : Option ℤ) (x : Fraction) →
@@ -98,12 +82,15 @@ offset_known p y m d h i s z e =
     let k = both {a = leb 5 (field_count p)} (rw (length-fields_by p y m d h i s) at e) in
     (leb-true 5 (field_count p) k.0, leb-true (nat_abs z) 1439 k.1)
 
--- ---- the powers of ten up to eighteen zeros
+module _ (t : Timestamp) (e : is_local_timestamp (offset_minutes t.offset) (fields_of t) (fraction_digits t.fraction) ≡ true) where
+  pub year_between : (1 ≤ t.year) × (t.year ≤ 9999)
+  year_between = (valid t.precision t.year t.month t.day t.hour t.minute t.second (offset_minutes t.offset) (fraction_digits t.fraction) e).year
 
-pub power_past : (k : ℕ) → NoneBelow k 19 → 0 ≡ cond (leb k 18) (10 ^ k) 0
-power_past k h = rw (lt-leb k 18 (none_below k 19 h))
-
--- no number is below 0
-pub below_if : (b : Bool) (c n : ℕ) → ltb c (cond b n 0) ≡ (b && ltb c n)
-below_if true c n = refl
-below_if false c n = le-ltb c 0 (omega arith)
+  -- where the offset is known
+  pub known : (z : ℤ) → t.offset ≡ Some z → (5 ≤ field_count t.precision) × (nat_abs z ≤ 1439) × (t.hour < 24) × (t.minute < 60)
+  known z q =
+      let w =
+      valid t.precision t.year t.month t.day t.hour t.minute t.second (some z) (fraction_digits t.fraction)
+      (subst (λ (o : RustOption ℤ). is_local_timestamp (offset_minutes o) (fields_of t) (fraction_digits t.fraction) ≡ true) q e) in
+      let k = offset_known t.precision t.year t.month t.day t.hour t.minute t.second z w.offset in
+      (k.0, k.1, (w.time k.0).0, (w.time k.0).1)

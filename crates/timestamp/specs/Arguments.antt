@@ -1,27 +1,33 @@
 -- What a Timestamp stands for: the arguments of the call that writes it.
 -- Assumes nothing.
-use Rattle.std.specs.Prelude.{ℕ, List, [], ◌∷◌, ℤ}
+use Rattle.std.specs.Prelude.{ℕ, List, [], ◌∷◌, ℤ, Some, None}
+use Rattle.std.specs.Prelude.{Option as RustOption}
 use Rattle.std.proofs.Math.Option.{Option, none, some}
 use Rattle.ion.specs.Value.{no_fraction, fraction}
 use Rattle.ion.specs.Value.{Fraction as IonFraction}
 use Rattle.encoding.specs.Argument.{Argument, write_timestamp}
 use Rattle.timestamp.specs.declared.Precision.{Precision}
 use Rattle.timestamp.specs.declared.Precision.TheVariants.{Year, Month, Day, Minute, Second}
-use Rattle.timestamp.specs.declared.Offset.{Offset}
-use Rattle.timestamp.specs.declared.Offset.TheVariants.{Unknown, Minutes}
 use Rattle.timestamp.specs.declared.Fraction.{Fraction}
-use Rattle.timestamp.specs.declared.Fraction.TheVariants.{None, Digits}
 use Rattle.timestamp.specs.declared.Timestamp.{Timestamp}
 
-abbrev pub offset_minutes : Offset → Option ℤ
-offset_minutes Unknown = none
-offset_minutes (Minutes z) = some z
+abbrev pub offset_minutes : RustOption ℤ → Option ℤ
+offset_minutes None = none
+offset_minutes (Some z) = some z
 
-abbrev pub fraction_digits : Fraction → IonFraction
+abbrev pub fraction_digits : RustOption Fraction → IonFraction
 fraction_digits None = no_fraction
-fraction_digits (Digits k c) = fraction k c
+fraction_digits (Some x) = fraction x.digits x.coefficient
 
--- the fields that count, from the year down
+-- how many fields count
+abbrev pub field_count : Precision → ℕ
+field_count Year = 1
+field_count Month = 2
+field_count Day = 3
+field_count Minute = 5
+field_count Second = 6
+
+-- those that count, from the year down
 abbrev pub fields_by : Precision → ℕ → ℕ → ℕ → ℕ → ℕ → ℕ → List ℕ
 fields_by Year y m d h i s = y ∷ []
 fields_by Month y m d h i s = y ∷ m ∷ []

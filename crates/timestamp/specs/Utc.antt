@@ -8,7 +8,7 @@ use Rattle.timestamp.specs.declared.Timestamp.{Timestamp}
 use Rattle.timestamp.specs.Arguments.{offset_minutes, fraction_digits, fields_of}
 
 abbrev pub date_of : Date → CalendarDate
-date_of x = date x.0 x.1 x.2
+date_of x = date x.year x.month x.day
 
 -- these fields, from the year down, in the place of its own
 unfoldable pub with_fields : Timestamp → List ℕ → Timestamp
@@ -25,10 +25,9 @@ with_fields t fs =
       fraction = t.fraction;
     }
 
+abbrev pub in_utc : Timestamp → Timestamp
+in_utc t = with_fields t (utc (offset_minutes t.offset) (fields_of t))
+
 -- with its UTC fields, if it passes check 7; any other as it is
 unfoldable pub utc_of : Timestamp → Timestamp
-utc_of t =
-    elim (is_timestamp (offset_minutes t.offset) (fields_of t) (fraction_digits t.fraction)) [
-      | true ↦ with_fields t (utc (offset_minutes t.offset) (fields_of t))
-      | false ↦ t
-    ]
+utc_of t = elim (is_timestamp (offset_minutes t.offset) (fields_of t) (fraction_digits t.fraction)) [ true ↦ in_utc t | false ↦ t ]
