@@ -2,7 +2,7 @@
 // each. The bytes go to `AT`.
 use crate::functions::{Function, NoFunction, ion_type};
 use scalars::Scalar;
-use timestamp::{Fraction, Offset, Precision, Timestamp};
+use timestamp::{Fraction, Precision, Timestamp};
 use words::{hex, numbers};
 
 pub(crate) const AT: usize = 3;
@@ -59,10 +59,11 @@ impl<'a> Call<'a> {
         hex::bits(self.word(1))
     }
 
-    fn offset(self) -> Offset {
+    // None where it is unknown.
+    fn offset(self) -> Option<i32> {
         match self.word(1) {
-            b"?" => Offset::Unknown,
-            minutes => Offset::Minutes(numbers::i32_of(minutes).unwrap_or(0)),
+            b"?" => None,
+            minutes => Some(numbers::i32_of(minutes).unwrap_or(0)),
         }
     }
 
@@ -83,11 +84,14 @@ impl<'a> Call<'a> {
         Precision::Second
     }
 
-    fn fraction(self) -> Fraction {
+    fn fraction(self) -> Option<Fraction> {
         if self.word(8).is_empty() {
-            return Fraction::None;
+            return None;
         }
-        Fraction::Digits(self.number_u32(8), self.number(9))
+        Some(Fraction {
+            digits: self.number_u32(8),
+            coefficient: self.number(9),
+        })
     }
 
     fn local_time(self) -> Timestamp {
