@@ -113,10 +113,8 @@ pub fn counted(s: State) -> State
     let c = s.containers[depth - 1];
     let mut next = s;
     next.containers[depth - 1] = Container {
-        start: c.start,
-        header: c.header,
-        code: c.code,
         members: c.members.wrapping_add(1),
+        ..c
     };
     next
 }
@@ -125,8 +123,5 @@ pub fn counted(s: State) -> State
 pub fn scalar_ended(s: State, put: usize, why: Refusal) -> Result<State, Refused>
     ensures { result ≡ ended_as s put false (counted_cut s.containers s.depth) why }
 {
-    if put == 0 {
-        return Err(Refused { why, state: s });
-    }
-    ended(counted(s), put, false, why)
+    ended(s, put, false, why).map(counted)
 }
