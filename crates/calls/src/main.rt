@@ -18,7 +18,7 @@ mod writes;
 ghost use Rattle.std.specs.Prelude.{◌≡◌, length};
 
 use lines::{Got, Line};
-use machine::{Container, MOST_OPEN, State};
+use machine::{MOST_OPEN, State};
 use std::io;
 use writes::Call;
 
@@ -27,10 +27,6 @@ const MOST_TEXT: usize = 65536;
 
 // What the buffer holds before a list.
 const FILL: u8 = 0xEE;
-
-fn is_same(a: Container, b: Container) -> bool {
-    (a.start, a.header, a.code, a.members) == (b.start, b.header, b.code, b.members)
-}
 
 fn has_bytes(buf: &[u8], from: usize, hex: &[u8]) -> bool {
     let mut bytes = [0u8; 256];
@@ -89,7 +85,7 @@ fn step(rt: &impl Print, line: &[u8], state: &mut State, buf: &mut [u8]) -> io::
             Ok(())
         }
         Line::Open { index, record } => {
-            report(rt, is_same(state.containers[index % MOST_OPEN], record))
+            report(rt, state.containers[index % MOST_OPEN] == record)
         }
         Line::Take { room, length } => {
             let room = room.min(buf.len());

@@ -69,7 +69,7 @@ pub fn decimal_refusal(negative: bool, coefficient: &[u8], exponent: i64) -> Ref
 pub fn timestamp_refusal(value: Timestamp) -> Refusal
     ensures { refused (number result) ≡ own_refusal (argument_of value) }
 {
-    if timestamp::is_valid(value) {
+    if value.is_valid() {
         return Refusal::NoRoom;
     }
     Refusal::BadTimestamp
