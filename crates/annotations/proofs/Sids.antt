@@ -1,26 +1,36 @@
 -- The laws of lent sids: each fits a u64, a sid more is its bytes more, and the size of them all has a bound.
 -- By recursion on the number of sids. Assumes nothing.
-use mathlib.Core.Path.{◌≡◌, refl, ◌∙◌, ap}
+use mathlib.Core.Path.{◌≡◌, refl, sym, ◌∙◌, ap}
 use mathlib.Core.List.{List, [], ◌∷◌, ◌++◌}
 use Prim.Native.Nat.{ℕ, zero, suc, ◌+◌, ◌-◌, ◌*◌, ◌^◌, ◌≤◌, ◌<◌}
 use native.Mathlib.Omega.{arith}
-use native.Mathlib.Nat.{one-le-pow, pow-suc, eq-or-lt_of_le}
+use native.Mathlib.Numerals.{add-one}
+use native.Mathlib.Nat.{add-zero, one-le-pow, pow-suc, eq-or-lt_of_le}
 use mathlib.Core.Logic.{⊎_elim}
-use lib.ListN.{length, get_or, length-append}
+use lib.ListN.{length, take, drop, get_or, get_or-eq_default, length-append, length-drop}
+use lib.Seq.{get_or-drop, get_or-take, take_all}
+use Rattle.buffer.specs.Laid.{placed}
+use Rattle.std.specs.Prelude.{Option, Some, None}
+use Rattle.buffer.proofs.Laid.{placed-some, placed_then, placed_then_none}
 use Rattle.encoding.specs.Fields.{var_uint_bytes, var_uints_bytes}
 use Rattle.encoding.specs.Headers.{annotation_bytes}
 use Rattle.encoding.proofs.Sizes.{var_uint_least, var_uint-most}
 use Rattle.encoding.proofs.Fields.{var_uints_snoc}
 use Rattle.annotations.specs.Sids.{least_first, sid_at, sid_count, sids_up_to, sids_of}
 
--- the byte before k - 1 others, of eight
-pub least_first_more : (b : List ℕ) (at k : ℕ) → 0 < k → k ≤ 8
-    → get_or b (at + (k - 1)) 0 + 256 * least_first b (at + k) (8 - k) ≡ least_first b (at + (k - 1)) (8 - (k - 1))
+-- the byte before the others, of eight
+pub least_first_more : (b : List ℕ) (k : ℕ) → 0 < k → k ≤ 8 → get_or b (k - 1) 0 + 256 * least_first b k (8 - k) ≡ least_first b (k - 1) (8 - (k - 1))
 unfolding least_first
-least_first_more b at k p h =
+least_first_more b k p h =
     let n : 8 - (k - 1) ≡ suc (8 - k) = omega arith in
-    let e : at + (k - 1) + 1 ≡ at + k = omega arith in
+    let e : k - 1 + 1 ≡ k = omega arith in
     rw (n, least_first, e) refl
+
+-- past the end every byte is zero
+pub least_first_end : (b : List ℕ) (at k : ℕ) → length b ≤ at → least_first b at k ≡ 0
+unfolding least_first
+least_first_end b at zero h = refl
+least_first_end b at (suc k) h = rw (get_or-eq_default b 0 {n = at} h, least_first_end b (at + 1) k (omega arith)) refl
 
 least_first-next : (b : List ℕ) (at n k : ℕ) → least_first b (at + n) (suc k) ≡ get_or b (at + n) 0 + 256 * least_first b (at + suc n) k
 unfolding least_first
@@ -42,6 +52,30 @@ least_first_eight b at =
       least_first-next b at 6 1,
       least_first-next b at 7 0,
     )
+
+-- the bytes of a part, from its front on
+pub least_first_drop : (b : List ℕ) (at n k : ℕ) → least_first (drop at b) n k ≡ least_first b (at + n) k
+unfolding least_first
+least_first_drop b at n zero = refl
+least_first_drop b at n (suc k) =
+    let e : at + (n + 1) ≡ at + n + 1 = omega arith in
+    rw (get_or-drop at b n 0, least_first_drop b at (n + 1) k, e) refl
+
+least_first_take : (b : List ℕ) (n at k : ℕ) → at + k ≤ n → least_first (take n b) at k ≡ least_first b at k
+unfolding least_first
+least_first_take b n at zero h = refl
+least_first_take b n at (suc k) h = rw (get_or-take n b at 0 (omega arith), least_first_take b n (at + 1) k (omega arith)) refl
+
+pub least_first_part : (b : List ℕ) (at k : ℕ) → least_first (take (length b - at) (drop at b)) 0 k ≡ least_first b at k
+least_first_part b at k = rw (take_all (length b - at) (drop at b) (omega (arith, length-drop at b)), least_first_drop b at 0 k, add-zero) refl
+
+-- the first eight bytes of a part, as one sum
+pub least_first_chunk : (b bytes : List ℕ) (at n : ℕ) → bytes ≡ take 8 (take (length b - at) (drop at b))
+    → n ≡ get_or bytes 0 0 + get_or bytes 1 0 * 256 + get_or bytes 2 0 * 65536 + get_or bytes 3 0 * 16777216 + get_or bytes 4 0 * 4294967296
+    + get_or bytes 5 0 * 1099511627776 + get_or bytes 6 0 * 281474976710656 + get_or bytes 7 0 * 72057594037927936 → n ≡ least_first b at 8
+least_first_chunk b bytes at n e f =
+    let sum : n ≡ least_first bytes 0 8 = omega (arith, least_first_eight bytes 0) in
+    sum ∙ rw (e, least_first_take (take (length b - at) (drop at b)) 8 0 8 (omega arith)) (least_first_part b at 8)
 
 -- ---- sids are numbers of 64 bits
 
@@ -83,6 +117,33 @@ sid_bytes_within b i (suc n) h = ⊎_elim
     (λ l. omega (arith, length-sid_bytes_more b n, sid_bytes_within b i n (omega arith)))
     (eq-or-lt_of_le h)
 
+-- the length with one sid more
+pub sums_more : (b : List ℕ) (n sum size : ℕ) → sum ≡ length (sid_bytes b n) → size ≡ length (var_uint_bytes (sid_at b n)) → sum + size ≡ length (sid_bytes b (n + 1))
+sums_more b n sum size e q = rw (add-one n, e, q) (sym (length-sid_bytes_more b n))
+
+-- Sids placed one behind the other, where there is room for all: n and l are what is answered and left of i of them, m and l' of the next.
+module _ (b : List ℕ) (at : ℕ) (s : List ℕ) (all : at + length (var_uints_bytes (sids_of s)) ≤ length b) where
+  pub sids_room : (i : ℕ) → i ≤ sid_count s → at + length (sid_bytes s i) ≤ length b
+  sids_room i h = omega (arith, ap length (sid_bytes_all s), sid_bytes_within s i (sid_count s) h)
+
+  module _ (i n : ℕ) (l : List ℕ) (e : ◌≡◌ {A = Option ℕ × List ℕ} (Some n, l) (placed b at (sid_bytes s i))) where
+    -- no word is passed
+    pub sids_end : at + n ≤ length b
+    sids_end = omega (arith, placed-some b at (sid_bytes s i) n l e)
+
+    pub sids_next : (v m : ℕ) (l' : List ℕ) → v ≡ sid_at s i → ◌≡◌ {A = Option ℕ × List ℕ} (Some m, l') (placed l (at + n) (var_uint_bytes v)) →
+        ◌≡◌ {A = Option ℕ × List ℕ} (Some (n + m), l') (placed b at (sid_bytes s (i + 1)))
+    sids_next v m l' q f =
+        rw (add-one i, sid_bytes_more s i)
+        (placed_then b at (sid_bytes s i) n l e (var_uint_bytes (sid_at s i)) m l'
+        (f ∙ ap (λ (x : ℕ). placed l (at + n) (var_uint_bytes x)) q))
+
+    -- the next has room
+    pub sids_put : i < sid_count s → (v : ℕ) (l' : List ℕ) → v ≡ sid_at s i → ◌≡◌ {A = Option ℕ × List ℕ} (None, l') (placed l (at + n) (var_uint_bytes v)) → ⊥
+    sids_put h v l' q f =
+        let k = placed_then_none b at (sid_bytes s i) n l e (var_uint_bytes (sid_at s i)) l' (f ∙ ap (λ (x : ℕ). placed l (at + n) (var_uint_bytes x)) q) in
+        omega (arith, sids_room (suc i) (omega arith), length-sid_bytes_more s i)
+
 -- ten bytes a sid at most
 pub sid_bytes-most : (b : List ℕ) → ((i : ℕ) → get_or b i 0 < 256) → (n : ℕ) → length (sid_bytes b n) ≤ 10 * n
 sid_bytes-most b bytes zero = rw (sid_bytes-none b) (omega arith)
@@ -93,6 +154,10 @@ sid_bytes-most b bytes (suc n) = omega (arith, length-sid_bytes_more b n, var_ui
 pub length-annotations : (an : List ℕ) → length (annotation_bytes an) ≡ length (var_uint_bytes (length (var_uints_bytes an))) + length (var_uints_bytes an)
 unfolding annotation_bytes
 length-annotations an = length-append (var_uint_bytes (length (var_uints_bytes an))) (var_uints_bytes an)
+
+-- the same, of a sum and a whole that are known
+pub whole_parts : (an : List ℕ) (sum whole : ℕ) → sum ≡ length (var_uints_bytes an) → whole ≡ length (annotation_bytes an) → whole ≡ length (var_uint_bytes sum) + sum
+whole_parts an sum whole e q = q ∙ (length-annotations an ∙ ap (λ (n : ℕ). length (var_uint_bytes n) + n) (sym e))
 
 pub annotations_least : (an : List ℕ) → 1 ≤ length (annotation_bytes an)
 annotations_least an = omega (arith, length-annotations an, var_uint_least (length (var_uints_bytes an)))

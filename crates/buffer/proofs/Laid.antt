@@ -9,10 +9,13 @@ use native.Mathlib.Numerals.{add-one}
 use native.Mathlib.Nat.{add_assoc, add-zero}
 use mathlib.Core.Logic.{◌⊎◌, inl, inr, ⊎_elim}
 use lib.Dec.{leb}
+use borrow.Rule.Slice.PartMut.{put_mid}
 use borrow.Author.Tests.{le-leb, lt-leb, leb-true, leb-false, not-true, not-false}
 use lib.ListN.{length, take, drop, get_or, set, length-append, length-drop, take-append-drop}
 use lib.Seq.{get_or-take, get_or-drop, take_at, drop_at, drop-drop, length-take-le, set_split, set_at, take-take, take-append-le}
-use Rattle.buffer.specs.Laid.{laid, placed}
+use Rattle.std.specs.Prelude.{Option, Some, None}
+use Rattle.std.proofs.lemmas.Option.{none-some, same_Some}
+use Rattle.buffer.specs.Laid.{laid, placed, written, size_of}
 
 pub laid_nil : (b : List ℕ) (at : ℕ) → laid b at [] ≡ b
 unfolding laid
@@ -21,6 +24,13 @@ laid_nil b at = rw add-zero (take-append-drop at b)
 pub laid_is : (b : List ℕ) (at : ℕ) (out : List ℕ) → laid b at out ≡ take at b ++ (out ++ drop (at + length out) b)
 unfolding laid
 laid_is b at out = refl
+
+-- a part of the buffer that a call fills, up to `end`
+pub laid_part : (b : List ℕ) (at end : ℕ) (xs ys : List ℕ) → ys ≡ xs → end ≡ at + length xs → put_mid at (end - at) b ys ≡ laid b at xs
+unfolding laid
+laid_part b at end xs ys e f =
+    let n : end - at ≡ length xs = omega arith in
+    rw (e, n, drop-drop (length xs) at b) refl
 
 -- a store
 pub laid_one : (b : List ℕ) (at v : ℕ) → at < length b → set b at v ≡ laid b at (v ∷ [])
@@ -111,86 +121,108 @@ laid_cons b at xs v h =
 
 -- ---- what a function answers and leaves
 
-pub placed-fits : (b : List ℕ) (at : ℕ) (out : List ℕ) → at + length out ≤ length b → placed b at out ≡ (length out, laid b at out)
+pub placed-fits : (b : List ℕ) (at : ℕ) (out : List ℕ) → at + length out ≤ length b → placed b at out ≡ (Some (length out), laid b at out)
 unfolding placed
 placed-fits b at out h = rw (placed, le-leb (at + length out) (length b) h) refl
 
-pub placed_full : (b : List ℕ) (at : ℕ) (out : List ℕ) → length b < at + length out → placed b at out ≡ (0, b)
+pub placed_full : (b : List ℕ) (at : ℕ) (out : List ℕ) → length b < at + length out → placed b at out ≡ (None, b)
 unfolding placed
 placed_full b at out h = rw (placed, lt-leb (at + length out) (length b) h) refl
 
 pub placed_by : (b : List ℕ) (at : ℕ) (out : List ℕ) (n : ℕ) (l : List ℕ) → at + length out ≤ length b → n ≡ length out → l ≡ laid b at out →
-    ◌≡◌ {A = ℕ × List ℕ} (n, l) (placed b at out)
+    ◌≡◌ {A = Option ℕ × List ℕ} (Some n, l) (placed b at out)
 placed_by b at out n l h e q = rw (e, q) (sym (placed-fits b at out h))
 
 -- one or the other
 pub placed_or : (b : List ℕ) (at : ℕ) (out : List ℕ)
-    → ((at + length out ≤ length b) × (placed b at out ≡ (length out, laid b at out))) ⊎ ((length b < at + length out) × (placed b at out ≡ (0, b)))
+    → ((at + length out ≤ length b) × (placed b at out ≡ (Some (length out), laid b at out))) ⊎ ((length b < at + length out) × (placed b at out ≡ (None, b)))
 placed_or b at out = go (leb (at + length out) (length b)) refl
   where
     go : (t : Bool) → leb (at + length out) (length b) ≡ t
-        → ((at + length out ≤ length b) × (placed b at out ≡ (length out, laid b at out))) ⊎ ((length b < at + length out) × (placed b at out ≡ (0, b)))
+        → ((at + length out ≤ length b) × (placed b at out ≡ (Some (length out), laid b at out))) ⊎ ((length b < at + length out) × (placed b at out ≡ (None, b)))
     go true e = let h = leb-true (at + length out) (length b) e in inl (h, placed-fits b at out h)
     go false e = let h = leb-false (at + length out) (length b) e in inr (h, placed_full b at out h)
 
-pub placed_nil : (b : List ℕ) (at : ℕ) → placed b at [] ≡ (0, b)
-placed_nil b at = ⊎_elim (λ w. w.1 ∙ ap (λ (l : List ℕ). (0, l)) (laid_nil b at)) (λ w. w.1) (placed_or b at [])
+-- no bytes, at a place of the buffer
+pub placed_nil : (b : List ℕ) (at : ℕ) → at ≤ length b → placed b at [] ≡ (Some 0, b)
+placed_nil b at h = placed-fits b at [] (omega arith) ∙ ap (λ (l : List ℕ). (Some 0, l)) (laid_nil b at)
 
 -- a store, as a function leaves it
-pub placed_one : (b : List ℕ) (at v : ℕ) → at < length b → ◌≡◌ {A = ℕ × List ℕ} (1, set b at v) (placed b at (v ∷ []))
-placed_one b at v h = ap (λ (l : List ℕ). (1, l)) (laid_one b at v h) ∙ sym (placed-fits b at (v ∷ []) (omega arith))
+pub placed_one : (b : List ℕ) (at v : ℕ) → at < length b → ◌≡◌ {A = Option ℕ × List ℕ} (Some 1, set b at v) (placed b at (v ∷ []))
+placed_one b at v h = ap (λ (l : List ℕ). (Some 1, l)) (laid_one b at v h) ∙ sym (placed-fits b at (v ∷ []) (omega arith))
 
--- What is left of a call that placed bytes: n is its answer, l the buffer after it.
-module _ (b : List ℕ) (at : ℕ) (xs : List ℕ) (n : ℕ) (l : List ℕ) (e : ◌≡◌ {A = ℕ × List ℕ} (n, l) (placed b at xs)) where
-  -- the buffer keeps its length
-  pub placed-length : length l ≡ length b
-  placed-length =
-      ap (λ (x : ℕ × List ℕ). length x.1) e
-      ∙ ⊎_elim (λ w. ap (λ (x : ℕ × List ℕ). length x.1) w.1 ∙ length-laid b at xs w.0)
-      (λ w. ap (λ (x : ℕ × List ℕ). length x.1) w.1) (placed_or b at xs)
+-- a value's bytes are some
+pub written-some : (b : List ℕ) (at : ℕ) (out : List ℕ) → 0 < length out → written b at out ≡ placed b at out
+written-some b at [] h = absurd (omega arith)
+written-some b at (x ∷ xs) h = refl
 
-  -- no more bytes are put than there are
-  pub placed-most : n ≤ length xs
-  placed-most = ⊎_elim
-      (λ w. rw (ap (λ (x : ℕ × List ℕ). x.0) (e ∙ w.1)) (omega arith))
-      (λ w. rw (ap (λ (x : ℕ × List ℕ). x.0) (e ∙ w.1)) (omega arith))
-      (placed_or b at xs)
+pub size_of-some : (out : List ℕ) → 0 < length out → size_of out ≡ Some (length out)
+size_of-some [] h = absurd (omega arith)
+size_of-some (x ∷ xs) h = refl
 
-  module _ (h : at + length xs ≤ length b) where
-    placed_pair : ◌≡◌ {A = ℕ × List ℕ} (n, l) (length xs, laid b at xs)
-    placed_pair = e ∙ placed-fits b at xs h
+-- A call that placed bytes leaves a buffer of the same length.
+pub placed-length : (b : List ℕ) (at : ℕ) (xs : List ℕ) (r : Option ℕ) (l : List ℕ) → ◌≡◌ {A = Option ℕ × List ℕ} (r, l) (placed b at xs) → length l ≡ length b
+placed-length b at xs r l e =
+    ap (λ (x : Option ℕ × List ℕ). length x.1) e
+    ∙ ⊎_elim (λ w. ap (λ (x : Option ℕ × List ℕ). length x.1) w.1 ∙ length-laid b at xs w.0)
+    (λ w. ap (λ (x : Option ℕ × List ℕ). length x.1) w.1) (placed_or b at xs)
 
-    pub placed_count : n ≡ length xs
-    placed_count = ap (λ (x : ℕ × List ℕ). x.0) placed_pair
+-- none is put only where there is no room, and then nothing alters
+pub placed-none : (b : List ℕ) (at : ℕ) (xs : List ℕ) (l : List ℕ) → ◌≡◌ {A = Option ℕ × List ℕ} (None, l) (placed b at xs) → (length b < at + length xs) × (l ≡ b)
+placed-none b at xs l e = ⊎_elim
+    (λ w. absurd (none-some (length xs) (ap (λ (x : Option ℕ × List ℕ). x.0) (e ∙ w.1))))
+    (λ w. (w.0, ap (λ (x : Option ℕ × List ℕ). x.1) (e ∙ w.1)))
+    (placed_or b at xs)
 
-    pub placed-laid : l ≡ laid b at xs
-    placed-laid = ap (λ (x : ℕ × List ℕ). x.1) placed_pair
+-- where there is room, all bytes are put
+pub placed-room : (b : List ℕ) (at : ℕ) (xs : List ℕ) (l : List ℕ) → at + length xs ≤ length b → ◌≡◌ {A = Option ℕ × List ℕ} (None, l) (placed b at xs) → ⊥
+placed-room b at xs l h e = let k = placed-none b at xs l e in omega (arith, k.0)
 
-  -- none is put only where there is no room
-  pub placed-none : n ≡ 0 → 0 < length xs → (length b < at + length xs) × (l ≡ b)
-  placed-none z p = ⊎_elim
-      (λ w. absurd (omega (arith, ap (λ (x : ℕ × List ℕ). x.0) (e ∙ w.1))))
-      (λ w. (w.0, ap (λ (x : ℕ × List ℕ). x.1) (e ∙ w.1)))
-      (placed_or b at xs)
-
+-- What is left of a call that put n bytes.
+module _ (b : List ℕ) (at : ℕ) (xs : List ℕ) (n : ℕ) (l : List ℕ) (e : ◌≡◌ {A = Option ℕ × List ℕ} (Some n, l) (placed b at xs)) where
   -- some are put only where there is room for all, and then all
-  pub placed-some : (n ≡ 0 → ⊥) → (at + length xs ≤ length b) × (n ≡ length xs) × (l ≡ laid b at xs)
-  placed-some f = ⊎_elim
-      (λ w. (w.0, placed_count w.0, placed-laid w.0))
-      (λ w. absurd (f (ap (λ (x : ℕ × List ℕ). x.0) (e ∙ w.1))))
+  pub placed-some : (at + length xs ≤ length b) × (n ≡ length xs) × (l ≡ laid b at xs)
+  placed-some = ⊎_elim
+      (λ w. (w.0, same_Some n (length xs) (ap (λ (x : Option ℕ × List ℕ). x.0) (e ∙ w.1)), ap (λ (x : Option ℕ × List ℕ). x.1) (e ∙ w.1)))
+      (λ w. absurd (none-some n (sym (ap (λ (x : Option ℕ × List ℕ). x.0) (e ∙ w.1)))))
       (placed_or b at xs)
 
   -- a second call puts its bytes behind those of the first
-  pub placed_then : (ys : List ℕ) (m : ℕ) (l' : List ℕ) → at + (length xs + length ys) ≤ length b →
-      ◌≡◌ {A = ℕ × List ℕ} (m, l') (placed l (at + n) ys) → ◌≡◌ {A = ℕ × List ℕ} (n + m, l') (placed b at (xs ++ ys))
-  placed_then ys m l' h e' =
-      let p : n ≡ length xs = placed_count (omega arith) in
-      let q : l ≡ laid b at xs = placed-laid (omega arith) in
-      let k : at + n + length ys ≤ length l = rw placed-length (omega arith) in
-      let r : ◌≡◌ {A = ℕ × List ℕ} (m, l') (length ys, laid l (at + n) ys) = e' ∙ placed-fits l (at + n) ys k in
-      placed_by b at (xs ++ ys) (n + m) l' (rw (length-append xs ys) h)
-      (rw (length-append xs ys, p, ap (λ (x : ℕ × List ℕ). x.0) r) refl)
-      (ap (λ (x : ℕ × List ℕ). x.1) r ∙ rw (p, q) (laid_more b at xs (omega arith) ys))
+  pub placed_then : (ys : List ℕ) (m : ℕ) (l' : List ℕ) → ◌≡◌ {A = Option ℕ × List ℕ} (Some m, l') (placed l (at + n) ys) → ◌≡◌ {A = Option ℕ × List ℕ} (Some (n + m), l') (placed b at (xs ++ ys))
+  placed_then ys m l' e' =
+      let p = placed-some in
+      let k : length l ≡ length b = placed-length b at xs (Some n) l e in
+      let q = placed_second ys m l' e' in
+      placed_by b at (xs ++ ys) (n + m) l' (omega (arith, p.1, q.0, k, length-append xs ys)) (omega (arith, p.1, q.1, length-append xs ys))
+      (q.2 ∙ rw (p.2, p.1) (laid_more b at xs p.0 ys))
+    where
+      placed_second : (ys : List ℕ) (m : ℕ) (l' : List ℕ) → ◌≡◌ {A = Option ℕ × List ℕ} (Some m, l') (placed l (at + n) ys)
+          → (at + n + length ys ≤ length l) × (m ≡ length ys) × (l' ≡ laid l (at + n) ys)
+      placed_second ys m l' e' = ⊎_elim
+          (λ w. (w.0, same_Some m (length ys) (ap (λ (x : Option ℕ × List ℕ). x.0) (e' ∙ w.1)), ap (λ (x : Option ℕ × List ℕ). x.1) (e' ∙ w.1)))
+          (λ w. absurd (none-some m (sym (ap (λ (x : Option ℕ × List ℕ). x.0) (e' ∙ w.1)))))
+          (placed_or l (at + n) ys)
+
+  -- a second call has no room for its bytes only where both have none
+  pub placed_then_none : (ys : List ℕ) (l' : List ℕ) → ◌≡◌ {A = Option ℕ × List ℕ} (None, l') (placed l (at + n) ys) → length b < at + (length xs + length ys)
+  placed_then_none ys l' e' =
+      let p = placed-some in
+      let k : length l ≡ length b = placed-length b at xs (Some n) l e in
+      let q = placed-none l (at + n) ys l' e' in
+      omega (arith, p.1, q.0, k)
+
+-- a byte before those that a call has put or found no room for
+pub placed_cons : (b : List ℕ) (at v : ℕ) (xs : List ℕ) (n : ℕ) (l : List ℕ) → ◌≡◌ {A = Option ℕ × List ℕ} (Some n, l) (placed b (at + 1) xs)
+    → ◌≡◌ {A = Option ℕ × List ℕ} (Some (1 + n), set l at v) (placed b at (v ∷ xs))
+placed_cons b at v xs n l e =
+    let p = placed-some b (at + 1) xs n l e in
+    placed_by b at (v ∷ xs) (1 + n) _ (omega (arith, p.0)) (omega (arith, p.1)) (ap (λ (k : List ℕ). set k at v) p.2 ∙ laid_cons b at xs v p.0)
+
+pub placed_cons_none : (b : List ℕ) (at v : ℕ) (xs : List ℕ) (l : List ℕ) → ◌≡◌ {A = Option ℕ × List ℕ} (None, l) (placed b (at + 1) xs)
+    → ◌≡◌ {A = Option ℕ × List ℕ} (None, l) (placed b at (v ∷ xs))
+placed_cons_none b at v xs l e =
+    let p = placed-none b (at + 1) xs l e in
+    rw p.1 (sym (placed_full b at (v ∷ xs) (omega (arith, p.0))))
 
 -- ---- what a test of the room tells
 
@@ -204,8 +236,8 @@ leb_iff a b x y f g = go (leb a b) (leb x y) refl refl
     go false true p q = sym p ∙ le-leb a b (g (leb-true x y q))
 
 module _ (r : Bool) (b : List ℕ) (end : ℕ) (e : r ≡ leb end (length b)) where
-  pub no_room : not r ≡ true → length b < end
-  no_room t = leb-false end (length b) (sym e ∙ not-true r t)
+  pub no_room : r ≡ false → length b < end
+  no_room t = leb-false end (length b) (sym e ∙ t)
 
-  pub room : not r ≡ false → end ≤ length b
-  room t = leb-true end (length b) (sym e ∙ not-false r t)
+  pub room : r ≡ true → end ≤ length b
+  room t = leb-true end (length b) (sym e ∙ t)

@@ -1,7 +1,7 @@
-// Bytes laid into a lent buffer. Each function that puts bytes tests its room itself: it answers how many bytes it put, and puts all or none.
+// Bytes laid into a lent buffer. Each function that puts bytes tests its room itself: it puts all of them and answers how many these are, or puts none.
 #![tactic(auto)]
 
-ghost use Rattle.std.specs.Prelude.{◌≡◌, List, [], ◌∷◌, ℕ, ◌+◌, leb};
+ghost use Rattle.std.specs.Prelude.{◌≡◌, List, [], ◌∷◌, ℕ, Option, ◌+◌, leb};
 ghost use Rattle.buffer.specs.Laid.{placed};
 
 // Whether `count` bytes from `at` on lie within `room`. The sum may be more than a word holds.
@@ -15,27 +15,26 @@ pub fn has_room(room: usize, at: usize, count: usize) -> bool
 }
 
 // One byte at `at`.
-pub fn put(buf: &mut [u8], at: usize, byte: u8) -> usize
-    ensures { ◌≡◌ {A = ℕ × List ℕ} (result, buf.new) (placed buf.old at (byte ∷ [])) }
+pub fn put(buf: &mut [u8], at: usize, byte: u8) -> Option<usize>
+    ensures { ◌≡◌ {A = Option ℕ × List ℕ} (result, buf.new) (placed buf.old at (byte ∷ [])) }
 {
     if buf.len() <= at {
-        return 0;
+        return None;
     }
     buf[at] = byte;
-    1
+    Some(1)
 }
 
 // The bytes of `src`, from `at` on.
-pub fn copy(buf: &mut [u8], at: usize, src: &[u8]) -> usize
-    ensures { ◌≡◌ {A = ℕ × List ℕ} (result, buf.new) (placed buf.old at src.now) }
+pub fn copy(buf: &mut [u8], at: usize, src: &[u8]) -> Option<usize>
+    ensures { ◌≡◌ {A = Option ℕ × List ℕ} (result, buf.new) (placed buf.old at src.now) }
 {
     if !has_room(buf.len(), at, src.len()) {
-        return 0;
+        return None;
     }
-    let mut i: usize = 0;
-    while i < src.len() {
-        buf[at + i] = src[i];
-        i += 1;
+    // The library's copy_from_slice becomes a call of memmove, which scripts/no-copies takes for a copy of the state.
+    for (i, byte) in src.iter().enumerate() {
+        buf[at + i] = *byte;
     }
-    i
+    Some(src.len())
 }

@@ -1,4 +1,5 @@
 // The Gregorian calendar: the days of a month, and the days and minutes counted from the year 0 on.
+// Year and month are two numbers: each caller has them in a record of its own, and would make another for one call.
 #![tactic(auto)]
 
 ghost use Rattle.std.specs.Prelude.{◌≡◌};

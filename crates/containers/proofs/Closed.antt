@@ -1,6 +1,6 @@
 -- A close by parts of the buffer, and an abandonment.
 -- By cases of the checks. Assumes nothing.
-use mathlib.Core.Path.{◌≡◌, refl, sym, ◌∙◌}
+use mathlib.Core.Path.{◌≡◌, refl, sym, ◌∙◌, ap}
 use mathlib.Core.List.{List, [], ◌++◌}
 use mathlib.Core.Bool.{true, false, ◌&&◌}
 use Prim.Native.Nat.{ℕ, ◌+◌, ◌-◌, ◌≤◌}
@@ -8,12 +8,13 @@ use native.Mathlib.Omega.{arith}
 use lib.Dec.{leb}
 use lib.ListN.{length, take, drop, length-append}
 use lib.Seq.{take-take}
-use borrow.Author.Tests.{eq-eqb, ne_eqb}
+use borrow.Author.Tests.{eq-eqb, le-leb, ne_eqb}
 use Rattle.ion.specs.Value.{annotation_code}
 use Rattle.encoding.specs.Headers.{type_byte, header_bytes, framed_bytes}
 use Rattle.machine.specs.declared.Container.{Container}
 use Rattle.machine.specs.Machine.{closed_bytes, length_if_moved, moved_bytes, splice, container_fits}
-use Rattle.containers.specs.Containers.{not_closed, spliced, closed_on, abandoned_on}
+use Rattle.std.proofs.Common.{None}
+use Rattle.containers.specs.Containers.{spliced, closed_on, abandoned_on}
 use Rattle.encoding.proofs.Headers.{length_header}
 use Rattle.containers.proofs.Moves.{part, length_part, slice-part}
 
@@ -25,7 +26,18 @@ module _ (c : Container) (used : ℕ) (b : List ℕ) where
   unfolding closed_on
   closed_on-fits e = rw (closed_on, e) refl
 
-  pub closed_on_not : (container_fits used c && leb used (length b)) ≡ false → closed_on c used b ≡ (not_closed, b)
+  -- of a container that fits a buffer with that used length
+  pub closed_on_held : container_fits used c ≡ true → used ≤ length b → closed_on c used b
+      ≡ spliced used c.start (closed_bytes c.start c.header c.code (take used b)) (moved_bytes c.start c.header c.code (take used b)) b
+  closed_on_held f u = closed_on-fits (rw (f, le-leb used (length b) u) refl)
+
+  pub closed_on_plain : container_fits used c ≡ true → used ≤ length b → c.header ≡ c.start → closed_on c used b
+      ≡ spliced used c.start (closed_bytes c.start c.start c.code (take used b)) (moved_bytes c.start c.start c.code (take used b)) b
+  closed_on_plain f u h =
+      closed_on_held f u
+      ∙ ap (λ (n : ℕ). spliced used c.start (closed_bytes c.start n c.code (take used b)) (moved_bytes c.start n c.code (take used b)) b) h
+
+  pub closed_on_not : (container_fits used c && leb used (length b)) ≡ false → closed_on c used b ≡ (None, b)
   unfolding closed_on
   closed_on_not e = rw (closed_on, e) refl
 

@@ -11,7 +11,8 @@ use Rattle.machine.specs.Machine.{splice}
 use Rattle.buffer.specs.Laid.{laid}
 use Rattle.buffer.proofs.Laid.{laid_is, laid_more, laid-before}
 use Rattle.containers.specs.declared.Closing.{Closing}
-use Rattle.containers.specs.Containers.{not_closed, spliced}
+use Rattle.std.proofs.Common.{Option, Some, None}
+use Rattle.containers.specs.Containers.{spliced}
 
 -- ---- two runs side by side, the second at a place that the code computes
 
@@ -43,18 +44,18 @@ module _ (used p : ℕ) (out b : List ℕ) where
   pub splice-laid : p + length out ≤ length b → laid (laid b p out) (p + length out) (zeros (used - (p + length out))) ≡ splice used p out b
   splice-laid h = laid_more b p out h (zeros (used - (p + length out))) ∙ sym (splice_run h)
 
-  spliced-fits : (moved : ℕ) → p + length out ≤ length b → spliced used p out moved b ≡ (record { used = p + length out; moved = moved }, splice used p out b)
+  spliced-fits : (moved : ℕ) → p + length out ≤ length b → spliced used p out moved b ≡ (Some (record { used = p + length out; moved = moved }), splice used p out b)
   unfolding spliced
   spliced-fits moved h = rw (spliced, le-leb (p + length out) (length b) h) refl
 
-  pub spliced_full : (moved : ℕ) → length b < p + length out → spliced used p out moved b ≡ (not_closed, b)
+  pub spliced_full : (moved : ℕ) → length b < p + length out → spliced used p out moved b ≡ (None, b)
   unfolding spliced
   spliced_full moved h = rw (spliced, lt-leb (p + length out) (length b) h) refl
 
   -- the run is laid, and the rest cleared
   pub spliced_by : (end moved n : ℕ) {l l' : List ℕ} → end ≡ p + length out → end ≤ length b → n ≡ moved → l ≡ laid b p out
       → l' ≡ laid l end (zeros (used - end)) →
-      ◌≡◌ {A = Closing × List ℕ} (record { used = end; moved = n }, l') (spliced used p out moved b)
+      ◌≡◌ {A = Option Closing × List ℕ} (Some (record { used = end; moved = n }), l') (spliced used p out moved b)
   spliced_by end moved n e h m q q' = rw (q', q, e, m) (rw (splice-laid (omega arith)) (sym (spliced-fits moved (omega arith))))
 
 -- a splice of nothing clears

@@ -1,13 +1,13 @@
 // Containers in a lent buffer: opening reserves two bytes for each header, closing puts the headers in their short form and moves what lies behind them.
 #![tactic(auto)]
 
-ghost use Rattle.std.specs.Prelude.{◌≡◌, Bool, List, [], ◌∷◌, ◌++◌, ℕ, ◌+◌, ◌-◌, ◌*◌, ◌/◌, ◌<◌, ◌≤◌, length, take, drop, replicate};
+ghost use Rattle.std.specs.Prelude.{◌≡◌, Bool, true, List, Option, [], ◌∷◌, ◌++◌, ℕ, ◌+◌, ◌-◌, ◌*◌, ◌/◌, ◌<◌, ◌≤◌, length, take, drop, replicate};
 ghost use Rattle.encoding.specs.Headers.{header_bytes, annotation_bytes};
-ghost use Rattle.machine.specs.Machine.{reserve, closed_bytes, length_if_moved, moved_bytes};
+ghost use Rattle.machine.specs.Machine.{reserve, closed_bytes, length_if_moved, moved_bytes, container_fits};
 ghost use Rattle.buffer.specs.Laid.{laid, placed};
 ghost use Rattle.annotations.specs.Sids.{sids_of};
 ghost use Rattle.containers.specs.declared.Closing.{Closing};
-ghost use Rattle.containers.specs.Containers.{spliced, closed_on, abandoned_on};
+ghost use Rattle.containers.specs.Containers.{closed_on, abandoned_on};
 
 use annotations::WRAPPER;
 
@@ -21,43 +21,15 @@ pub struct Closing {
     pub moved: usize,
 }
 
-// The `count` bytes at `from` to `to`, which lies before, first byte first: how many it moved.
-fn move_left(buf: &mut [u8], from: usize, to: usize, count: usize) -> usize
-    requires { (to ≤ from) × (from + count ≤ length buf.old) }
-    ensures { (result ≡ count) × (buf.new ≡ laid buf.old to (take count (drop from buf.old))) }
-{
-    let mut i: usize = 0;
-    while i < count {
-        buf[to + i] = buf[from + i];
-        i += 1;
-    }
-    i
-}
-
-// The `count` bytes at `from` to `to`, which lies behind, last byte first: how many it moved.
-fn move_right(buf: &mut [u8], from: usize, to: usize, count: usize) -> usize
-    requires { (from ≤ to) × (to + count ≤ length buf.old) }
-    ensures { (result ≡ count) × (buf.new ≡ laid buf.old to (take count (drop from buf.old))) }
-{
-    let mut i = count;
-    while 0 < i {
-        i -= 1;
-        buf[to + i] = buf[from + i];
-    }
-    count - i
-}
-
 // The `count` bytes at `from` to `to`, either way: how many moved. Where they lie there already, none does.
 fn move_bytes(buf: &mut [u8], from: usize, to: usize, count: usize) -> usize
     requires { (from + count ≤ length buf.old) × (to + count ≤ length buf.old) }
     ensures { (result ≡ length_if_moved from to count)
         × (buf.new ≡ laid buf.old to (take count (drop from buf.old))) }
 {
-    if to < from {
-        return move_left(buf, from, to, count);
-    }
-    if from < to {
-        return move_right(buf, from, to, count);
+    if from != to {
+        buf.copy_within(from..from + count, to);
+        return count;
     }
     0
 }
@@ -67,10 +39,8 @@ fn clear(buf: &mut [u8], from: usize, to: usize)
     requires { (from ≤ length buf.old) × (to ≤ length buf.old) }
     ensures { buf.new ≡ laid buf.old from (replicate (to - from) 0) }
 {
-    let mut i = from;
-    while i < to {
-        buf[i] = 0;
-        i += 1;
+    if from < to {
+        buf[from..to].fill(0);
     }
 }
 
@@ -82,91 +52,101 @@ fn put_header(buf: &mut [u8], at: usize, code: u8, body: usize)
     header::write(buf, at, code, body);
 }
 
-// A container without annotations: its header in the short form, and its body behind it.
-fn close_plain(buf: &mut [u8], used: usize, start: usize, code: u8) -> Closing
-    requires { (code / 16 * 16 ≡ code) × (start + 2 ≤ used) × (used ≤ length buf.old) }
-    ensures { ◌≡◌ {A = Closing × List ℕ} (result, buf.new)
-        (spliced used start (closed_bytes start start code (take used buf.old)) (moved_bytes start start code (take used buf.old))
-        buf.old) }
-{
-    let body = used - (start + RESERVE);
-    let size = header::encoded_size_of(body);
-    let end = start + size + body;
-    if buf.len() < end {
-        return Closing { used: 0, moved: 0 };
-    }
-    let moved = move_bytes(buf, start + RESERVE, start + size, body);
-    put_header(buf, start, code, body);
-    clear(buf, end, used);
-    Closing { used: end, moved }
+// A container that fits and ends at `used`.
+#[derive(Clone, Copy)]
+struct Ending {
+    c: machine::Container,
+    used: usize,
+    ghost fits: { container_fits used c ≡ true },
 }
 
-// The wrapper's header, the annotations, the inner header and the body, each at its final place; `inner` and `wrapper` are the sizes of the headers.
-// Annotations and body move once each: how many of their bytes moved. The part that moves to the right makes way first: the body, unless the wrapper's
-// header has one byte.
-fn lay_wrapped(
-    buf: &mut [u8],
-    start: usize,
-    header: usize,
-    code: u8,
-    body: usize,
-    inner: usize,
-    wrapper: usize,
-) -> usize
-    requires { (code / 16 * 16 ≡ code) × (start + 2 ≤ header) × (header + 2 + body ≤ length buf.old)
-        × (start + wrapper + (header - (start + 2)) + inner + body ≤ length buf.old)
-        × (inner ≡ length (header_bytes 0 body)) × (wrapper ≡ length (header_bytes 0 (header - (start + 2) + inner + body))) }
-    ensures { (result ≡ moved_bytes start header code (take (header + 2 + body) buf.old))
-        × (buf.new ≡ laid buf.old start (closed_bytes start header code (take (header + 2 + body) buf.old))) }
-{
-    let noted = header - (start + RESERVE);
-    let place = start + wrapper + noted;
-    if wrapper < RESERVE {
-        let noted_moved = move_bytes(buf, start + RESERVE, start + wrapper, noted);
-        put_header(buf, place, code, body);
+impl Ending {
+    // A container without annotations: its header in the short form, and its body behind it.
+    fn close_plain(self, buf: &mut [u8]) -> Option<Closing>
+        requires { (self.c.header ≡ self.c.start) × (self.used ≤ length buf.old) }
+        ensures { ◌≡◌ {A = Option Closing × List ℕ} (result, buf.new) (closed_on self.c self.used buf.old) }
+    {
+        let start = self.c.start;
+        let body = self.used - (start + RESERVE);
+        let size = header::encoded_size_of(body);
+        let end = start + size + body;
+        if buf.len() < end {
+            return None;
+        }
+        let moved = move_bytes(buf, start + RESERVE, start + size, body);
+        put_header(buf, start, self.c.code, body);
+        clear(buf, end, self.used);
+        Some(Closing { used: end, moved })
+    }
+
+    // The wrapper's header, the annotations, the inner header and the body, each at its final place; `inner` and `wrapper` are the sizes of the headers.
+    // Annotations and body move once each: how many of their bytes moved. The part that moves to the right makes way first: the body, unless the
+    // wrapper's header has one byte.
+    fn lay_wrapped(self, buf: &mut [u8], inner: usize, wrapper: usize) -> usize
+        requires apart { self.c.start + 2 ≤ self.c.header }
+        requires held { self.used ≤ length buf.old }
+        requires room { self.c.start + wrapper + (self.c.header - (self.c.start + 2)) + inner + (self.used - (self.c.header + 2)) ≤ length buf.old }
+        requires inner_size { inner ≡ length (header_bytes 0 (self.used - (self.c.header + 2))) }
+        requires wrapper_size { wrapper ≡ length (header_bytes 0 (self.c.header - (self.c.start + 2) + inner + (self.used - (self.c.header + 2)))) }
+        ensures moved { result ≡ moved_bytes self.c.start self.c.header self.c.code (take self.used buf.old) }
+        ensures bytes { buf.new ≡ laid buf.old self.c.start (closed_bytes self.c.start self.c.header self.c.code (take self.used buf.old)) }
+    {
+        let machine::Container {
+            start,
+            header,
+            code,
+            ..
+        } = self.c;
+        let body = self.used - (header + RESERVE);
+        let noted = header - (start + RESERVE);
+        let place = start + wrapper + noted;
+        if wrapper < RESERVE {
+            let noted_moved = move_bytes(buf, start + RESERVE, start + wrapper, noted);
+            put_header(buf, place, code, body);
+            let body_moved = move_bytes(buf, header + RESERVE, place + inner, body);
+            put_header(buf, start, WRAPPER, noted + inner + body);
+            return body_moved + noted_moved;
+        }
         let body_moved = move_bytes(buf, header + RESERVE, place + inner, body);
+        put_header(buf, place, code, body);
+        let noted_moved = move_bytes(buf, start + RESERVE, start + wrapper, noted);
         put_header(buf, start, WRAPPER, noted + inner + body);
-        return body_moved + noted_moved;
+        body_moved + noted_moved
     }
-    let body_moved = move_bytes(buf, header + RESERVE, place + inner, body);
-    put_header(buf, place, code, body);
-    let noted_moved = move_bytes(buf, start + RESERVE, start + wrapper, noted);
-    put_header(buf, start, WRAPPER, noted + inner + body);
-    body_moved + noted_moved
-}
 
-// A container with annotations: the wrapper's length counts the inner header in its final size.
-fn close_annotated(buf: &mut [u8], used: usize, start: usize, header: usize, code: u8) -> Closing
-    requires { (code / 16 * 16 ≡ code) × (start + 2 ≤ header) × (header + 2 ≤ used) × (used ≤ length buf.old) }
-    ensures { ◌≡◌ {A = Closing × List ℕ} (result, buf.new)
-        (spliced used start (closed_bytes start header code (take used buf.old)) (moved_bytes start header code (take used buf.old))
-        buf.old) }
-{
-    let body = used - (header + RESERVE);
-    let inner = header::encoded_size_of(body);
-    let content = header - (start + RESERVE) + inner + body;
-    let wrapper = header::encoded_size_of(content);
-    let end = start + wrapper + content;
-    if buf.len() < end {
-        return Closing { used: 0, moved: 0 };
+    // A container with annotations: the wrapper's length counts the inner header in its final size.
+    fn close_annotated(self, buf: &mut [u8]) -> Option<Closing>
+        requires { (self.c.start + 2 ≤ self.c.header) × (self.used ≤ length buf.old) }
+        ensures { ◌≡◌ {A = Option Closing × List ℕ} (result, buf.new) (closed_on self.c self.used buf.old) }
+    {
+        let machine::Container { start, header, .. } = self.c;
+        let body = self.used - (header + RESERVE);
+        let inner = header::encoded_size_of(body);
+        let content = header - (start + RESERVE) + inner + body;
+        let wrapper = header::encoded_size_of(content);
+        let end = start + wrapper + content;
+        if buf.len() < end {
+            return None;
+        }
+        let moved = self.lay_wrapped(buf, inner, wrapper);
+        clear(buf, end, self.used);
+        Some(Closing { used: end, moved })
     }
-    let moved = lay_wrapped(buf, start, header, code, body, inner, wrapper);
-    clear(buf, end, used);
-    Closing { used: end, moved }
 }
 
 // The container that ends at `used`, with its headers in their final form: the used length on return, and how many bytes moved. Freed bytes become zero.
-// 0 and 0, and the buffer as it was, where the container does not fit or the result would pass the buffer.
-pub fn close(buf: &mut [u8], used: usize, c: machine::Container) -> Closing
-    ensures { ◌≡◌ {A = Closing × List ℕ} (result, buf.new) (closed_on c used buf.old) }
+// None, and the buffer as it was, where the container does not fit or the result would pass the buffer.
+pub fn close(buf: &mut [u8], used: usize, c: machine::Container) -> Option<Closing>
+    ensures { ◌≡◌ {A = Option Closing × List ℕ} (result, buf.new) (closed_on c used buf.old) }
 {
     if !(place::container_fits(c, used) & (used <= buf.len())) {
-        return Closing { used: 0, moved: 0 };
+        return None;
     }
+    let ending = Ending { c, used };
     if c.header == c.start {
-        return close_plain(buf, used, c.start, c.code);
+        return ending.close_plain(buf);
     }
-    close_annotated(buf, used, c.start, c.header, c.code)
+    ending.close_annotated(buf)
 }
 
 // The bytes from `start` up to `used` become zero: whether they lie in the buffer, and else nothing alters.
@@ -180,41 +160,27 @@ pub fn abandon(buf: &mut [u8], used: usize, start: usize) -> bool
     true
 }
 
-// The reserve of a header: two zero bytes.
-fn put_reserve(buf: &mut [u8], at: usize) -> usize
-    ensures { ◌≡◌ {A = ℕ × List ℕ} (result, buf.new) (placed buf.old at (0 ∷ 0 ∷ [])) }
-{
-    if !buffer::has_room(buf.len(), at, RESERVE) {
-        return 0;
-    }
-    clear(buf, at, at + RESERVE);
-    RESERVE
-}
-
 // The wrapper's reserve, the annotations and the header's reserve.
-fn open_annotated(buf: &mut [u8], at: usize, annotations: &[u8]) -> usize
-    ensures { ◌≡◌ {A = ℕ × List ℕ} (result, buf.new)
+fn open_annotated(buf: &mut [u8], at: usize, annotations: &[u8]) -> Option<usize>
+    ensures { ◌≡◌ {A = Option ℕ × List ℕ} (result, buf.new)
         (placed buf.old at (0 ∷ 0 ∷ (annotation_bytes (sids_of annotations.now) ++ (0 ∷ 0 ∷ [])))) }
 {
     if !buffer::has_room(buf.len(), at, 2 * RESERVE) {
-        return 0;
+        return None;
     }
-    let noted = annotations::write_before(buf, at + RESERVE, annotations, RESERVE);
-    if noted == 0 {
-        return 0;
-    }
+    let noted = annotations::write_before(buf, at + RESERVE, annotations, RESERVE)?;
     let header = at + RESERVE + noted;
     clear(buf, at, at + RESERVE);
     clear(buf, header, header + RESERVE);
-    noted + 2 * RESERVE
+    Some(noted + 2 * RESERVE)
 }
 
 // What an opening reserves: two zero bytes; with annotations two zero bytes, the annotations and two more.
-pub fn open(buf: &mut [u8], at: usize, annotations: &[u8]) -> usize
-    ensures { ◌≡◌ {A = ℕ × List ℕ} (result, buf.new) (placed buf.old at (reserve (sids_of annotations.now))) }
+pub fn open(buf: &mut [u8], at: usize, annotations: &[u8]) -> Option<usize>
+    ensures { ◌≡◌ {A = Option ℕ × List ℕ} (result, buf.new) (placed buf.old at (reserve (sids_of annotations.now))) }
 {
-    if annotations.len() == 0 {
-        return put_reserve(buf, at);
+    if annotations.is_empty() {
+        return buffer::copy(buf, at, &[0; RESERVE]);
     }
     open_annotated(buf, at, annotations)
 }

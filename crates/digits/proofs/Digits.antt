@@ -5,6 +5,7 @@ use mathlib.Core.List.{List, [], ◌∷◌, ◌++◌}
 use Prim.Native.Nat.{ℕ, suc, ◌+◌, ◌/◌, ◌%◌, ◌≤◌, ◌<◌}
 use native.Mathlib.Omega.{arith}
 use lib.ListN.{length, set}
+use Rattle.std.specs.Prelude.{Option, Some, None}
 use Rattle.encoding.specs.Digits.{low_digits}
 use Rattle.encoding.proofs.Digits.{length-low_digits, low_digits_last}
 use Rattle.buffer.specs.Laid.{laid, placed}
@@ -16,19 +17,20 @@ pub record AllPut (b : List ℕ) (at base size n put : ℕ) (l : List ℕ) : Typ
   pub room : at + size ≤ length b
   pub digits : l ≡ laid b at (low_digits base size n)
 
-module _ (b : List ℕ) (at base size n put : ℕ) (l : List ℕ) (e : ◌≡◌ {A = ℕ × List ℕ} (put, l) (placed b at (low_digits base size n))) where
-  -- none is put: other bytes, as many, have no room either
-  pub none_put : (ys : List ℕ) → put ≡ 0 → 0 < size → size ≡ length ys → ◌≡◌ {A = ℕ × List ℕ} (0, l) (placed b at ys)
-  none_put ys z p q =
-      let w = length-low_digits base size n in
-      let k = placed-none b at (low_digits base size n) put l e z (omega arith) in
-      rw k.1 (sym (placed_full b at ys (omega arith)))
+-- none is put: other bytes, as many, have no room either
+pub none_put : (b : List ℕ) (at base size n : ℕ) (l : List ℕ) → ◌≡◌ {A = Option ℕ × List ℕ} (None, l) (placed b at (low_digits base size n))
+    → (ys : List ℕ) → size ≡ length ys → ◌≡◌ {A = Option ℕ × List ℕ} (None, l) (placed b at ys)
+none_put b at base size n l e ys q =
+    let w = length-low_digits base size n in
+    let k = placed-none b at (low_digits base size n) l e in
+    rw k.1 (sym (placed_full b at ys (omega arith)))
 
-  pub all_put : (put ≡ 0 → ⊥) → AllPut b at base size n put l
-  all_put some =
-      let w = length-low_digits base size n in
-      let k = placed-some b at (low_digits base size n) put l e some in
-      record { count = k.1 ∙ w; room = omega arith; digits = k.2 }
+pub all_put : (b : List ℕ) (at base size n put : ℕ) (l : List ℕ) → ◌≡◌ {A = Option ℕ × List ℕ} (Some put, l) (placed b at (low_digits base size n))
+    → AllPut b at base size n put l
+all_put b at base size n put l e =
+    let w = length-low_digits base size n in
+    let k = placed-some b at (low_digits base size n) put l e in
+    record { count = k.1 ∙ w; room = omega arith; digits = k.2 }
 
 -- the last of them put again
 pub laid_last : (b l : List ℕ) (at base k n p v : ℕ) → p ≡ at + k → at + suc k ≤ length b → l ≡ laid b at (low_digits base (suc k) n) →

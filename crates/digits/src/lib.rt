@@ -1,7 +1,7 @@
 // Digits of a number in a base, and the bits that tell how many there are.
 #![tactic(auto)]
 
-ghost use Rattle.std.specs.Prelude.{◌≡◌, List, ℕ, ◌+◌, ◌-◌, ◌^◌, ◌≤◌, SomeIff};
+ghost use Rattle.std.specs.Prelude.{◌≡◌, List, ℕ, Option, ◌+◌, ◌-◌, ◌^◌, ◌≤◌, SomeIff};
 ghost use Rattle.std.specs.Int.Count.{count_leading_zeros};
 ghost use Rattle.encoding.specs.Digits.{low_digits};
 ghost use Rattle.buffer.specs.Laid.{placed};
@@ -15,21 +15,25 @@ pub fn bits_used(value: u64) -> usize
 
 // The lowest `count` digits of `value`, most significant first, in the base whose greatest digit is `greatest`: no such base is zero, and each digit is a byte.
 // They are put from the last to the first.
-pub fn put_digits(buf: &mut [u8], at: usize, count: usize, greatest: u8, value: u64) -> usize
-    ensures { ◌≡◌ {A = ℕ × List ℕ} (result, buf.new) (placed buf.old at (low_digits (greatest + 1) count value)) }
+pub fn put_digits(
+    buf: &mut [u8],
+    at: usize,
+    count: usize,
+    greatest: u8,
+    value: u64,
+) -> Option<usize>
+    ensures { ◌≡◌ {A = Option ℕ × List ℕ} (result, buf.new) (placed buf.old at (low_digits (greatest + 1) count value)) }
 {
     if !buffer::has_room(buf.len(), at, count) {
-        return 0;
+        return None;
     }
-    let base = greatest as u64 + 1;
-    let mut i = count;
+    let base = u64::from(greatest) + 1;
     let mut rest = value;
-    while 0 < i {
-        i -= 1;
+    for i in (0..count).rev() {
         buf[at + i] = (rest % base) as u8;
         rest = rest / base;
     }
-    count
+    Some(count)
 }
 
 // The powers of ten that 64 bits hold, each at its exponent.

@@ -28,7 +28,6 @@ use Rattle.state_bytes.specs.StateBytes.{state_size, state_of, containers_from, 
 use Rattle.entry_numbers.specs.EntryCall.{call_of, HostCall}
 use Rattle.entry_numbers.proofs.Typed.{entry_typed}
 use Rattle.entry_steps.specs.Entries.{empty_bytes, start_entered}
-use Rattle.entry_steps.proofs.Entered.{accepted_is}
 use Rattle.entry_lists.specs.Demands.{Lent, config_of, table_of, EntryDemand1, lent_started, lent_joined, lent_model_after, lent_spelling, LentRun}
 use Rattle.entry_lists.specs.Demands.{EntryDemand2, EntryDemand3}
 use Rattle.entry_lists.proofs.Steps.{Spells, number-accepts, answer_is, lent_by, call_spells}
@@ -105,6 +104,10 @@ empty_spelled = refl
 empty_size : length (empty_bytes 4) ≡ state_size
 unfolding stored_head laid
 empty_size = refl
+
+accepted_is : (v : Verdict) → is_accepted v ≡ true → v ≡ accepted
+accepted_is accepted e = refl
+accepted_is (refused n) e = cc
 
 -- a start whose number is 0 was lent a slice of the right length, and is accepted
 pub start_accepted : (st b : List ℕ) → (start_entered st b).number ≡ 0 → (length st ≡ state_size) × (start_verdict b ≡ accepted)

@@ -1,14 +1,11 @@
 -- What the numbers of an entry stand for where they name a type, a precision, an offset or a fraction.
 -- Assumes nothing.
-use Rattle.std.specs.Prelude.{ℕ, true, false, [], ◌∷◌, List as Listed, eqb, ℤ, get_or}
+use Rattle.std.specs.Prelude.{ℕ, true, false, [], ◌∷◌, List as Listed, Option, Some, None, eqb, ℤ, get_or}
 use Rattle.scalars.specs.declared.IonType.{IonType}
 use Rattle.scalars.specs.declared.IonType.TheVariants.{Null, Bool, Int, Float, Decimal, Timestamp, Symbol, String, Clob, Blob, List, Sexp, Struct}
 use Rattle.timestamp.specs.declared.Precision.{Precision}
 use Rattle.timestamp.specs.declared.Precision.TheVariants.{Year, Month, Day, Minute, Second}
-use Rattle.timestamp.specs.declared.Offset.{Offset}
-use Rattle.timestamp.specs.declared.Offset.TheVariants.{Unknown, Minutes}
 use Rattle.timestamp.specs.declared.Fraction.{Fraction}
-use Rattle.timestamp.specs.declared.Fraction.TheVariants.{None, Digits}
 
 -- "Typed Value Formats": a type by its code. 2 and 3 are both int; a number past 13 stands for null.
 abbrev pub types : Listed IonType
@@ -24,8 +21,9 @@ precisions = Year ∷ Month ∷ Day ∷ Minute ∷ []
 unfoldable pub precision_numbered : ℕ → Precision
 precision_numbered n = get_or precisions n Second
 
-unfoldable pub offset_lent : ℕ → ℤ → Offset
-offset_lent known minutes = elim (eqb known 0) [ true ↦ Unknown | false ↦ Minutes minutes ]
+unfoldable pub offset_lent : ℕ → ℤ → Option ℤ
+offset_lent known minutes = elim (eqb known 0) [ true ↦ None | false ↦ Some minutes ]
 
-unfoldable pub fraction_lent : ℕ → ℕ → ℕ → Fraction
-fraction_lent given digits coefficient = elim (eqb given 0) [ true ↦ None | false ↦ Digits digits coefficient ]
+unfoldable pub fraction_lent : ℕ → ℕ → ℕ → Option Fraction
+fraction_lent given digits coefficient =
+    elim (eqb given 0) [ true ↦ None | false ↦ Some (record { digits = digits; coefficient = coefficient }) ]

@@ -4,32 +4,23 @@
 #![tactic(auto)]
 
 ghost use Rattle.std.specs.Prelude.{◌≡◌};
-ghost use Rattle.annotations.specs.Sids.{sids_of};
-ghost use Rattle.timestamp.specs.Arguments.{argument_of};
-ghost use Rattle.machine.specs.Call.{write};
 ghost use Rattle.state_bytes.specs.StateBytes.{entered};
 ghost use Rattle.entry_steps.specs.Entries.{entered_as};
 ghost use Rattle.entry_numbers.specs.EntryCall.{gm_write_null, gm_write_bool, gm_write_i64, gm_write_f32, gm_write_f64, gm_write_timestamp, gm_write_symbol};
 ghost use Rattle.entry_numbers.specs.EntryCall.{call_of};
 
-use machine::Refusal;
-use timestamp::Timestamp;
+use entry_numbers::{PrecisionNumber, TypeNumber};
+use scalars::IonType;
+use timestamp::{Precision, Timestamp};
+use values::{F32Bits, F64Bits, Symbol};
 
 // A null, by the type code.
 pub fn gm_write_null(state: &mut [u8], buf: &mut [u8], annotations: &[u8], code: u8) -> u8
     ensures { entered_as result state.new buf.new
         ≡ entered (call_of (gm_write_null annotations.now code)) state.old buf.old }
 {
-    if !state_bytes::value_passes(state, buf.len()) {
-        return entry_numbers::answered(state_bytes::value_place(state, buf.len()));
-    }
-    let put = values::write_null(
-        buf,
-        state_bytes::used(state),
-        annotations,
-        entry_numbers::type_of_code(code),
-    );
-    entry_steps::scalar_ended(state, put, Refusal::NoRoom)
+    let t = IonType::from(TypeNumber(code));
+    entry_numbers::answered(entry_steps::write(state, buf, annotations, t))
 }
 
 // A bool.
@@ -37,11 +28,7 @@ pub fn gm_write_bool(state: &mut [u8], buf: &mut [u8], annotations: &[u8], value
     ensures { entered_as result state.new buf.new
         ≡ entered (call_of (gm_write_bool annotations.now value)) state.old buf.old }
 {
-    if !state_bytes::value_passes(state, buf.len()) {
-        return entry_numbers::answered(state_bytes::value_place(state, buf.len()));
-    }
-    let put = values::write_bool(buf, state_bytes::used(state), annotations, value != 0);
-    entry_steps::scalar_ended(state, put, Refusal::NoRoom)
+    entry_numbers::answered(entry_steps::write(state, buf, annotations, value != 0))
 }
 
 // An int of 64 bits with its sign.
@@ -49,11 +36,7 @@ pub fn gm_write_i64(state: &mut [u8], buf: &mut [u8], annotations: &[u8], value:
     ensures { entered_as result state.new buf.new
         ≡ entered (call_of (gm_write_i64 annotations.now value)) state.old buf.old }
 {
-    if !state_bytes::value_passes(state, buf.len()) {
-        return entry_numbers::answered(state_bytes::value_place(state, buf.len()));
-    }
-    let put = values::write_i64(buf, state_bytes::used(state), annotations, value);
-    entry_steps::scalar_ended(state, put, Refusal::NoRoom)
+    entry_numbers::answered(entry_steps::write(state, buf, annotations, value))
 }
 
 // A float by the bits of binary32.
@@ -61,11 +44,7 @@ pub fn gm_write_f32(state: &mut [u8], buf: &mut [u8], annotations: &[u8], bits: 
     ensures { entered_as result state.new buf.new
         ≡ entered (call_of (gm_write_f32 annotations.now bits)) state.old buf.old }
 {
-    if !state_bytes::value_passes(state, buf.len()) {
-        return entry_numbers::answered(state_bytes::value_place(state, buf.len()));
-    }
-    let put = values::write_f32(buf, state_bytes::used(state), annotations, bits);
-    entry_steps::scalar_ended(state, put, Refusal::NoRoom)
+    entry_numbers::answered(entry_steps::write(state, buf, annotations, F32Bits(bits)))
 }
 
 // A float by the bits of binary64, in four bytes where binary32 holds it.
@@ -73,29 +52,10 @@ pub fn gm_write_f64(state: &mut [u8], buf: &mut [u8], annotations: &[u8], bits: 
     ensures { entered_as result state.new buf.new
         ≡ entered (call_of (gm_write_f64 annotations.now bits)) state.old buf.old }
 {
-    if !state_bytes::value_passes(state, buf.len()) {
-        return entry_numbers::answered(state_bytes::value_place(state, buf.len()));
-    }
-    let put = values::write_f64(buf, state_bytes::used(state), annotations, bits);
-    entry_steps::scalar_ended(state, put, Refusal::NoRoom)
+    entry_numbers::answered(entry_steps::write(state, buf, annotations, F64Bits(bits)))
 }
 
-// A timestamp by its local fields and its offset.
-fn write_timestamp(state: &mut [u8], buf: &mut [u8], annotations: &[u8], value: Timestamp) -> u8
-    ensures { entered_as result state.new buf.new
-        ≡ entered (write (sids_of annotations.now) (argument_of value)) state.old buf.old }
-{
-    if !state_bytes::value_passes(state, buf.len()) {
-        return entry_numbers::answered(state_bytes::value_place(state, buf.len()));
-    }
-    let put = values::write_timestamp(buf, state_bytes::used(state), annotations, value);
-    if put == 0 {
-        return entry_numbers::number_of(steps::timestamp_refusal(value));
-    }
-    entry_steps::scalar_ended(state, put, Refusal::NoRoom)
-}
-
-// The same by numbers. A field past the precision means nothing, nor does an offset that is not known or a fraction that is not given.
+// A timestamp by its local fields and its offset. A field past the precision means nothing, nor does an offset that is not known or a fraction that is not given.
 pub fn gm_write_timestamp(
     state: &mut [u8],
     buf: &mut [u8],
@@ -129,8 +89,8 @@ pub fn gm_write_timestamp(
           coefficient = coefficient;
         }))) state.old buf.old }
 {
-    let value = Timestamp {
-        precision: entry_numbers::precision_of(precision),
+    let timestamp = Timestamp {
+        precision: Precision::from(PrecisionNumber(precision)),
         year,
         month,
         day,
@@ -140,7 +100,7 @@ pub fn gm_write_timestamp(
         offset: entry_numbers::offset_of(known, offset),
         fraction: entry_numbers::fraction_of(given, digits, coefficient),
     };
-    write_timestamp(state, buf, annotations, value)
+    entry_numbers::answered(entry_steps::write(state, buf, annotations, timestamp))
 }
 
 // A symbol by its sid.
@@ -148,9 +108,5 @@ pub fn gm_write_symbol(state: &mut [u8], buf: &mut [u8], annotations: &[u8], sid
     ensures { entered_as result state.new buf.new
         ≡ entered (call_of (gm_write_symbol annotations.now sid)) state.old buf.old }
 {
-    if !state_bytes::value_passes(state, buf.len()) {
-        return entry_numbers::answered(state_bytes::value_place(state, buf.len()));
-    }
-    let put = values::write_symbol(buf, state_bytes::used(state), annotations, sid);
-    entry_steps::scalar_ended(state, put, Refusal::NoRoom)
+    entry_numbers::answered(entry_steps::write(state, buf, annotations, Symbol(sid)))
 }

@@ -8,7 +8,7 @@ ghost use Rattle.state_bytes.specs.StateBytes.{entered};
 ghost use Rattle.entry_steps.specs.Entries.{entered_as};
 ghost use Rattle.entry_numbers.specs.EntryCall.{gm_write_int, gm_write_decimal, gm_write_string, gm_write_clob, gm_write_blob, call_of};
 
-use machine::Refusal;
+use values::{Blob, Clob, Decimal, Int, Text};
 
 // An int of any size: its sign, and its magnitude from the highest byte on.
 pub fn gm_write_int(
@@ -21,20 +21,11 @@ pub fn gm_write_int(
     ensures { entered_as result state.new buf.new
         ≡ entered (call_of (gm_write_int annotations.now negative magnitude.now)) state.old buf.old }
 {
-    if !state_bytes::value_passes(state, buf.len()) {
-        return entry_numbers::answered(state_bytes::value_place(state, buf.len()));
-    }
-    let put = values::write_int(
-        buf,
-        state_bytes::used(state),
-        annotations,
-        negative != 0,
+    let int = Int {
+        negative: negative != 0,
         magnitude,
-    );
-    if put == 0 {
-        return entry_numbers::number_of(steps::int_refusal(negative != 0, magnitude));
-    }
-    entry_steps::scalar_ended(state, put, Refusal::NoRoom)
+    };
+    entry_numbers::answered(entry_steps::write(state, buf, annotations, int))
 }
 
 // A decimal: sign, coefficient from the highest byte on, exponent.
@@ -49,25 +40,12 @@ pub fn gm_write_decimal(
     ensures { entered_as result state.new buf.new
         ≡ entered (call_of (gm_write_decimal annotations.now negative coefficient.now exponent)) state.old buf.old }
 {
-    if !state_bytes::value_passes(state, buf.len()) {
-        return entry_numbers::answered(state_bytes::value_place(state, buf.len()));
-    }
-    let put = values::write_decimal(
-        buf,
-        state_bytes::used(state),
-        annotations,
-        negative != 0,
-        coefficient,
+    let decimal = Decimal {
+        negative: negative != 0,
+        magnitude: coefficient,
         exponent,
-    );
-    if put == 0 {
-        return entry_numbers::number_of(steps::decimal_refusal(
-            negative != 0,
-            coefficient,
-            exponent,
-        ));
-    }
-    entry_steps::scalar_ended(state, put, Refusal::NoRoom)
+    };
+    entry_numbers::answered(entry_steps::write(state, buf, annotations, decimal))
 }
 
 // A string, in UTF-8.
@@ -75,14 +53,7 @@ pub fn gm_write_string(state: &mut [u8], buf: &mut [u8], annotations: &[u8], byt
     ensures { entered_as result state.new buf.new
         ≡ entered (call_of (gm_write_string annotations.now bytes.now)) state.old buf.old }
 {
-    if !state_bytes::value_passes(state, buf.len()) {
-        return entry_numbers::answered(state_bytes::value_place(state, buf.len()));
-    }
-    let put = values::write_string(buf, state_bytes::used(state), annotations, bytes);
-    if put == 0 {
-        return entry_numbers::number_of(steps::string_refusal(bytes));
-    }
-    entry_steps::scalar_ended(state, put, Refusal::NoRoom)
+    entry_numbers::answered(entry_steps::write(state, buf, annotations, Text(bytes)))
 }
 
 // A clob.
@@ -90,11 +61,7 @@ pub fn gm_write_clob(state: &mut [u8], buf: &mut [u8], annotations: &[u8], bytes
     ensures { entered_as result state.new buf.new
         ≡ entered (call_of (gm_write_clob annotations.now bytes.now)) state.old buf.old }
 {
-    if !state_bytes::value_passes(state, buf.len()) {
-        return entry_numbers::answered(state_bytes::value_place(state, buf.len()));
-    }
-    let put = values::write_clob(buf, state_bytes::used(state), annotations, bytes);
-    entry_steps::scalar_ended(state, put, Refusal::NoRoom)
+    entry_numbers::answered(entry_steps::write(state, buf, annotations, Clob(bytes)))
 }
 
 // A blob.
@@ -102,9 +69,5 @@ pub fn gm_write_blob(state: &mut [u8], buf: &mut [u8], annotations: &[u8], bytes
     ensures { entered_as result state.new buf.new
         ≡ entered (call_of (gm_write_blob annotations.now bytes.now)) state.old buf.old }
 {
-    if !state_bytes::value_passes(state, buf.len()) {
-        return entry_numbers::answered(state_bytes::value_place(state, buf.len()));
-    }
-    let put = values::write_blob(buf, state_bytes::used(state), annotations, bytes);
-    entry_steps::scalar_ended(state, put, Refusal::NoRoom)
+    entry_numbers::answered(entry_steps::write(state, buf, annotations, Blob(bytes)))
 }

@@ -1,4 +1,4 @@
-pub mod Calls
 pub mod Entered
-pub mod Start
 pub mod Values
+pub mod Calls
+pub mod Start

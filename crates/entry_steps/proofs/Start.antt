@@ -1,25 +1,16 @@
 -- A start by how far it gets, and the bytes of the state that it leaves.
 -- Assumes nothing.
-use Prim.Native.Nat.{ℕ, ◌<◌, ◌≤◌}
-use native.Mathlib.Nat.{zero-add}
-use mathlib.Core.Path.{◌≡◌, ◌∙◌, ap}
-use mathlib.Core.Bool.{false}
-use mathlib.Core.List.{List, append-nil}
-use lib.ListN.{length, replicate, length-replicate}
-use lib.Seq.{drop-length}
-use borrow.Author.Tests.{eq-eqb, ne_eqb, lt-ltb, le-ltb}
-use Rattle.buffer.specs.Laid.{laid}
-use Rattle.buffer.proofs.Laid.{laid_is}
-use Rattle.steps.specs.Start.{start_run}
-use Rattle.state_bytes.specs.StateBytes.{state_size, stored_head, number_of}
-use Rattle.machine.specs.Machine.{longest_buffer, Outcome}
+use Rattle.std.proofs.Common.{◌≡◌, ℕ, ◌<◌, ◌≤◌, false, List, Option, Some, None, length, replicate, sym, ap, ◌∙◌, arith, lt-ltb, le-ltb}
+use borrow.Author.Tests.{eq-eqb, ne_eqb}
+use Rattle.encoding.specs.Headers.{marker_bytes}
+use Rattle.buffer.specs.Laid.{laid, placed}
+use Rattle.buffer.proofs.Laid.{placed-some, placed-none}
+use Rattle.machine.specs.Machine.{longest_buffer, start_verdict}
+use Rattle.steps.proofs.Run.{splice_end}
+use Rattle.state_bytes.specs.StateBytes.{state_size, stored_head}
 use Rattle.entry_steps.specs.Entries.{entered_as, empty_bytes, start_entered}
 
--- zeros over all of a slice
-pub laid_over : (b : List ℕ) → laid b 0 (replicate (length b) 0) ≡ replicate (length b) 0
-laid_over b =
-    let n : length {A = ℕ} (replicate (length b) 0) ≡ length b = length-replicate {A = ℕ} (length b) 0 in
-    laid_is b 0 (replicate (length b) 0) ∙ rw (zero-add, n, drop-length b) (append-nil (replicate (length b) 0))
+-- ---- a slice of another length
 
 pub start_short_long : (st b : List ℕ) → (length st ≡ state_size → ⊥) → longest_buffer < length b → entered_as 1 st b ≡ start_entered st b
 unfolding start_entered
@@ -29,18 +20,31 @@ pub start_short : (st b : List ℕ) → (length st ≡ state_size → ⊥) → l
 unfolding start_entered
 start_short st b h k = rw (ne_eqb (length st) state_size h, le-ltb longest_buffer (length b) k, start_entered)
 
--- o is what the machine's start answers and leaves
-pub start_entry : (st b : List ℕ) → length st ≡ state_size → (o : Outcome) → o ≡ start_run b
-    → entered_as (number_of o.verdict) (empty_bytes o.config.state.used) o.config.buffer ≡ start_entered st b
-unfolding start_entered start_run
-start_entry st b h o r =
-    ap (λ (x : Outcome). entered_as (number_of x.verdict) (empty_bytes x.config.state.used) x.config.buffer) r
-    ∙ rw (eq-eqb (length st) state_size h, start_entered)
+-- ---- a slice of a state's length
 
--- the state slice: zeros, then the used length
-pub cleared : (l st : List ℕ) → length st ≡ state_size → l ≡ replicate (length st) 0 → l ≡ empty_bytes 0
-unfolding stored_head laid
-cleared l st h e = e ∙ ap (λ (n : ℕ). replicate n 0) h
+module _ (st b : List ℕ) (h : length st ≡ state_size) where
+  -- the state slice: zeros
+  pub cleared : (l : List ℕ) → l ≡ replicate (length st) 0 → l ≡ empty_bytes 0
+  unfolding stored_head laid
+  cleared l e = e ∙ ap (λ (n : ℕ). replicate n 0) h
 
-pub begun : (l m st : List ℕ) (n : ℕ) → length st ≡ state_size → l ≡ replicate (length st) 0 → m ≡ stored_head n 0 false l → m ≡ empty_bytes n
-begun l m st n h e q = q ∙ ap (stored_head n 0 false) (e ∙ ap (λ (k : ℕ). replicate k 0) h)
+  pub start_long : longest_buffer < length b → entered_as 1 (empty_bytes 0) b ≡ start_entered st b
+  unfolding start_entered start_verdict
+  start_long k = rw (eq-eqb (length st) state_size h, start_entered, lt-ltb longest_buffer (length b) k)
+
+  pub start_full : length b ≤ longest_buffer → (l : List ℕ) → ◌≡◌ {A = Option ℕ × List ℕ} (None, l) (placed b 0 marker_bytes)
+      → entered_as 10 (empty_bytes 0) l ≡ start_entered st b
+  unfolding start_entered start_verdict
+  start_full k l e =
+      let w = placed-none b 0 marker_bytes l e in
+      rw (w.1, eq-eqb (length st) state_size h, start_entered, le-ltb longest_buffer (length b) k, lt-ltb (length b) 4 (omega (arith, w.0)))
+
+  -- behind the zeros the used length
+  pub start_put : length b ≤ longest_buffer → (n : ℕ) (l : List ℕ) → ◌≡◌ {A = Option ℕ × List ℕ} (Some n, l) (placed b 0 marker_bytes)
+      → (z m : List ℕ) → z ≡ replicate (length st) 0 → m ≡ stored_head n 0 false z → entered_as 0 m l ≡ start_entered st b
+  unfolding start_entered start_verdict
+  start_put k n l e z m p q =
+      let w = placed-some b 0 marker_bytes n l e in
+      let x : m ≡ empty_bytes n = q ∙ ap (stored_head n 0 false) (p ∙ ap (λ (k : ℕ). replicate k 0) h) in
+      rw (x, w.1, w.2, eq-eqb (length st) state_size h, start_entered, le-ltb longest_buffer (length b) k, le-ltb (length b) 4 (omega (arith, w.0)))
+      (ap (entered_as 0 (empty_bytes 4)) (sym (splice_end 0 marker_bytes b)))

@@ -1,11 +1,17 @@
 -- What the entry points answer and leave beside `entered`: a start.
 -- Assumes nothing.
-use Rattle.std.specs.Prelude.{ℕ, true, false, List, eqb, ltb, length, replicate}
+use Rattle.std.specs.Prelude.{ℕ, true, false, List, Result, eqb, ltb, length, replicate}
+use Rattle.machine.specs.declared.Refusal.{Refusal}
 use Rattle.machine.specs.Machine.{longest_buffer, start_verdict, started}
+use Rattle.machine.specs.Numbers.{verdict_of}
 use Rattle.state_bytes.specs.StateBytes.{state_size, stored_head, number_of, Entered}
 
 abbrev pub entered_as : ℕ → List ℕ → List ℕ → Entered
 entered_as n st b = record { number = n; state = st; buffer = b }
+
+-- the same of a call whose answer is not a number yet
+abbrev pub answered_as : Result (Unit {0}) Refusal → List ℕ → List ℕ → Entered
+answered_as r st b = entered_as (number_of (verdict_of r)) st b
 
 -- the bytes of a state with no container and no name
 abbrev pub empty_bytes : ℕ → List ℕ

@@ -1,4 +1,3 @@
-pub mod Laid
 pub mod Zeros
 pub mod Units
 pub mod Narrowing

@@ -19,14 +19,13 @@ use lib.Ieee.Exact.{HasValue, odd_sign}
 use lib.Ieee.Fits.{odd-fits, and_l, and_r, down_pos}
 use Rattle.ion.proofs.Floats.{exponent_le}
 use Rattle.encoding.specs.Argument.{narrows}
-use Rattle.floats.specs.declared.Narrowed.{Narrowed}
-use Rattle.floats.specs.declared.Narrowed.TheVariants.{Exact, No}
+use Rattle.std.specs.Prelude.{Option, Some, None}
 use Rattle.floats.specs.Narrowed.{narrowed_to, narrowed_bits, Dropped}
 use Rattle.floats.proofs.Zeros.{multiple_zeros, zeros_multiple}
 use Rattle.floats.proofs.Units.{pow_less, bits_of, value_bits, same_units, bits_fields}
 
 -- as `narrowed_bits`, of the value that the bits stand for
-unfoldable pub narrowed_value : Float → Narrowed
+unfoldable pub narrowed_value : Float → Option ℕ
 narrowed_value v = narrowed_to (not (is_nan v) && holds binary32 v) (to_bits binary32 v)
 
 -- ---- powers of two side by side
@@ -96,17 +95,17 @@ unfolding odd is_nan
 odd_no_nan s zero k = refl
 odd_no_nan s (suc q) k = refl
 
-not_held : (s : Bool) (q k : ℕ) → (Held q k → ⊥) → narrowed_value (odd 53 s q k 1074) ≡ No
+not_held : (s : Bool) (q k : ℕ) → (Held q k → ⊥) → narrowed_value (odd 53 s q k 1074) ≡ None
 unfolding narrowed_value
 not_held s q k h = rw (odd_no_nan s q k) (by_test (holds binary32 (odd 53 s q k 1074)) refl)
   where
-    by_test : (t : Bool) → holds binary32 (odd 53 s q k 1074) ≡ t → narrowed_to t (to_bits binary32 (odd 53 s q k 1074)) ≡ No
+    by_test : (t : Bool) → holds binary32 (odd 53 s q k 1074) ≡ t → narrowed_to t (to_bits binary32 (odd 53 s q k 1074)) ≡ None
     by_test true e = absurd (h (fits-held (odd 53 s q k 1074) s q k (subst T (sym e) tt) (odd_sign 53 s q k 1074)))
     by_test false e = refl
 
 -- and such a number is held, with the bits of that many units
 is_held : (s : Bool) (q k : ℕ) (h : Held q k) → q < 2 ^ 53 → q * 2 ^ k < 2 ^ 2098 →
-    narrowed_value (odd 53 s q k 1074) ≡ Exact (bits_of binary32 s (h.digits * 2 ^ h.shift))
+    narrowed_value (odd 53 s q k 1074) ≡ Some (bits_of binary32 s (h.digits * 2 ^ h.shift))
 unfolding narrowed_value
 is_held s q k h a b =
     let q' = h.digits in
@@ -120,12 +119,12 @@ is_held s q k h a b =
 
 -- ---- by the fields: a sign, an exponent's field x and digits t
 
-pub narrowed_zero : (s : Bool) → narrowed_value (of_fields binary64 s 0 0) ≡ Exact (cond s (top binary32) 0)
+pub narrowed_zero : (s : Bool) → narrowed_value (of_fields binary64 s 0 0) ≡ Some (cond s (top binary32) 0)
 unfolding narrowed_value of_fields odd is_nan holds to_bits
 narrowed_zero true = refl
 narrowed_zero false = refl
 
-pub narrowed_infinity : (s : Bool) → narrowed_value (of_fields binary64 s 2047 0) ≡ Exact (cond s (top binary32) 0 + 0x7F800000)
+pub narrowed_infinity : (s : Bool) → narrowed_value (of_fields binary64 s 2047 0) ≡ Some (cond s (top binary32) 0 + 0x7F800000)
 unfolding narrowed_value of_fields is_nan holds to_bits
 narrowed_infinity true = refl
 narrowed_infinity false = refl
@@ -141,7 +140,7 @@ below_multiple n zero w e l = e ∙ zero-mul w
 below_multiple n (suc p) w e l = let f = suc-mul p w in absurd (omega arith)
 
 -- less than a unit of binary32
-below_unit : (s : Bool) (q k : ℕ) → 0 < q → q * 2 ^ k < 2 ^ 925 → narrowed_value (odd 53 s q k 1074) ≡ No
+below_unit : (s : Bool) (q k : ℕ) → 0 < q → q * 2 ^ k < 2 ^ 925 → narrowed_value (odd 53 s q k 1074) ≡ None
 below_unit s q k p l =
     not_held s q k
     (λ h.
@@ -149,7 +148,7 @@ below_unit s q k p l =
     let a : 0 < q * 2 ^ k = mul-pos p (pow_pos k) in
     omega (arith, a, z))
 
-pub narrowed_below : (s : Bool) (x t : ℕ) → t < 2 ^ 52 → x < 874 → (x ≡ 0 → t ≡ 0 → ⊥) → narrowed_value (of_fields binary64 s x t) ≡ No
+pub narrowed_below : (s : Bool) (x t : ℕ) → t < 2 ^ 52 → x < 874 → (x ≡ 0 → t ≡ 0 → ⊥) → narrowed_value (of_fields binary64 s x t) ≡ None
 unfolding of_fields
 narrowed_below s zero t l u n = below_unit s t 0 (omega (arith, n refl)) (lt_of_lt_of_le {m = 2 ^ 52} (rw (mul-one t) l) (lit≤ tt))
 narrowed_below s (suc x) t l u n =
@@ -157,11 +156,11 @@ narrowed_below s (suc x) t l u n =
     (below_unit s (t + 2 ^ 52) x (omega arith)
     (lt_of_lt_of_le (shl_lt 53 x (omega arith)) (pow_mono {i = 53 + x} {j = 925} (omega arith))))
 
-pub narrowed_above : (s : Bool) (x t : ℕ) → 1150 < x → x < 2048 → (x ≡ 2047 → t ≡ 0 → ⊥) → narrowed_value (of_fields binary64 s x t) ≡ No
+pub narrowed_above : (s : Bool) (x t : ℕ) → 1150 < x → x < 2048 → (x ≡ 2047 → t ≡ 0 → ⊥) → narrowed_value (of_fields binary64 s x t) ≡ None
 unfolding narrowed_value of_fields is_nan
 narrowed_above s x t u v n = by_test (eqb x 2047) refl
   where
-    by_test : (b : Bool) → eqb x 2047 ≡ b → narrowed_value (of_fields binary64 s x t) ≡ No
+    by_test : (b : Bool) → eqb x 2047 ≡ b → narrowed_value (of_fields binary64 s x t) ≡ None
     by_test true e = let m = eqb-true x 2047 e in rw (m, ne_eqb t 0 (n m))
     by_test false e =
         rw (fields_normal s x t (omega arith) (omega (arith, eqb-false x 2047 e)))
@@ -203,7 +202,7 @@ module _ (s : Bool) (x t k : ℕ) (few : t < 2 ^ 52) (lo : 874 ≤ x) (hi : x �
       by_test true e g = omega (arith, leb-true (x + k) 926 e)
       by_test false e g = omega (arith, d.tight (leb-false (x + k) 926 e))
 
-  pub narrowed_cut : count_trailing_zeros 64 (t + 2 ^ 52) < k → narrowed_value (of_fields binary64 s x t) ≡ No
+  pub narrowed_cut : count_trailing_zeros 64 (t + 2 ^ 52) < k → narrowed_value (of_fields binary64 s x t) ≡ None
   narrowed_cut z =
       rw (fields_normal s x t (omega arith) (omega arith))
       (not_held s (t + 2 ^ 52) (x - 1)
@@ -220,7 +219,7 @@ module _ (s : Bool) (x t k : ℕ) (few : t < 2 ^ 52) (lo : 874 ≤ x) (hi : x �
   magnitude-small = omega (arith, place-most, kept_few)
 
   pub narrowed_exact : k ≤ count_trailing_zeros 64 (t + 2 ^ 52) →
-      narrowed_value (of_fields binary64 s x t) ≡ Exact (cond s (top binary32) 0 + ((x + k - 926) * 2 ^ 23 + (t + 2 ^ 52) / 2 ^ k))
+      narrowed_value (of_fields binary64 s x t) ≡ Some (cond s (top binary32) 0 + ((x + k - 926) * 2 ^ 23 + (t + 2 ^ 52) / 2 ^ k))
   narrowed_exact z =
       let q = t + 2 ^ 52 in
       let e = x + k - 926 in
@@ -239,7 +238,7 @@ module _ (s : Bool) (x t k : ℕ) (few : t < 2 ^ 52) (lo : 874 ≤ x) (hi : x �
       } in
       rw (fields_normal s x t (omega arith) (omega arith), kept)
       (is_held s q (x - 1) h (omega arith) (lt_of_lt_of_le (shl_lt 53 (x - 1) (omega arith)) (pow_mono {i = 53 + (x - 1)} {j = 2098} (omega arith)))
-      ∙ ap Exact (bits_fields m e m_few full s))
+      ∙ ap Some (bits_fields m e m_few full s))
 
 -- ---- by the bits
 

@@ -2,27 +2,23 @@
 -- Assumes nothing.
 use Prim.Native.Nat.{ℕ, zero, suc, ◌*◌, ◌<◌}
 use mathlib.Core.Path.{◌≡◌, refl, sym, ◌∙◌, ap, subst}
-use mathlib.Core.Bool.{Bool, true, false, not, ◌&&◌, cond}
+use mathlib.Core.Bool.{Bool, true, false, ◌&&◌, cond, false≢true}
 use native.Mathlib.Nat.{zero-mul, mul-pos, zero-lt-suc, lt_irrefl, pow-suc}
 use native.Mathlib.Omega.{arith}
 use borrow.Author.Tests.{eqb-true, eqb-false, ltb-true, lt-ltb}
 use lib.Dec.{T, ltb, eqb, eqb→eq}
 use lib.Pow.{pow_pos}
 use lib.IntN.{ℤ, pos, negsuc}
-use lib.Ieee.{Float, nan, inf, fin, Format, binary32, binary64, up, down, top, fits, is_nan, of_bits, to_bits, eq, ne}
+use lib.Ieee.{Float, nan, inf, fin, Format, binary32, binary64, up, down, top, fits, is_nan, of_bits, to_bits, eq}
 use lib.Ieee.Bits.{of_bits-to_bits}
-use lib.Ieee.Compare.{differs_from_itself, nan_differs}
 use lib.Ieee.Fits.{up_pos}
 use Rattle.ion.proofs.Tests.{by_cases, both}
 
-pub nan_bits : (f : Format) (v : Float) → ne v v ≡ true → to_bits f v ≡ to_bits f nan
-nan_bits f v e = ap (to_bits f) (differs_from_itself v (subst T (sym e) tt))
-
-pub no_nan : (v : Float) → ne v v ≡ false → T (not (is_nan v))
+pub nan_bits : (f : Format) (v : Float) → is_nan v ≡ true → to_bits f v ≡ to_bits f nan
 unfolding is_nan
-no_nan nan e = subst T (sym nan_differs ∙ e) tt
-no_nan (inf s) e = tt
-no_nan (fin s m x) e = tt
+nan_bits f nan e = refl
+nan_bits f (inf s) e = absurd (false≢true e)
+nan_bits f (fin s m x) e = absurd (false≢true e)
 
 -- the exponent of a zero that is written in the one way
 zero_exponent : (e : ℤ) → up e * down e ≡ 1 → e ≡ pos 0

@@ -2,13 +2,14 @@
 // A call that keeps a NaN's own bits takes bits, since the language has one NaN; a call that takes an f32 or f64 compares it with zero.
 #![tactic(auto)]
 
-ghost use Rattle.std.specs.Prelude.{◌≡◌, List, ◌∷◌, ℕ, ◌+◌, ◌≤◌, ◌<◌, eqb, length};
+ghost use Rattle.std.specs.Prelude.{◌≡◌, List, ◌∷◌, ℕ, Option, ◌+◌, ◌≤◌, ◌<◌, eqb, length};
 ghost use Rattle.std.specs.Float.{binary32, binary64};
 ghost use Rattle.std.specs.Float.Ieee.{to_bits};
-ghost use Rattle.buffer.specs.Laid.{laid, placed};
+ghost use Rattle.buffer.specs.Laid.{placed};
 ghost use Rattle.encoding.specs.Fields.{fixed_bytes};
 ghost use Rattle.encoding.specs.Argument.{float32_bytes, float64_bytes};
 ghost use Rattle.floats.specs.Narrowed.{narrowed_bits, Dropped};
+ghost use Rattle.floats.specs.Zero.{float32_zero, float64_zero};
 
 // The sign bits, and the weight of the exponent's field.
 const SIGN_32: u32 = 0x8000_0000;
@@ -37,13 +38,6 @@ const GREATEST: u64 = 1150;
 // binary64 has 53 digits, binary32 has 24.
 const MORE_DIGITS: u64 = 29;
 
-// Whether binary32 holds the value of an f64 exactly, and its bits there.
-#[derive(Clone, Copy)]
-pub enum Narrowed {
-    Exact(u32),
-    No,
-}
-
 // How many of the 53 digits at the field x binary32 has no place for: those too many, and those below 2^-149.
 fn dropped_digits(x: u64) -> u64
     requires { 874 ≤ x }
@@ -55,173 +49,170 @@ fn dropped_digits(x: u64) -> u64
     MORE_DIGITS
 }
 
-// An f64 by its bits; a NaN is not narrowed. The digits that are dropped must be zeros, which the trailing zeros tell.
-pub fn narrow(bits: u64) -> Narrowed
+// The bits in binary32 of an f64 by its bits, where binary32 holds its value exactly; a NaN is not narrowed.
+// The digits that are dropped must be zeros, which the trailing zeros tell.
+pub fn narrow(bits: u64) -> Option<u32>
     ensures { result ≡ narrowed_bits bits }
 {
     let sign = (bits / SIGN_64) as u32 * SIGN_32;
     let magnitude = bits % SIGN_64;
     if magnitude == 0 {
-        return Narrowed::Exact(sign);
+        return Some(sign);
     }
     if magnitude == INFINITY_64 {
-        return Narrowed::Exact(sign + INFINITY_32);
+        return Some(sign + INFINITY_32);
     }
     let x = magnitude / FIELD_64;
     if x < LEAST {
-        return Narrowed::No;
+        return None;
     }
     if GREATEST < x {
-        return Narrowed::No;
+        return None;
     }
     let digits = bits % FIELD_64 + FIELD_64;
     let dropped = dropped_digits(x);
     if (u64::trailing_zeros(digits) as u64) < dropped {
-        return Narrowed::No;
+        return None;
     }
-    Narrowed::Exact(sign + ((x + dropped - LAST_IS_LEAST) * FIELD_32 + (digits >> dropped)) as u32)
+    Some(sign + ((x + dropped - LAST_IS_LEAST) * FIELD_32 + (digits >> dropped)) as u32)
 }
 
-// The lowest `size` bytes of n, big-endian, from the last to the first.
-fn fill(buf: &mut [u8], at: usize, size: usize, n: u64)
-    requires { at + size ≤ length buf.old }
-    ensures { buf.new ≡ laid buf.old at (fixed_bytes size n) }
-{
-    let mut rest = n;
-    let mut i = size;
-    while 0 < i {
-        i -= 1;
-        buf[at + i] = (rest % 256) as u8;
-        rest = rest / 256;
-    }
-}
-
-// The type byte and `size` bytes of bits; 0 where there is no room.
-fn write_sized(buf: &mut [u8], at: usize, size: usize, bits: u64) -> usize
+// The type byte and `size` bytes of bits, which are put first and test the room.
+fn write_sized(buf: &mut [u8], at: usize, size: usize, bits: u64) -> Option<usize>
     requires { size ≤ 8 }
-    ensures { ◌≡◌ {A = ℕ × List ℕ} (result, buf.new) (placed buf.old at ((0x40 + size) ∷ fixed_bytes size bits)) }
+    ensures { ◌≡◌ {A = Option ℕ × List ℕ} (result, buf.new) (placed buf.old at ((0x40 + size) ∷ fixed_bytes size bits)) }
 {
     if buf.len() <= at {
-        return 0;
+        return None;
     }
-    if buf.len() - at <= size {
-        return 0;
-    }
+    let count = uint::write_fixed(buf, at + 1, size, bits)?;
     buf[at] = (0x40 + size) as u8;
-    fill(buf, at + 1, size, bits);
-    size + 1
+    Some(1 + count)
 }
 
-// The size of what `write_f32_bits` puts.
-pub fn f32_bits_size(bits: u32) -> usize
-    ensures { result ≡ length (float32_bytes bits) }
+// f32 and f64: the bits of each, and what becomes of them.
+pub trait Float: Copy {
+    type Bits: Copy;
+
+    // The number that bits are, the bits of a float by IEEE 754, and the bytes that a float of these bits takes.
+    ghost number: { Self.Bits → ℕ };
+
+    ghost bits_of: { Self → ℕ };
+
+    ghost bytes_of: { ℕ → List ℕ };
+
+    // A NaN has the bits of the quiet NaN: `to_bits` is not defined there.
+    fn bits(self) -> Self::Bits
+        ensures { number result ≡ bits_of self };
+
+    // Negative zero equals positive zero, so the sign bit is asked too.
+    fn is_positive_zero(self) -> bool
+        ensures { result ≡ eqb (bits_of self) 0 };
+
+    // The size of what `write_bits` puts.
+    fn bits_size(bits: Self::Bits) -> usize
+        ensures { result ≡ length (bytes_of (number bits)) };
+
+    // A float by its bits: a NaN keeps its own.
+    fn write_bits(buf: &mut [u8], at: usize, bits: Self::Bits) -> Option<usize>
+        ensures { ◌≡◌ {A = Option ℕ × List ℕ} (result, buf.new) (placed buf.old at (bytes_of (number bits))) };
+
+    ghost positive_zero: { bytes_of 0 ≡ 0x40 ∷ fixed_bytes 0 0 };
+}
+
+impl Float for f32 {
+    type Bits = u32;
+
+    ghost number = { λ n. n };
+
+    ghost bits_of = { to_bits binary32 };
+
+    ghost bytes_of = { float32_bytes };
+
+    ghost positive_zero = { float32_zero };
+
+    fn bits(self) -> u32 {
+        if self.is_nan() {
+            return QUIET_NAN_32;
+        }
+        self.to_bits()
+    }
+
+    fn is_positive_zero(self) -> bool {
+        (self == 0.0) & (self.bits() < SIGN_32)
+    }
+
+    fn bits_size(bits: u32) -> usize {
+        if bits == 0 {
+            return 1;
+        }
+        5
+    }
+
+    // Positive zero is 40; every other f32 is 44 and its own bits.
+    fn write_bits(buf: &mut [u8], at: usize, bits: u32) -> Option<usize> {
+        if bits == 0 {
+            return write_sized(buf, at, 0, 0);
+        }
+        write_sized(buf, at, 4, bits as u64)
+    }
+}
+
+impl Float for f64 {
+    type Bits = u64;
+
+    ghost number = { λ n. n };
+
+    ghost bits_of = { to_bits binary64 };
+
+    ghost bytes_of = { float64_bytes };
+
+    ghost positive_zero = { float64_zero };
+
+    fn bits(self) -> u64 {
+        if self.is_nan() {
+            return QUIET_NAN_64;
+        }
+        self.to_bits()
+    }
+
+    fn is_positive_zero(self) -> bool {
+        (self == 0.0) & (self.bits() < SIGN_64)
+    }
+
+    fn bits_size(bits: u64) -> usize {
+        match narrow(bits) {
+            Some(n) => f32::bits_size(n),
+            None => 9,
+        }
+    }
+
+    // An f64 that binary32 holds exactly goes out as an f32; every other, and every NaN, is 48 and its own bits.
+    fn write_bits(buf: &mut [u8], at: usize, bits: u64) -> Option<usize> {
+        match narrow(bits) {
+            Some(n) => f32::write_bits(buf, at, n),
+            None => write_sized(buf, at, 8, bits),
+        }
+    }
+}
+
+// The size of what `write` puts.
+#[tactic(auto, unfolding(encoding::specs::Fields::fixed_bytes, encoding::specs::Digits::low_digits))]
+pub fn size<F: Float>(v: F) -> usize
+    ensures { result ≡ length (F.bytes_of (F.bits_of v)) }
 {
-    if bits == 0 {
+    if v.is_positive_zero() {
         return 1;
     }
-    5
+    F::bits_size(v.bits())
 }
 
-// Positive zero is 40; every other f32 is 44 and its own bits, a NaN's too. Answers the size, or 0 where there is no room.
-pub fn write_f32_bits(buf: &mut [u8], at: usize, bits: u32) -> usize
-    ensures { ◌≡◌ {A = ℕ × List ℕ} (result, buf.new) (placed buf.old at (float32_bytes bits)) }
+// An f32 or an f64 by its value.
+pub fn write<F: Float>(buf: &mut [u8], at: usize, v: F) -> Option<usize>
+    ensures { ◌≡◌ {A = Option ℕ × List ℕ} (result, buf.new) (placed buf.old at (F.bytes_of (F.bits_of v))) }
 {
-    if bits == 0 {
+    if v.is_positive_zero() {
         return write_sized(buf, at, 0, 0);
     }
-    write_sized(buf, at, 4, bits as u64)
-}
-
-// The size of what `write_f64_bits` puts.
-pub fn f64_bits_size(bits: u64) -> usize
-    ensures { result ≡ length (float64_bytes bits) }
-{
-    match narrow(bits) {
-        Narrowed::Exact(n) => f32_bits_size(n),
-        Narrowed::No => 9,
-    }
-}
-
-// An f64 that binary32 holds exactly goes out as an f32; every other, and every NaN, is 48 and its own bits.
-pub fn write_f64_bits(buf: &mut [u8], at: usize, bits: u64) -> usize
-    ensures { ◌≡◌ {A = ℕ × List ℕ} (result, buf.new) (placed buf.old at (float64_bytes bits)) }
-{
-    match narrow(bits) {
-        Narrowed::Exact(n) => write_f32_bits(buf, at, n),
-        Narrowed::No => write_sized(buf, at, 8, bits),
-    }
-}
-
-// A NaN has the bits 7FC00000: `to_bits` is not defined there.
-fn bits_of_f32(v: f32) -> u32
-    ensures { result ≡ to_bits binary32 v }
-{
-    if v != v {
-        return QUIET_NAN_32;
-    }
-    f32::to_bits(v)
-}
-
-// A NaN has the bits 7FF8000000000000.
-fn bits_of_f64(v: f64) -> u64
-    ensures { result ≡ to_bits binary64 v }
-{
-    if v != v {
-        return QUIET_NAN_64;
-    }
-    f64::to_bits(v)
-}
-
-// Whether an f32 is positive zero. Negative zero equals it, so the sign bit is asked too.
-fn is_positive_zero_f32(v: f32) -> bool
-    ensures { result ≡ eqb (to_bits binary32 v) 0 }
-{
-    (v == 0.0) & (bits_of_f32(v) < SIGN_32)
-}
-
-// The same of an f64.
-fn is_positive_zero_f64(v: f64) -> bool
-    ensures { result ≡ eqb (to_bits binary64 v) 0 }
-{
-    (v == 0.0) & (bits_of_f64(v) < SIGN_64)
-}
-
-// The size of what `write_f32` puts.
-pub fn f32_size(v: f32) -> usize
-    ensures { result ≡ length (float32_bytes (to_bits binary32 v)) }
-{
-    if is_positive_zero_f32(v) {
-        return 1;
-    }
-    5
-}
-
-// An f32 by its value.
-pub fn write_f32(buf: &mut [u8], at: usize, v: f32) -> usize
-    ensures { ◌≡◌ {A = ℕ × List ℕ} (result, buf.new) (placed buf.old at (float32_bytes (to_bits binary32 v))) }
-{
-    if is_positive_zero_f32(v) {
-        return write_sized(buf, at, 0, 0);
-    }
-    write_sized(buf, at, 4, bits_of_f32(v) as u64)
-}
-
-// The size of what `write_f64` puts.
-pub fn f64_size(v: f64) -> usize
-    ensures { result ≡ length (float64_bytes (to_bits binary64 v)) }
-{
-    if is_positive_zero_f64(v) {
-        return 1;
-    }
-    f64_bits_size(bits_of_f64(v))
-}
-
-// An f64 by its value.
-pub fn write_f64(buf: &mut [u8], at: usize, v: f64) -> usize
-    ensures { ◌≡◌ {A = ℕ × List ℕ} (result, buf.new) (placed buf.old at (float64_bytes (to_bits binary64 v))) }
-{
-    if is_positive_zero_f64(v) {
-        return write_sized(buf, at, 0, 0);
-    }
-    write_f64_bits(buf, at, bits_of_f64(v))
+    F::write_bits(buf, at, v.bits())
 }

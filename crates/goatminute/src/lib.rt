@@ -3,10 +3,11 @@
 // Each answers 0 for an accepted call, or the refusal's number. A refused call leaves what is lent as it was.
 #![tactic(auto)]
 
-ghost use Rattle.std.specs.Prelude.{◌≡◌, length, replicate};
+ghost use Rattle.std.specs.Prelude.{◌≡◌, length};
+ghost use Rattle.machine.specs.Call.{version_marker, emptying};
 ghost use Rattle.machine.specs.Machine.{finished_length};
 ghost use Rattle.state_bytes.specs.StateBytes.{state_of, entered};
-ghost use Rattle.entry_steps.specs.Entries.{entered_as, start_entered};
+ghost use Rattle.entry_steps.specs.Entries.{entered_as, answered_as, start_entered};
 ghost use Rattle.entry_numbers.specs.EntryCall.{gm_version_marker, gm_empty, call_of};
 
 pub use entry_containers::{
@@ -20,38 +21,49 @@ pub use entry_slices::{
     gm_write_blob, gm_write_clob, gm_write_decimal, gm_write_int, gm_write_string,
 };
 use machine::{LONGEST_BUFFER, MARKER, Refusal};
+use place::{CallKind, Standing};
 pub use state_bytes::STATE_SIZE;
+use state_bytes::StateBytes;
 
-fn clear(state: &mut [u8])
-    ensures { state.new ≡ replicate (length state.old) 0 }
+fn start(state: &mut [u8], buf: &mut [u8]) -> Result<(), Refusal>
+    ensures { answered_as result state.new buf.new ≡ start_entered state.old buf.old }
 {
-    let mut i: usize = 0;
-    while i < state.len() {
-        state[i] = 0;
-        i += 1;
+    if state.len() != STATE_SIZE {
+        if LONGEST_BUFFER < buf.len() {
+            return Err(Refusal::BufferTooLong);
+        }
+        return Err(Refusal::StateUnfit);
     }
+    state.fill(0);
+    if LONGEST_BUFFER < buf.len() {
+        return Err(Refusal::BufferTooLong);
+    }
+    let Some(put) = buffer::copy(buf, 0, &MARKER) else {
+        return Err(Refusal::NoRoom);
+    };
+    state_bytes::store(state, put, 0, false);
+    Ok(())
 }
 
 // A start: the empty state over a lent buffer that begins with a version marker.
 pub fn gm_start(state: &mut [u8], buf: &mut [u8]) -> u8
     ensures { entered_as result state.new buf.new ≡ start_entered state.old buf.old }
 {
-    if state.len() != STATE_SIZE {
-        if LONGEST_BUFFER < buf.len() {
-            return 1;
-        }
-        return 2;
-    }
-    clear(state);
-    if LONGEST_BUFFER < buf.len() {
-        return 1;
-    }
-    let put = buffer::copy(buf, 0, &MARKER);
-    if put == 0 {
-        return 10;
-    }
-    state_bytes::store(state, put, 0, false);
-    0
+    entry_numbers::answered(start(state, buf))
+}
+
+fn version_marker(state: &mut [u8], buf: &mut [u8]) -> Result<(), Refusal>
+    ensures { answered_as result state.new buf.new ≡ entered version_marker state.old buf.old }
+{
+    state_bytes::check(state, buf.len(), CallKind::Top)?;
+    let s = StateBytes(state);
+    let used = s.used();
+    let waits = s.waits();
+    let Some(put) = buffer::copy(buf, used, &MARKER) else {
+        return Err(Refusal::NoRoom);
+    };
+    state_bytes::grow(state, put, waits);
+    Ok(())
 }
 
 // A version marker, at the place of the call.
@@ -59,11 +71,18 @@ pub fn gm_version_marker(state: &mut [u8], buf: &mut [u8]) -> u8
     ensures { entered_as result state.new buf.new
         ≡ entered (call_of gm_version_marker) state.old buf.old }
 {
-    if !state_bytes::top_passes(state, buf.len()) {
-        return entry_numbers::answered(state_bytes::top_place(state, buf.len()));
-    }
-    let put = buffer::copy(buf, state_bytes::used(state), &MARKER);
-    entry_steps::ended(state, put, state_bytes::waiting(state), Refusal::NoRoom)
+    entry_numbers::answered(version_marker(state, buf))
+}
+
+fn empty(state: &mut [u8], buf: &[u8]) -> Result<(), Refusal>
+    ensures { answered_as result state.new buf.now ≡ entered emptying state.old buf.now }
+{
+    state_bytes::check(state, buf.len(), CallKind::Top)?;
+    let s = StateBytes(state);
+    let depth = s.depth();
+    let waits = s.waits();
+    state_bytes::store(state, 0, depth, waits);
+    Ok(())
 }
 
 // An emptying: the used length becomes zero, and no byte of the buffer alters.
@@ -71,18 +90,12 @@ pub fn gm_empty(state: &mut [u8], buf: &[u8]) -> u8
     ensures { entered_as result state.new buf.now
         ≡ entered (call_of gm_empty) state.old buf.now }
 {
-    if !state_bytes::top_passes(state, buf.len()) {
-        return entry_numbers::answered(state_bytes::top_place(state, buf.len()));
-    }
-    let depth = state_bytes::depth(state);
-    let waiting = state_bytes::waiting(state);
-    state_bytes::store(state, 0, depth, waiting);
-    0
+    entry_numbers::answered(empty(state, buf))
 }
 
 // A taking: how many bytes from the buffer's front are finished.
 pub fn gm_finished(state: &[u8], buf: &[u8]) -> usize
     ensures { result ≡ finished_length (state_of state.now) (length buf.now) }
 {
-    state_bytes::finished_length(state, buf.len())
+    place::finished_length(&StateBytes(state), buf.len())
 }

@@ -1,7 +1,7 @@
 // The header of a value: the type code in the high four bits; the length in the low four, or from 14 on E there and a VarUInt behind.
 #![tactic(auto)]
 
-ghost use Rattle.std.specs.Prelude.{◌≡◌, List, ℕ, ◌*◌, ◌/◌, length};
+ghost use Rattle.std.specs.Prelude.{◌≡◌, List, ℕ, Option, ◌*◌, ◌/◌, length};
 ghost use Rattle.encoding.specs.Headers.{header_bytes};
 ghost use Rattle.buffer.specs.Laid.{placed};
 
@@ -19,8 +19,8 @@ pub fn encoded_size_of(body: usize) -> usize
 }
 
 // The header of `body` bytes. `code` has the type code in its high four bits; its low four do not count.
-pub fn write(buf: &mut [u8], at: usize, code: u8, body: usize) -> usize
-    ensures { ◌≡◌ {A = ℕ × List ℕ} (result, buf.new) (placed buf.old at (header_bytes (code / 16 * 16) body)) }
+pub fn write(buf: &mut [u8], at: usize, code: u8, body: usize) -> Option<usize>
+    ensures { ◌≡◌ {A = Option ℕ × List ℕ} (result, buf.new) (placed buf.old at (header_bytes (code / 16 * 16) body)) }
 {
     let high = code / 16 * 16;
     if body < LONG {
@@ -28,9 +28,9 @@ pub fn write(buf: &mut [u8], at: usize, code: u8, body: usize) -> usize
     }
     let size = encoded_size_of(body);
     if !buffer::has_room(buf.len(), at, size) {
-        return 0;
+        return None;
     }
-    let one = buffer::put(buf, at, high + LONG as u8);
-    let more = var_uint::write(buf, at + one, body as u64);
-    one + more
+    let one = buffer::put(buf, at, high + LONG as u8)?;
+    let more = var_uint::write(buf, at + one, body as u64)?;
+    Some(one + more)
 }

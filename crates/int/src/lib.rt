@@ -1,7 +1,7 @@
 // Int: a UInt with the sign in the top bit of the first byte; where the magnitude takes that bit, a byte with the sign alone goes before it.
 #![tactic(auto)]
 
-ghost use Rattle.std.specs.Prelude.{◌≡◌, false, List, ◌∷◌, ℕ, length};
+ghost use Rattle.std.specs.Prelude.{◌≡◌, false, List, ◌∷◌, ℕ, Option, length};
 ghost use Rattle.encoding.specs.Fields.{uint_bytes, trimmed, int_bytes};
 ghost use Rattle.buffer.specs.Laid.{placed};
 
@@ -13,35 +13,35 @@ pub fn encoded_size_of(negative: bool, magnitude: &[u8]) -> usize
 {
     let zeros = uint::leading_zero_bytes(magnitude);
     if zeros == magnitude.len() {
-        return negative as usize;
+        return usize::from(negative);
     }
     let high_bit = magnitude[zeros] / SIGN;
-    magnitude.len() - zeros + high_bit as usize
+    magnitude.len() - zeros + usize::from(high_bit)
 }
 
 // A first byte and those of `rest`.
-fn write_first(buf: &mut [u8], at: usize, first: u8, rest: &[u8]) -> usize
-    ensures { ◌≡◌ {A = ℕ × List ℕ} (result, buf.new) (placed buf.old at (first ∷ rest.now)) }
+fn write_first(buf: &mut [u8], at: usize, first: u8, rest: &[u8]) -> Option<usize>
+    ensures { ◌≡◌ {A = Option ℕ × List ℕ} (result, buf.new) (placed buf.old at (first ∷ rest.now)) }
 {
     if !buffer::has_room(buf.len(), at, rest.len() + 1) {
-        return 0;
+        return None;
     }
-    let one = buffer::put(buf, at, first);
-    let more = buffer::copy(buf, at + one, rest);
-    one + more
+    let one = buffer::put(buf, at, first)?;
+    let more = buffer::copy(buf, at + one, rest)?;
+    Some(one + more)
 }
 
 // The sign and a big-endian magnitude as an Int. Zero keeps its sign.
-pub fn write(buf: &mut [u8], at: usize, negative: bool, magnitude: &[u8]) -> usize
-    ensures { ◌≡◌ {A = ℕ × List ℕ} (result, buf.new) (placed buf.old at (int_bytes negative (trimmed magnitude.now))) }
+pub fn write(buf: &mut [u8], at: usize, negative: bool, magnitude: &[u8]) -> Option<usize>
+    ensures { ◌≡◌ {A = Option ℕ × List ℕ} (result, buf.new) (placed buf.old at (int_bytes negative (trimmed magnitude.now))) }
 {
     let zeros = uint::leading_zero_bytes(magnitude);
-    let sign = SIGN * (negative as u8);
+    let sign = SIGN * u8::from(negative);
     if zeros == magnitude.len() {
         if negative {
             return buffer::put(buf, at, sign);
         }
-        return 0;
+        return buffer::copy(buf, at, b"");
     }
     let first = magnitude[zeros];
     if first < SIGN {
@@ -61,8 +61,8 @@ pub fn encoded_size_of_u64(value: u64) -> usize
 }
 
 // `value` as an Int: its bytes with the top bit clear, so that a zero byte goes before them where the top bit is taken.
-pub fn write_u64(buf: &mut [u8], at: usize, value: u64) -> usize
-    ensures { ◌≡◌ {A = ℕ × List ℕ} (result, buf.new) (placed buf.old at (int_bytes false (uint_bytes value))) }
+pub fn write_u64(buf: &mut [u8], at: usize, value: u64) -> Option<usize>
+    ensures { ◌≡◌ {A = Option ℕ × List ℕ} (result, buf.new) (placed buf.old at (int_bytes false (uint_bytes value))) }
 {
     uint::write_fixed(buf, at, encoded_size_of_u64(value), value)
 }

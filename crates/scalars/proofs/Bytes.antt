@@ -1,18 +1,24 @@
 -- The bytes of each scalar in the terms of the code.
 -- By cases on the argument. Assumes nothing.
 use mathlib.Core.Path.{◌≡◌, refl, sym}
-use mathlib.Core.List.{[], ◌∷◌}
+use mathlib.Core.List.{List, [], ◌∷◌}
+use native.Mathlib.Omega.{arith}
+use lib.ListN.{length}
 use mathlib.Core.Bool.{Bool, true, false, not}
-use Prim.Native.Nat.{ℕ, ◌+◌, ◌*◌, ◌/◌}
+use Prim.Native.Nat.{ℕ, ◌+◌, ◌*◌, ◌/◌, ◌%◌}
 use lib.IntN.{ℤ, pos, negsuc, nat_abs}
 use lib.Signed.{non_neg}
 use mir.Val.{bool_byte}
-use Rattle.ion.specs.Value.{IonType}
+use Rattle.ion.specs.Value.{IonType, high_bits, ion_null, ion_bool, ion_int, ion_float, ion_decimal, ion_timestamp, ion_symbol, ion_string, ion_clob, ion_blob, ion_list, ion_sexp, ion_struct}
+use Rattle.ion.specs.Text.{utf8}
 use Rattle.encoding.specs.Fields.{uint_bytes}
 use Rattle.encoding.specs.Headers.{type_byte, framed_bytes}
-use Rattle.encoding.specs.Argument.{write_null, write_bool, write_i64, write_f32, write_f64, write_symbol, code_of_null, code_of_sign, float32_bytes}
+use Rattle.encoding.specs.Argument.{write_null, write_bool, write_i64, write_f32, write_f64, write_symbol, write_string, write_clob, write_blob, code_of_null, code_of_sign, float32_bytes}
 use Rattle.encoding.specs.Argument.{float64_bytes, argument_bytes, checked_bytes}
-use Rattle.encoding.proofs.Headers.{type_byte_high}
+use Rattle.encoding.proofs.Headers.{type_byte_high, header_least, length-framed}
+use Rattle.decimal.proofs.Values.{checked_bytes_accepted}
+use Rattle.buffer.specs.Laid.{placed, written}
+use Rattle.buffer.proofs.Laid.{written-some}
 
 pub null_bytes : (t : IonType) → checked_bytes (write_null t) ≡ (type_byte (code_of_null t) + 15) ∷ []
 unfolding checked_bytes argument_bytes
@@ -49,3 +55,35 @@ f64_bytes b = refl
 pub sign_byte : (s : Bool) → 0x20 + 0x10 * bool_byte s ≡ type_byte (code_of_sign s)
 sign_byte true = refl
 sign_byte false = refl
+
+-- the type code of a null has four bits
+pub null_code_small : (t : IonType) → high_bits (code_of_null t) % 16 ≡ high_bits (code_of_null t)
+null_code_small ion_null = refl
+null_code_small ion_bool = refl
+null_code_small ion_int = refl
+null_code_small ion_float = refl
+null_code_small ion_decimal = refl
+null_code_small ion_timestamp = refl
+null_code_small ion_symbol = refl
+null_code_small ion_string = refl
+null_code_small ion_clob = refl
+null_code_small ion_blob = refl
+null_code_small ion_list = refl
+null_code_small ion_sexp = refl
+null_code_small ion_struct = refl
+
+pub clob_bytes : (b : List ℕ) → checked_bytes (write_clob b) ≡ framed_bytes 0x90 b
+unfolding checked_bytes argument_bytes
+clob_bytes b = refl
+
+pub blob_bytes : (b : List ℕ) → checked_bytes (write_blob b) ≡ framed_bytes 0xA0 b
+unfolding checked_bytes argument_bytes
+blob_bytes b = refl
+
+pub string_bytes : (b : List ℕ) → utf8 b ≡ true → checked_bytes (write_string b) ≡ framed_bytes 0x80 b
+unfolding argument_bytes
+string_bytes b h = checked_bytes_accepted (write_string b) (rw h refl)
+
+-- a framed value has bytes
+pub written_framed : (b : List ℕ) (at t : ℕ) (bs : List ℕ) → written b at (framed_bytes t bs) ≡ placed b at (framed_bytes t bs)
+written_framed b at t bs = written-some b at (framed_bytes t bs) (omega (arith, length-framed t bs, header_least 0 (length bs)))

@@ -1,16 +1,61 @@
 // The scalars of document 01's value_writer, without annotations: a descriptor byte with the type code in its high four bits, then the body.
-// A function that writes answers how many bytes it put. It puts all or none, and none where a check of its own refuses the value.
 #![tactic(auto)]
 
-ghost use Rattle.std.specs.Prelude.{◌≡◌, ◌&&◌, List, ℕ, ◌*◌, ◌/◌, ◌^◌, ◌<◌, ◌≤◌, eqb, length};
+ghost use Rattle.std.specs.Prelude.{◌≡◌, ◌&&◌, List, ℕ, Option, ◌*◌, ◌/◌, ◌^◌, ◌<◌, ◌≤◌, eqb, length};
+ghost use Rattle.std.specs.Float.{binary32, binary64};
+ghost use Rattle.std.specs.Float.Ieee.{to_bits};
 ghost use Rattle.ion.specs.Value.{high_bits};
 ghost use Rattle.ion.specs.Fields.{uint};
 ghost use Rattle.encoding.specs.Headers.{type_byte, framed_bytes};
-ghost use Rattle.encoding.specs.Argument.{code_of_null, code_of_sign, checked_bytes, write_null, write_bool, write_i64, write_int, write_symbol};
-ghost use Rattle.buffer.specs.Laid.{placed};
-ghost use Rattle.scalars.specs.Types.{type_of, scalar_argument};
+ghost use Rattle.encoding.specs.Argument.{Argument, code_of_null, code_of_sign, checked_bytes, write_null, write_bool, write_i64, write_int, write_f32, write_f64, write_decimal, write_symbol, write_string, write_clob, write_blob};
+ghost use Rattle.machine.specs.Machine.{refused};
+ghost use Rattle.machine.specs.Numbers.{number};
+ghost use Rattle.buffer.specs.Laid.{written, size_of};
+ghost use Rattle.timestamp.specs.Arguments.{argument_of};
+ghost use Rattle.scalars.specs.Types.{type_of};
+ghost use Rattle.scalars.specs.Refused.{own_refusal};
 
-#[derive(Clone, Copy)]
+use decimal::MAX_BODY;
+pub use decimal::Decimal;
+use floats::Float;
+use machine::Refusal;
+pub use timestamp::Timestamp;
+
+const BOOL: u8 = 0x10;
+
+const INT: u8 = 0x20;
+
+// From the type byte of the ints to that of the negative ones.
+const NEGATIVE: u8 = 0x10;
+
+const SYMBOL: u8 = 0x70;
+
+const STRING: u8 = 0x80;
+
+const CLOB: u8 = 0x90;
+
+const BLOB: u8 = 0xA0;
+
+// What a scalar call is given: `argument` is what the definition of the call's bytes says of it.
+pub trait WriteAsIon: Copy {
+    ghost argument: { Self → Argument };
+
+    // The bytes that it takes, header and body; none where one of its own checks refuses it.
+    fn size(self) -> Option<usize>
+        ensures { result ≡ size_of (checked_bytes (argument self)) };
+
+    // Puts these bytes.
+    fn write(self, buf: &mut [u8], at: usize) -> Option<usize>
+        ensures { ◌≡◌ {A = Option ℕ × List ℕ} (result, buf.new) (written buf.old at (checked_bytes (argument self))) };
+
+    // Why it was not put where it may stand: the first of its own checks that fails, or 10.
+    fn refusal(self) -> Refusal
+        ensures { refused (number result) ≡ own_refusal (argument self) };
+}
+
+// ---- nulls, bools
+
+#[derive(Clone, Copy, Debug, PartialEq, Eq)]
 pub enum IonType {
     Null,
     Bool,
@@ -27,87 +72,70 @@ pub enum IonType {
     Struct,
 }
 
-// The scalars that no check refuses. Floats are given by their value or by their bits.
-#[derive(Clone, Copy)]
-pub enum Scalar {
-    Null(IonType),
-    Bool(bool),
-    I64(i64),
-    F32(f32),
-    F32Bits(u32),
-    F64(f64),
-    F64Bits(u64),
-    Symbol(u64),
-}
-
-const BOOL: u8 = 0x10;
-
-const INT: u8 = 0x20;
-
-// From the type byte of the ints to that of the negative ones.
-const NEGATIVE: u8 = 0x10;
-
-const SYMBOL: u8 = 0x70;
-
 // The type code of a null. Of the two codes of the ints it is that of zero and above.
-fn null_code(t: IonType) -> u8
-    ensures { (result ≡ high_bits (code_of_null (type_of t))) × (result < 16) }
-{
-    match t {
-        IonType::Null => 0,
-        IonType::Bool => 1,
-        IonType::Int => 2,
-        IonType::Float => 4,
-        IonType::Decimal => 5,
-        IonType::Timestamp => 6,
-        IonType::Symbol => 7,
-        IonType::String => 8,
-        IonType::Clob => 9,
-        IonType::Blob => 10,
-        IonType::List => 11,
-        IonType::Sexp => 12,
-        IonType::Struct => 13,
+impl From<IonType> for u8 {
+    ghost from_gives = { λ t n. n ≡ high_bits (code_of_null (type_of t)) };
+
+    fn from(t: IonType) -> u8 {
+        match t {
+            IonType::Null => 0,
+            IonType::Bool => 1,
+            IonType::Int => 2,
+            IonType::Float => 4,
+            IonType::Decimal => 5,
+            IonType::Timestamp => 6,
+            IonType::Symbol => 7,
+            IonType::String => 8,
+            IonType::Clob => 9,
+            IonType::Blob => 10,
+            IonType::List => 11,
+            IonType::Sexp => 12,
+            IonType::Struct => 13,
+        }
     }
 }
 
-// One byte: the type code, and F.
-pub fn write_null(buf: &mut [u8], at: usize, t: IonType) -> usize
-    ensures { ◌≡◌ {A = ℕ × List ℕ} (result, buf.new) (placed buf.old at (checked_bytes (write_null (type_of t)))) }
-{
-    buffer::put(buf, at, null_code(t) * 16 + 15)
+// A null of a type: one byte, the type code and F.
+impl WriteAsIon for IonType {
+    ghost argument = { λ t. write_null (type_of t) };
+
+    fn size(self) -> Option<usize> {
+        Some(1)
+    }
+
+    fn write(self, buf: &mut [u8], at: usize) -> Option<usize> {
+        buffer::put(buf, at, u8::from(self) % 16 * 16 + 15)
+    }
+
+    fn refusal(self) -> Refusal {
+        Refusal::NoRoom
+    }
 }
 
 // 10, and 11 for true.
-pub fn write_bool(buf: &mut [u8], at: usize, value: bool) -> usize
-    ensures { ◌≡◌ {A = ℕ × List ℕ} (result, buf.new) (placed buf.old at (checked_bytes (write_bool value))) }
-{
-    buffer::put(buf, at, BOOL + value as u8)
+impl WriteAsIon for bool {
+    ghost argument = { write_bool };
+
+    fn size(self) -> Option<usize> {
+        Some(1)
+    }
+
+    fn write(self, buf: &mut [u8], at: usize) -> Option<usize> {
+        buffer::put(buf, at, BOOL + u8::from(self))
+    }
+
+    fn refusal(self) -> Refusal {
+        Refusal::NoRoom
+    }
 }
+
+// ---- ints and symbols
 
 // 2 for zero and above, 3 below.
 fn int_code(negative: bool) -> u8
     ensures { result ≡ type_byte (code_of_sign negative) }
 {
-    INT + NEGATIVE * (negative as u8)
-}
-
-// Zero has no body.
-pub fn write_i64(buf: &mut [u8], at: usize, value: i64) -> usize
-    ensures { ◌≡◌ {A = ℕ × List ℕ} (result, buf.new) (placed buf.old at (checked_bytes (write_i64 value))) }
-{
-    uint::write_framed(
-        buf,
-        at,
-        int_code(sign::is_negative(value)),
-        sign::magnitude(value),
-    )
-}
-
-// Sid 0 has no body.
-pub fn write_symbol(buf: &mut [u8], at: usize, sid: u64) -> usize
-    ensures { ◌≡◌ {A = ℕ × List ℕ} (result, buf.new) (placed buf.old at (checked_bytes (write_symbol sid))) }
-{
-    uint::write_framed(buf, at, SYMBOL, sid)
+    INT + NEGATIVE * u8::from(negative)
 }
 
 // The bytes that `body` bytes take with their header, of any type. A slice is shorter than 2 to the 63, so the sum does not wrap.
@@ -118,85 +146,295 @@ fn framed_size(body: usize) -> usize
     header::encoded_size_of(body) + body
 }
 
-// A body of any length behind its header: strings, clobs and blobs. The low four bits of `code` do not count.
-pub fn write_bytes(buf: &mut [u8], at: usize, code: u8, bytes: &[u8]) -> usize
-    ensures { ◌≡◌ {A = ℕ × List ℕ} (result, buf.new) (placed buf.old at (framed_bytes (code / 16 * 16) bytes.now)) }
+// Zero has no body.
+impl WriteAsIon for i64 {
+    ghost argument = { write_i64 };
+
+    fn size(self) -> Option<usize> {
+        Some(framed_size(uint::encoded_size_of(sign::magnitude(self))))
+    }
+
+    fn write(self, buf: &mut [u8], at: usize) -> Option<usize> {
+        uint::write_framed(
+            buf,
+            at,
+            int_code(sign::is_negative(self)),
+            sign::magnitude(self),
+        )
+    }
+
+    fn refusal(self) -> Refusal {
+        Refusal::NoRoom
+    }
+}
+
+// A symbol's sid. Sid 0 has no body.
+#[derive(Clone, Copy, Debug, PartialEq, Eq)]
+pub struct Symbol(pub u64);
+
+impl WriteAsIon for Symbol {
+    ghost argument = { λ s. write_symbol s.0 };
+
+    fn size(self) -> Option<usize> {
+        Some(framed_size(uint::encoded_size_of(self.0)))
+    }
+
+    fn write(self, buf: &mut [u8], at: usize) -> Option<usize> {
+        uint::write_framed(buf, at, SYMBOL, self.0)
+    }
+
+    fn refusal(self) -> Refusal {
+        Refusal::NoRoom
+    }
+}
+
+// A body of any length behind its header. The low four bits of `code` do not count.
+fn write_bytes(buf: &mut [u8], at: usize, code: u8, bytes: &[u8]) -> Option<usize>
+    ensures { ◌≡◌ {A = Option ℕ × List ℕ} (result, buf.new) (written buf.old at (framed_bytes (code / 16 * 16) bytes.now)) }
 {
     if !buffer::has_room(buf.len(), at, framed_size(bytes.len())) {
-        return 0;
+        return None;
     }
-    let header = header::write(buf, at, code, bytes.len());
-    header + buffer::copy(buf, at + header, bytes)
+    let header = header::write(buf, at, code, bytes.len())?;
+    let body = buffer::copy(buf, at + header, bytes)?;
+    Some(header + body)
 }
 
-// Check 5 of document 01's table.
-pub fn is_negative_zero(negative: bool, magnitude: &[u8]) -> bool
-    ensures { result ≡ (negative && eqb (uint magnitude.now) 0) }
-{
-    negative & (uint::leading_zero_bytes(magnitude) == magnitude.len())
+// An int of any size: its sign, and its magnitude from the highest byte on, whose leading zero bytes do not count.
+#[derive(Clone, Copy)]
+pub struct Int<'a> {
+    pub negative: bool,
+    pub magnitude: &'a [u8],
 }
 
-// The sign and a big-endian magnitude, whose leading zero bytes do not count. Zero has one byte; negative zero is refused.
-pub fn write_int(buf: &mut [u8], at: usize, negative: bool, magnitude: &[u8]) -> usize
-    ensures { ◌≡◌ {A = ℕ × List ℕ} (result, buf.new) (placed buf.old at (checked_bytes (write_int negative magnitude.now))) }
-{
-    if is_negative_zero(negative, magnitude) {
-        return 0;
-    }
-    let code = int_code(negative);
-    let zeros = uint::leading_zero_bytes(magnitude);
-    if zeros == magnitude.len() {
-        return write_bytes(buf, at, code, b"\0");
-    }
-    write_bytes(buf, at, code, &magnitude[zeros..])
-}
-
-// The bytes that the body `bytes` takes with its header, of any type.
-pub fn bytes_size(bytes: &[u8]) -> usize
-    ensures { (t : ℕ) → result ≡ length (framed_bytes t bytes.now) }
-{
-    framed_size(bytes.len())
-}
-
-// The bytes that an int takes; none for negative zero.
-pub fn int_size(negative: bool, magnitude: &[u8]) -> usize
-    ensures { result ≡ length (checked_bytes (write_int negative magnitude.now)) }
-{
-    if is_negative_zero(negative, magnitude) {
-        return 0;
-    }
-    let body = magnitude.len() - uint::leading_zero_bytes(magnitude);
-    framed_size(body + (body == 0) as usize)
-}
-
-// The bytes that a scalar takes.
-pub fn size(value: Scalar) -> usize
-    ensures { result ≡ length (checked_bytes (scalar_argument value)) }
-{
-    match value {
-        Scalar::Null(_) => 1,
-        Scalar::Bool(_) => 1,
-        Scalar::I64(n) => framed_size(uint::encoded_size_of(sign::magnitude(n))),
-        Scalar::F32(v) => floats::f32_size(v),
-        Scalar::F32Bits(bits) => floats::f32_bits_size(bits),
-        Scalar::F64(v) => floats::f64_size(v),
-        Scalar::F64Bits(bits) => floats::f64_bits_size(bits),
-        Scalar::Symbol(sid) => framed_size(uint::encoded_size_of(sid)),
+impl<'a> Int<'a> {
+    // Check 5 of document 01's table.
+    pub fn is_negative_zero(self) -> bool
+        ensures { result ≡ (self.entry.negative && eqb (uint self.entry.magnitude.now) 0) }
+    {
+        self.negative & (uint::leading_zero_bytes(self.magnitude) == self.magnitude.len())
     }
 }
 
-// By its case.
-pub fn write(buf: &mut [u8], at: usize, value: Scalar) -> usize
-    ensures { ◌≡◌ {A = ℕ × List ℕ} (result, buf.new) (placed buf.old at (checked_bytes (scalar_argument value))) }
-{
-    match value {
-        Scalar::Null(t) => write_null(buf, at, t),
-        Scalar::Bool(b) => write_bool(buf, at, b),
-        Scalar::I64(n) => write_i64(buf, at, n),
-        Scalar::F32(v) => floats::write_f32(buf, at, v),
-        Scalar::F32Bits(bits) => floats::write_f32_bits(buf, at, bits),
-        Scalar::F64(v) => floats::write_f64(buf, at, v),
-        Scalar::F64Bits(bits) => floats::write_f64_bits(buf, at, bits),
-        Scalar::Symbol(sid) => write_symbol(buf, at, sid),
+// Zero has one byte; negative zero is refused.
+impl<'a> WriteAsIon for Int<'a> {
+    ghost argument = { λ i. write_int i.negative i.magnitude.now };
+
+    fn size(self) -> Option<usize> {
+        if self.is_negative_zero() {
+            return None;
+        }
+        let body = self.magnitude.len() - uint::leading_zero_bytes(self.magnitude);
+        Some(framed_size(body.max(1)))
+    }
+
+    fn write(self, buf: &mut [u8], at: usize) -> Option<usize> {
+        if self.is_negative_zero() {
+            return None;
+        }
+        let code = int_code(self.negative);
+        let zeros = uint::leading_zero_bytes(self.magnitude);
+        if zeros == self.magnitude.len() {
+            return write_bytes(buf, at, code, b"\0");
+        }
+        write_bytes(buf, at, code, &self.magnitude[zeros..])
+    }
+
+    fn refusal(self) -> Refusal {
+        if self.is_negative_zero() {
+            return Refusal::NegativeZero;
+        }
+        Refusal::NoRoom
+    }
+}
+
+// ---- floats
+
+// A float by the bits of binary32; a NaN keeps its own.
+#[derive(Clone, Copy, Debug, PartialEq, Eq)]
+pub struct F32Bits(pub u32);
+
+impl WriteAsIon for F32Bits {
+    ghost argument = { λ b. write_f32 b.0 };
+
+    fn size(self) -> Option<usize> {
+        Some(f32::bits_size(self.0))
+    }
+
+    fn write(self, buf: &mut [u8], at: usize) -> Option<usize> {
+        f32::write_bits(buf, at, self.0)
+    }
+
+    fn refusal(self) -> Refusal {
+        Refusal::NoRoom
+    }
+}
+
+// A float by the bits of binary64, in four bytes where binary32 holds it; a NaN keeps its own.
+#[derive(Clone, Copy, Debug, PartialEq, Eq)]
+pub struct F64Bits(pub u64);
+
+impl WriteAsIon for F64Bits {
+    ghost argument = { λ b. write_f64 b.0 };
+
+    fn size(self) -> Option<usize> {
+        Some(f64::bits_size(self.0))
+    }
+
+    fn write(self, buf: &mut [u8], at: usize) -> Option<usize> {
+        f64::write_bits(buf, at, self.0)
+    }
+
+    fn refusal(self) -> Refusal {
+        Refusal::NoRoom
+    }
+}
+
+// A NaN has the bits 7FC00000.
+impl WriteAsIon for f32 {
+    ghost argument = { λ v. write_f32 (to_bits binary32 v) };
+
+    fn size(self) -> Option<usize> {
+        Some(floats::size(self))
+    }
+
+    fn write(self, buf: &mut [u8], at: usize) -> Option<usize> {
+        floats::write(buf, at, self)
+    }
+
+    fn refusal(self) -> Refusal {
+        Refusal::NoRoom
+    }
+}
+
+// A NaN has the bits 7FF8000000000000.
+impl WriteAsIon for f64 {
+    ghost argument = { λ v. write_f64 (to_bits binary64 v) };
+
+    fn size(self) -> Option<usize> {
+        Some(floats::size(self))
+    }
+
+    fn write(self, buf: &mut [u8], at: usize) -> Option<usize> {
+        floats::write(buf, at, self)
+    }
+
+    fn refusal(self) -> Refusal {
+        Refusal::NoRoom
+    }
+}
+
+// ---- decimals
+
+// A body over 32 bytes is refused.
+impl<'a> WriteAsIon for Decimal<'a> {
+    ghost argument = { λ d. write_decimal d.negative d.magnitude.now d.exponent };
+
+    fn size(self) -> Option<usize> {
+        Decimal::size(self)
+    }
+
+    fn write(self, buf: &mut [u8], at: usize) -> Option<usize> {
+        Decimal::write(self, buf, at)
+    }
+
+    fn refusal(self) -> Refusal {
+        if MAX_BODY < self.body_size() {
+            return Refusal::DecimalTooLong;
+        }
+        Refusal::NoRoom
+    }
+}
+
+// ---- timestamps
+
+// Local fields. One that breaks the rules of check 7 is refused.
+impl WriteAsIon for Timestamp {
+    ghost argument = { argument_of };
+
+    fn size(self) -> Option<usize> {
+        timestamp::size(self)
+    }
+
+    fn write(self, buf: &mut [u8], at: usize) -> Option<usize> {
+        timestamp::write(buf, at, self)
+    }
+
+    fn refusal(self) -> Refusal {
+        if self.is_valid() {
+            return Refusal::NoRoom;
+        }
+        Refusal::BadTimestamp
+    }
+}
+
+// ---- strings, clobs, blobs
+
+// A string's bytes. Those that are not UTF-8 are refused.
+#[derive(Clone, Copy)]
+pub struct Text<'a>(pub &'a [u8]);
+
+impl<'a> WriteAsIon for Text<'a> {
+    ghost argument = { λ s. write_string s.0.now };
+
+    fn size(self) -> Option<usize> {
+        if !text::is_utf8(self.0) {
+            return None;
+        }
+        Some(framed_size(self.0.len()))
+    }
+
+    fn write(self, buf: &mut [u8], at: usize) -> Option<usize> {
+        if !text::is_utf8(self.0) {
+            return None;
+        }
+        write_bytes(buf, at, STRING, self.0)
+    }
+
+    fn refusal(self) -> Refusal {
+        if text::is_utf8(self.0) {
+            return Refusal::NoRoom;
+        }
+        Refusal::NotUtf8
+    }
+}
+
+// A clob's bytes.
+#[derive(Clone, Copy)]
+pub struct Clob<'a>(pub &'a [u8]);
+
+impl<'a> WriteAsIon for Clob<'a> {
+    ghost argument = { λ c. write_clob c.0.now };
+
+    fn size(self) -> Option<usize> {
+        Some(framed_size(self.0.len()))
+    }
+
+    fn write(self, buf: &mut [u8], at: usize) -> Option<usize> {
+        write_bytes(buf, at, CLOB, self.0)
+    }
+
+    fn refusal(self) -> Refusal {
+        Refusal::NoRoom
+    }
+}
+
+// A blob's bytes.
+#[derive(Clone, Copy)]
+pub struct Blob<'a>(pub &'a [u8]);
+
+impl<'a> WriteAsIon for Blob<'a> {
+    ghost argument = { λ b. write_blob b.0.now };
+
+    fn size(self) -> Option<usize> {
+        Some(framed_size(self.0.len()))
+    }
+
+    fn write(self, buf: &mut [u8], at: usize) -> Option<usize> {
+        write_bytes(buf, at, BLOB, self.0)
+    }
+
+    fn refusal(self) -> Refusal {
+        Refusal::NoRoom
     }
 }

@@ -8,15 +8,12 @@ ghost use Rattle.std.specs.Int.Signed.{non_neg};
 pub fn is_negative(v: i64) -> bool
     ensures { result ≡ not (non_neg v) }
 {
-    v < 0
+    v.is_negative()
 }
 
 // The magnitude of `v`; that of the least i64 is 2 to the 63.
 pub fn magnitude(v: i64) -> u64
     ensures { result ≡ nat_abs v }
 {
-    if v < 0 {
-        return (-(v + 1)) as u64 + 1;
-    }
-    v as u64
+    v.unsigned_abs()
 }

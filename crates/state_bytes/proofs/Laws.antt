@@ -10,15 +10,15 @@ use lib.Dec.{eqb, ltb, leb, eqb-suc-zero}
 use lib.ListN.{length, get_or, take, set, get_or-append, get_or-eq_default, replicate}
 use lib.Seq.{get_or-take, get_or-set_same, length-take-le}
 use mir.Val.{bool_byte}
-use borrow.Author.Tests.{eq-eqb, ne_eqb, eqb-true, eqb-false, lt-ltb, le-ltb, lt-leb, le-leb, leb-true, leb-false, ltb-true, ltb-false, not-false}
-use Rattle.ion.proofs.Tests.{by_cases, both}
+use borrow.Author.Tests.{eq-eqb, ne_eqb, eqb-true, eqb-false, lt-ltb, le-ltb, lt-leb, le-leb, leb-true, leb-false, ltb-true, ltb-false}
+use Rattle.ion.proofs.Tests.{by_cases}
 use Rattle.buffer.specs.Laid.{laid, placed}
-use Rattle.buffer.proofs.Laid.{laid_one, laid_snoc, length-laid, laid_more, leb_iff}
+use Rattle.buffer.proofs.Laid.{laid_snoc, length-laid, laid_more}
 use Rattle.machine.specs.declared.Container.{Container}
 use Rattle.machine.specs.declared.State.{State}
 use Rattle.machine.specs.Machine.{most_open, longest_buffer, no_container, innermost_first, open_containers, in_struct, outer, with_member, counted}
 use Rattle.machine.specs.Machine.{container_fits, containers_fit, fits, place_verdict, is_accepted}
-use Rattle.place.proofs.Laws.{same_test, innermost_step, innermost-none, chain_step, fits_overused, fits_overopen}
+use Rattle.place.proofs.Laws.{innermost_step, innermost-none, chain_step, fits_overused, fits_overopen}
 use Rattle.state_bytes.specs.StateBytes.{head_size, record_size, state_size, four, place_of, container_at, containers_from, unfit_state, state_of}
 use Rattle.state_bytes.specs.StateBytes.{four_bytes, flag, stored_head, stored_container, stored_members, stored_count, numbers_laid}
 
@@ -99,69 +99,6 @@ struct_below b d h k u =
 pub outer_step : (l : List Container) (n : ℕ) → 0 < n → in_struct (innermost_first l (n - 1)) ≡ in_struct (outer (innermost_first l n))
 outer_step l n h = rw (innermost_step l n h)
 
-pub outer-none : (l : List Container) (n : ℕ) → n ≤ 0 → false ≡ in_struct (outer (innermost_first l n))
-outer-none l n h = rw (innermost-none l n h)
-
--- ---- whether it fits
-
--- the codes with their halves exchanged are 11, 12 and 13
-module _ (code : ℕ) where
-  abbrev exchanged : ℕ
-  exchanged = code / 16 + code % 16 * 16
-
-  named : (leb 11 exchanged && leb exchanged 13) ≡ true → (eqb code 0xB0 || (eqb code 0xC0 || eqb code 0xD0)) ≡ true
-  named e =
-      let p = leb-true 11 exchanged (both {a = leb 11 exchanged} e).0 in
-      let q = leb-true exchanged 13 (both {a = leb 11 exchanged} e).1 in
-      let z : code % 16 ≡ 0 = omega (arith, q) in
-      let m : code ≡ 16 * (code / 16) = omega arith in
-      by_cases (eqb code 0xB0) (λ s. rw s)
-      (λ s. by_cases (eqb code 0xC0) (λ t. rw (s, t)) (λ t. rw (s, t) (eq-eqb code 0xD0 (omega (arith, p, q, eqb-false code 0xB0 s, eqb-false code 0xC0 t)))))
-
-  among : (n : ℕ) → code ≡ 16 * n → 11 ≤ n → n ≤ 13 → (leb 11 exchanged && leb exchanged 13) ≡ true
-  among n e p q = rw (le-leb 11 exchanged (omega arith), le-leb exchanged 13 (omega arith))
-
-  pub exchanged_code : (leb 11 exchanged && leb exchanged 13) ≡ (eqb code 0xB0 || (eqb code 0xC0 || eqb code 0xD0))
-  exchanged_code =
-      same_test (leb 11 exchanged && leb exchanged 13) (eqb code 0xB0 || (eqb code 0xC0 || eqb code 0xD0)) named
-      (λ e.
-      by_cases (eqb code 0xB0) (λ s. among 11 (eqb-true code 0xB0 s) (omega arith) (omega arith))
-      (λ s. by_cases (eqb code 0xC0) (λ t. among 12 (eqb-true code 0xC0 t) (omega arith) (omega arith))
-      (λ t. among 13 (eqb-true code 0xD0 (rw (s, t) at e)) (omega arith) (omega arith))))
-
--- a slice of another length
-pub unfit : (b : List ℕ) (room : ℕ) → (length b ≡ state_size → ⊥) → false ≡ fits (state_of b) room
-unfit b room h = rw (state_none b h) (fits_overopen unfit_state room (omega arith) (omega arith))
-
--- what can be read has the right length
-pub readable_size : (b : List ℕ) → leb (state_of b).depth most_open ≡ true → length b ≡ state_size
-readable_size b e =
-    by_cases (eqb (length b) state_size) (λ p. eqb-true (length b) state_size p)
-    (λ p. absurd (false≢true (rw (state_none b (eqb-false (length b) state_size p)) at e)))
-
--- and so has what was tested, of a depth that is allowed
-pub readable_depth : (b : List ℕ) (r : Bool) (d : ℕ) → r ≡ leb (state_of b).depth most_open → not r ≡ false → d ≡ (state_of b).depth
-    → (d ≤ most_open) × (length b ≡ state_size)
-readable_depth b r d p n q = let h = sym p ∙ not-false r n in (rw q (leb-true (state_of b).depth most_open h), readable_size b h)
-
--- members within what is left of the limit
-pub within : (end members limit : ℕ) → (leb end limit && leb members (limit - end)) ≡ leb (end + members) limit
-within end members limit =
-    by_cases (leb end limit)
-    (λ p. let h = leb-true end limit p in rw p (leb_iff members (limit - end) (end + members) limit (λ k. omega arith) (λ k. omega arith)))
-    (λ p. rw (p, lt-leb (end + members) limit (omega (arith, leb-false end limit p))))
-
--- a header that is the start or lies four beyond it
-pub apart : (header start : ℕ) → (not (eqb header start) && ltb header (start + 4)) ≡ false → (eqb header start || leb (start + 4) header) ≡ true
-apart header start e =
-    by_cases (eqb header start) (λ p. rw p)
-    (λ p. let q : ltb header (start + 4) ≡ false = rw p at e in rw (p, le-leb (start + 4) header (ltb-false header (start + 4) q)))
-
-pub between : (header start : ℕ) → (not (eqb header start) && ltb header (start + 4)) ≡ true → (eqb header start || leb (start + 4) header) ≡ false
-between header start e =
-    by_cases (eqb header start) (λ p. let q : false ≡ true = rw p at e in absurd (false≢true q))
-    (λ p. let q : ltb header (start + 4) ≡ true = rw p at e in rw (p, lt-leb (start + 4) header (ltb-true header (start + 4) q)))
-
 -- ---- the containers, one by one
 
 -- c is the container below i
@@ -185,37 +122,25 @@ pub flag_is : (w : Bool) → bool_byte w ≡ flag w
 flag_is true = refl
 flag_is false = refl
 
--- four stores in a row
-pub laid-four : (b : List ℕ) (at v w x y : ℕ) → at + 4 ≤ length b
-    → set (set (set (set b at v) (at + 1) w) (at + 2) x) (at + 3) y ≡ laid b at (v ∷ w ∷ x ∷ y ∷ [])
-laid-four b at v w x y h =
-    rw (
-      laid_one b at v (omega arith),
-      laid_snoc b at (v ∷ []) (at + 1) w refl (omega arith),
-      laid_snoc b at (v ∷ w ∷ []) (at + 2) x refl (omega arith),
-      laid_snoc b at (v ∷ w ∷ x ∷ []) (at + 3) y refl (omega arith),
-    )
-
-pub stored-head : (b l m n : List ℕ) (used depth f : ℕ) (waiting : Bool) → length b ≡ state_size → l ≡ laid b 0 (four_bytes used)
-    → m ≡ laid l 4 (depth % 256 ∷ []) → n ≡ laid m 5 (f ∷ []) → f ≡ flag waiting → n ≡ stored_head used depth waiting b
+pub stored-head : (b l : List ℕ) (used depth f : ℕ) (waiting : Bool) → length b ≡ state_size → l ≡ laid b 0 (four_bytes used) → f ≡ flag waiting
+    → set (set l 4 (depth % 256)) 5 f ≡ stored_head used depth waiting b
 unfolding stored_head
-stored-head b l m n used depth f waiting h p q r e =
-    let a : m ≡ laid b 0 (four_bytes used ++ (depth % 256 ∷ [])) =
-    q ∙ ap (λ (x : List ℕ). laid x 4 (depth % 256 ∷ [])) p ∙ laid_more b 0 (four_bytes used) (omega arith) (depth % 256 ∷ []) in
-    rw (eq-eqb (length b) state_size h, stored_head, ← e)
-    (r ∙ ap (λ (x : List ℕ). laid x 5 (f ∷ [])) a ∙ laid_more b 0 (four_bytes used ++ (depth % 256 ∷ [])) (omega arith) (f ∷ []))
+stored-head b l used depth f waiting h p e =
+    rw (eq-eqb (length b) state_size h, stored_head, ← e, p)
+    (ap (λ (x : List ℕ). set x 5 f) (laid_snoc b 0 (four_bytes used) 4 (depth % 256) refl (omega arith))
+    ∙ laid_snoc b 0 (four_bytes used ++ (depth % 256 ∷ [])) 5 f refl (omega arith))
 
-pub stored-container : (b l m n o : List ℕ) (i : ℕ) (c : Container) → length b ≡ state_size → i < most_open
+pub stored-container : (b l m n : List ℕ) (i : ℕ) (c : Container) → length b ≡ state_size → i < most_open
     → l ≡ laid b (place_of i) (four_bytes c.start) → m ≡ laid l (place_of i + 4) (four_bytes c.header)
-    → n ≡ laid m (place_of i + 8) (c.code ∷ []) → o ≡ laid n (place_of i + 9) (four_bytes c.members) → o ≡ stored_container i c b
+    → n ≡ laid (set m (place_of i + 8) c.code) (place_of i + 9) (four_bytes c.members) → n ≡ stored_container i c b
 unfolding stored_container
-stored-container b l m n o i c h k p q r s =
+stored-container b l m n i c h k p q s =
     let a : m ≡ laid b (place_of i) (four_bytes c.start ++ four_bytes c.header) =
     q ∙ ap (λ (x : List ℕ). laid x (place_of i + 4) (four_bytes c.header)) p
     ∙ laid_more b (place_of i) (four_bytes c.start) (omega arith) (four_bytes c.header) in
-    let e : n ≡ laid b (place_of i) (four_bytes c.start ++ (four_bytes c.header ++ (c.code ∷ []))) =
-    r ∙ ap (λ (x : List ℕ). laid x (place_of i + 8) (c.code ∷ [])) a
-    ∙ laid_more b (place_of i) (four_bytes c.start ++ four_bytes c.header) (omega arith) (c.code ∷ []) in
+    let e : set m (place_of i + 8) c.code ≡ laid b (place_of i) (four_bytes c.start ++ (four_bytes c.header ++ (c.code ∷ []))) =
+    ap (λ (x : List ℕ). set x (place_of i + 8) c.code) a
+    ∙ laid_snoc b (place_of i) (four_bytes c.start ++ four_bytes c.header) (place_of i + 8) c.code refl (omega arith) in
     rw (eq-eqb (length b) state_size h, lt-ltb i most_open k, stored_container)
     (s ∙ ap (λ (x : List ℕ). laid x (place_of i + 9) (four_bytes c.members)) e
     ∙ laid_more b (place_of i) (four_bytes c.start ++ (four_bytes c.header ++ (c.code ∷ []))) (omega arith)
@@ -362,6 +287,12 @@ tests true false i m = sym (and-true (not m))
 tests true true true m = sym (and-true (not m))
 tests true true false m = refl
 
+none_of : (a b c : Bool) → ((a || b) || c) ≡ false → (a ≡ false) × (b ≡ false) × (c ≡ false)
+none_of false false false e = (refl, refl, refl)
+none_of true b c e = absurd (false≢true (sym e))
+none_of false true c e = absurd (false≢true (sym e))
+none_of false false true e = absurd (false≢true (sym e))
+
 module _ (s : State) (room : ℕ) (m : Bool) where
   accepted_is : is_accepted (place_verdict s room m) ≡ (leb room longest_buffer && (fits s room && not m))
   unfolding place_verdict
@@ -371,37 +302,37 @@ module _ (s : State) (room : ℕ) (m : Bool) where
       (by_cases (fits s room) (λ f. rw f (by_cases m (λ q. rw q) (λ q. rw q))) (λ f. rw f)))
       (λ p. rw (p, lt-ltb longest_buffer room (leb-false room longest_buffer p)))
 
-  pub unreadable : leb s.depth most_open ≡ false → false ≡ is_accepted (place_verdict s room m)
-  unreadable d = sym (accepted_is ∙ rw (overopen, and-false (leb room longest_buffer)))
+  overopen : leb s.depth most_open ≡ false → false ≡ is_accepted (place_verdict s room m)
+  overopen d = sym (accepted_is ∙ rw (unfit_depth, and-false (leb room longest_buffer)))
     where
-      overopen : fits s room ≡ false
-      overopen =
+      unfit_depth : fits s room ≡ false
+      unfit_depth =
           by_cases (leb s.used room)
           (λ u. sym (fits_overopen s room (leb-true s.used room u) (leb-false s.depth most_open d)))
           (λ u. sym (fits_overused s room (leb-false s.used room u)))
 
-  -- of a state with no more containers than fit: the lines in the order in which they are asked
-  passes_is : leb s.depth most_open ≡ true
+  -- the depth, the room and the used length are asked first
+  pub too_far : ((ltb most_open s.depth || ltb longest_buffer room) || ltb room s.used) ≡ true → false ≡ is_accepted (place_verdict s room m)
+  too_far e =
+      by_cases (ltb most_open s.depth)
+      (λ p. overopen (lt-leb s.depth most_open (ltb-true most_open s.depth p)))
+      (λ p. by_cases (ltb longest_buffer room)
+      (λ q. sym (accepted_is ∙ rw (lt-leb room longest_buffer (ltb-true longest_buffer room q))))
+      (λ q. let u : ltb room s.used ≡ true = rw (p, q) at e in
+      sym (accepted_is ∙ rw (← (fits_overused s room (ltb-true room s.used u)), and-false (leb room longest_buffer)))))
+
+  pub near : ((ltb most_open s.depth || ltb longest_buffer room) || ltb room s.used) ≡ false
+      → (s.depth ≤ most_open) × (room ≤ longest_buffer) × (s.used ≤ room)
+  near e =
+      let n = none_of (ltb most_open s.depth) (ltb longest_buffer room) (ltb room s.used) e in
+      (ltb-false most_open s.depth n.0, ltb-false longest_buffer room n.1, ltb-false room s.used n.2)
+
+  -- what is asked then
+  pub passes_is : (s.depth ≤ most_open) × (room ≤ longest_buffer) × (s.used ≤ room)
       → is_accepted (place_verdict s room m)
-      ≡ (leb room longest_buffer
-      && (leb s.used room
-      && (not ((s.waiting && not (in_struct (open_containers s))) || m) && containers_fit s.used (open_containers s))))
+      ≡ (not ((s.waiting && not (in_struct (open_containers s))) || m) && containers_fit s.used (open_containers s))
   unfolding fits
   passes_is h =
       accepted_is
-      ∙ rw h
-      (ap (λ (x : Bool). leb room longest_buffer && x)
-      (by_cases (leb s.used room)
-      (λ u. rw u (tests (containers_fit s.used (open_containers s)) s.waiting (in_struct (open_containers s)) m))
-      (λ u. rw u)))
-
-  -- what is behind the used length counts only where that is not too long
-  pub passes_by : (x : Bool) → leb s.depth most_open ≡ true
-      → (s.used ≤ longest_buffer → x ≡ (not ((s.waiting && not (in_struct (open_containers s))) || m) && containers_fit s.used (open_containers s)))
-      → (leb room longest_buffer && (leb s.used room && x)) ≡ is_accepted (place_verdict s room m)
-  passes_by x h e =
-      by_cases (leb room longest_buffer)
-      (λ p. by_cases (leb s.used room)
-      (λ q. rw (p, q, e (omega (arith, leb-true room longest_buffer p, leb-true s.used room q))) (sym (passes_is h ∙ rw (p, q))))
-      (λ q. rw (p, q) (sym (passes_is h ∙ rw (p, q)))))
-      (λ p. rw p (sym (passes_is h ∙ rw p)))
+      ∙ rw (le-leb s.depth most_open h.0, le-leb room longest_buffer h.1, le-leb s.used room h.2)
+      (tests (containers_fit s.used (open_containers s)) s.waiting (in_struct (open_containers s)) m)

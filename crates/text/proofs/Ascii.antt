@@ -1,6 +1,6 @@
 -- ASCII by the OR of its bytes, and as UTF-8. Assumes nothing.
-use Prim.Native.Nat.{ℕ, ◌+◌, ◌≤◌, ◌<◌}
-use mathlib.Core.Path.{◌≡◌, refl, sym, subst}
+use Prim.Native.Nat.{ℕ}
+use mathlib.Core.Path.{◌≡◌, refl, sym, ◌∙◌, ap, subst}
 use mathlib.Core.Bool.{Bool, true, false, ◌&&◌, and-true}
 use mathlib.Core.List.{List, [], ◌∷◌}
 use mathlib.Core.Option.{some}
@@ -8,11 +8,10 @@ use native.Mathlib.Omega.{arith}
 use borrow.Author.Tests.{lt-ltb, le-ltb, ltb-true, ltb-false}
 use lib.Bits.{bit_or, or_lt, or_add_and, and_le_l, and_le_r}
 use lib.Dec.{T, ltb}
-use lib.ListN.{length, get_or, drop, drop_of_length-le}
+use Rattle.std.specs.List.{fold}
 use Rattle.ion.specs.Text.{characters, begun, utf8_from}
 use Rattle.text.specs.Due.{ascii}
 use Rattle.text.proofs.Begun.{begun_in}
-use Rattle.ion.proofs.Bytes.{drop-next}
 
 or_ascii : (a b : ℕ) → ltb (bit_or a b) 0x80 ≡ (ltb a 0x80 && ltb b 0x80)
 or_ascii a b = by_tests (ltb a 0x80) (ltb b 0x80) refl refl
@@ -26,16 +25,13 @@ and_assoc : (x y z : Bool) → (x && y && z) ≡ (x && (y && z))
 and_assoc true y z = refl
 and_assoc false y z = refl
 
--- the byte at i goes over to those that are OR-ed
-pub ascii-next : (all : ℕ) (s : List ℕ) (i : ℕ) → i < length s →
-    (ltb all 0x80 && ascii (drop i s)) ≡ (ltb (bit_or all (get_or s i 0)) 0x80 && ascii (drop (i + 1) s))
+-- the OR of bytes, begun with `all`
+pub fold_ascii : (all : ℕ) (s : List ℕ) → ltb (fold bit_or all s) 0x80 ≡ (ltb all 0x80 && ascii s)
 unfolding ascii
-ascii-next all s i h =
-    rw (or_ascii all (get_or s i 0), and_assoc (ltb all 0x80) (ltb (get_or s i 0) 0x80) (ascii (drop (i + 1) s)), drop-next s i h)
-
-pub ascii_end : (t : Bool) (s : List ℕ) (i : ℕ) → length s ≤ i → (t && ascii (drop i s)) ≡ t
-unfolding ascii
-ascii_end t s i h = rw (drop_of_length-le s h) (and-true t)
+fold_ascii all [] = sym (and-true (ltb all 0x80))
+fold_ascii all (b ∷ bs) =
+    fold_ascii (bit_or all b) bs
+    ∙ (ap (λ (t : Bool). t && ascii bs) (or_ascii all b) ∙ and_assoc (ltb all 0x80) (ltb b 0x80) (ascii bs))
 
 pub ascii-utf8 : (s : List ℕ) → ascii s ≡ true → utf8_from [] s ≡ true
 unfolding ascii utf8_from

@@ -3,20 +3,21 @@
 use Prim.Native.Nat.{ℕ, ◌+◌, ◌-◌, ◌%◌, ◌≤◌, ◌<◌}
 use native.Mathlib.Omega.{arith}
 use native.Mathlib.Nat.{mod-eq_of_lt}
-use mathlib.Core.Path.{◌≡◌, sym, ◌∙◌}
+use mathlib.Core.Path.{◌≡◌}
 use mathlib.Core.Bool.{true, false}
 use mathlib.Core.List.{List, ◌++◌, append_assoc}
 use mathlib.Core.Option.{Option, none, some}
 use lib.ListN.{length, length-append}
 use lib.IntN.{ℤ}
 use Rattle.ion.specs.Value.{signed, Fraction, no_fraction, fraction}
+use Rattle.std.specs.Prelude.{Some, None}
+use Rattle.std.specs.Prelude.{Option as RustOption}
 use Rattle.buffer.specs.Laid.{placed}
-use Rattle.buffer.proofs.Laid.{placed_count, placed-length}
 use Rattle.encoding.specs.Fields.{var_uint_bytes, var_uints_bytes, var_int_bytes, uint_bytes, int_bytes}
 use Rattle.encoding.specs.Timestamp.{offset_bytes, fraction_bytes}
 use Rattle.encoding.proofs.Fractions.{fraction_bytes_is, digits-most}
-use Rattle.decimal.proofs.Values.{second_room, both_put, both_count}
 use Rattle.encoding.proofs.TimestampLength.{unknown_most, known_most, year_most}
+use Rattle.timestamp.proofs.Runs.{first_put, second_room, second_put, both_put}
 use Rattle.timestamp.specs.declared.Precision.{Precision}
 use Rattle.timestamp.specs.declared.Precision.TheVariants.{Year, Month, Day, Minute, Second}
 use Rattle.timestamp.specs.declared.Timestamp.{Timestamp}
@@ -80,28 +81,44 @@ module _ (t : Timestamp) where
     pub body-most : length (body_of t) ≤ 18
     body-most = let m = most in rw body-length (omega arith)
 
--- ---- put one part behind the other: n and l are the answer of the first call and the buffer after it, m and l' those of the second, and so on
+-- ---- put one part behind the other
 
-module _ (b : List ℕ) (at k x : ℕ) (s : SmallFraction (fraction k x)) (h : at + length (fraction_bytes (fraction k x)) ≤ length b) (n : ℕ)
-    (l : List ℕ) (e : ◌≡◌ {A = ℕ × List ℕ} (n, l) (placed b at (var_int_bytes (signed true (k % 64))))) where
-  parts : fraction_bytes (fraction k x) ≡ var_int_bytes (signed true k) ++ int_bytes false (uint_bytes x)
+-- the exponent and the coefficient of a fraction
+module _ (b : List ℕ) (at k x : ℕ) (s : SmallFraction (fraction k x)) (h : at + length (fraction_bytes (fraction k x)) ≤ length b) where
+  abbrev exponent : List ℕ
+  exponent = var_int_bytes (signed true k)
+
+  abbrev coefficient : List ℕ
+  coefficient = int_bytes false (uint_bytes x)
+
+  parts : fraction_bytes (fraction k x) ≡ exponent ++ coefficient
   parts = fraction_bytes_is k x s.0
 
-  room : at + (length (var_int_bytes (signed true k)) + length (int_bytes false (uint_bytes x))) ≤ length b
-  room = rw (← length-append (var_int_bytes (signed true k)) (int_bytes false (uint_bytes x)), ← parts) h
+  room : at + (length exponent + length coefficient) ≤ length b
+  room = rw (← length-append exponent coefficient, ← parts) h
 
-  put : ◌≡◌ {A = ℕ × List ℕ} (n, l) (placed b at (var_int_bytes (signed true k)))
-  put = rw (mod-eq_of_lt s.1) at e
+  -- the code takes the exponent's lowest six bits, which are all
+  exponent_is : (r : RustOption ℕ) (l : List ℕ) → ◌≡◌ {A = RustOption ℕ × List ℕ} (r, l) (placed b at (var_int_bytes (signed true (k % 64))))
+      → ◌≡◌ {A = RustOption ℕ × List ℕ} (r, l) (placed b at exponent)
+  exponent_is r l e = rw (mod-eq_of_lt s.1) at e
 
-  pub fraction_room : at + n + length (int_bytes false (uint_bytes x)) ≤ length b
-  fraction_room = omega (arith, second_room b at _ (int_bytes false (uint_bytes x)) room n l put, placed-length b at _ n l put)
+  pub no_exponent : (l : List ℕ) → ◌≡◌ {A = RustOption ℕ × List ℕ} (None, l) (placed b at (var_int_bytes (signed true (k % 64)))) → ⊥
+  no_exponent l e = first_put b at exponent coefficient room l (exponent_is None l e)
 
-  pub fraction_put : (m : ℕ) (l' : List ℕ) → ◌≡◌ {A = ℕ × List ℕ} (m, l') (placed l (at + n) (int_bytes false (uint_bytes x)))
-      → (◌≡◌ {A = ℕ × List ℕ} (n + m, l') (placed b at (fraction_bytes (fraction k x)))) × (n + m ≡ length (fraction_bytes (fraction k x)))
-  fraction_put m l' f =
-      let whole = both_put b at _ (int_bytes false (uint_bytes x)) room n l put m l' f in
-      rw parts (whole, both_count b at _ (int_bytes false (uint_bytes x)) room n l put m l' f ∙ sym (length-append (var_int_bytes (signed true k)) (int_bytes false (uint_bytes x))))
+  module _ (n : ℕ) (l : List ℕ) (e : ◌≡◌ {A = RustOption ℕ × List ℕ} (Some n, l) (placed b at (var_int_bytes (signed true (k % 64))))) where
+    pub coefficient_room : at + n + length coefficient ≤ length b
+    coefficient_room = let r = second_room b at exponent coefficient room n l (exponent_is (Some n) l e) in omega (arith, r.0, r.1)
 
+    pub no_coefficient : (l' : List ℕ) → ◌≡◌ {A = RustOption ℕ × List ℕ} (None, l') (placed l (at + n) coefficient) → ⊥
+    no_coefficient = second_put b at exponent coefficient room n l (exponent_is (Some n) l e)
+
+    pub fraction_put : (m : ℕ) (l' : List ℕ) → ◌≡◌ {A = RustOption ℕ × List ℕ} (Some m, l') (placed l (at + n) coefficient)
+        → (◌≡◌ {A = RustOption ℕ × List ℕ} (Some (n + m), l') (placed b at (fraction_bytes (fraction k x)))) × (at + (n + m) ≤ length b)
+    fraction_put m l' f =
+        let w = both_put b at exponent coefficient room n l (exponent_is (Some n) l e) m l' f in
+        (rw parts w.0, omega (arith, w.1, room))
+
+-- the offset, the fields and the fraction of a timestamp
 module _ (b : List ℕ) (at : ℕ) (t : Timestamp) (h : at + length (body_of t) ≤ length b) where
   abbrev offset_part : List ℕ
   offset_part = offset_bytes (offset_minutes t.offset)
@@ -116,31 +133,37 @@ module _ (b : List ℕ) (at : ℕ) (t : Timestamp) (h : at + length (body_of t) 
   unfolding body_of
   body_room = simp length-append at h
 
-  module _ (n : ℕ) (l : List ℕ) (e : ◌≡◌ {A = ℕ × List ℕ} (n, l) (placed b at offset_part)) where
-    two_room : at + (length offset_part + length fields_part) ≤ length b
-    two_room = omega (arith, body_room)
+  two_room : at + (length offset_part + length fields_part) ≤ length b
+  two_room = omega (arith, body_room)
 
+  all_room : at + (length (offset_part ++ fields_part) + length fraction_part) ≤ length b
+  all_room = rw (length-append offset_part fields_part) (omega (arith, body_room))
+
+  pub no_offset : (l : List ℕ) → ◌≡◌ {A = RustOption ℕ × List ℕ} (None, l) (placed b at offset_part) → ⊥
+  no_offset = first_put b at offset_part fields_part two_room
+
+  module _ (n : ℕ) (l : List ℕ) (e : ◌≡◌ {A = RustOption ℕ × List ℕ} (Some n, l) (placed b at offset_part)) where
     pub fields_room : (at + n + length fields_part ≤ length l) × (length l ≡ length b)
-    fields_room = (second_room b at offset_part fields_part two_room n l e, placed-length b at offset_part n l e)
+    fields_room = second_room b at offset_part fields_part two_room n l e
 
-    module _ (m : ℕ) (l' : List ℕ) (f : ◌≡◌ {A = ℕ × List ℕ} (m, l') (placed l (at + n) fields_part)) where
-      two_put : ◌≡◌ {A = ℕ × List ℕ} (n + m, l') (placed b at (offset_part ++ fields_part))
-      two_put = both_put b at offset_part fields_part two_room n l e m l' f
+    pub no_fields : (l' : List ℕ) → ◌≡◌ {A = RustOption ℕ × List ℕ} (None, l') (placed l (at + n) fields_part) → ⊥
+    no_fields = second_put b at offset_part fields_part two_room n l e
 
-      all_room : at + (length (offset_part ++ fields_part) + length fraction_part) ≤ length b
-      all_room = rw (length-append offset_part fields_part) (omega (arith, body_room))
+    module _ (m : ℕ) (l' : List ℕ) (f : ◌≡◌ {A = RustOption ℕ × List ℕ} (Some m, l') (placed l (at + n) fields_part)) where
+      two_put : ◌≡◌ {A = RustOption ℕ × List ℕ} (Some (n + m), l') (placed b at (offset_part ++ fields_part))
+      two_put = (both_put b at offset_part fields_part two_room n l e m l' f).0
 
-      pub last_room : (at + (n + m) + length fraction_part ≤ length l') × (length l' ≡ length b)
-      last_room = (
-        second_room b at (offset_part ++ fields_part) fraction_part all_room (n + m) l' two_put,
-        placed-length b at (offset_part ++ fields_part) (n + m) l' two_put,
-      )
+      pub fraction_room : (at + (n + m) + length fraction_part ≤ length l') × (length l' ≡ length b)
+      fraction_room = second_room b at (offset_part ++ fields_part) fraction_part all_room (n + m) l' two_put
 
-      pub body_put : (k : ℕ) (l'' : List ℕ) → ◌≡◌ {A = ℕ × List ℕ} (k, l'') (placed l' (at + (n + m)) fraction_part)
-          → (◌≡◌ {A = ℕ × List ℕ} (n + m + k, l'') (placed b at (body_of t))) × (n + m + k ≡ length (body_of t))
-      unfolding body_of
-      body_put k l'' g =
-          let whole =
-          rw (append_assoc offset_part fields_part fraction_part) at
-          (both_put b at (offset_part ++ fields_part) fraction_part all_room (n + m) l' two_put k l'' g) in
-          (whole, placed_count b at (body_of t) (n + m + k) l'' whole h)
+      -- p is the place where the fraction is put
+      module _ (p : ℕ) (q : p ≡ at + (n + m)) where
+        pub no_fraction_put : (l'' : List ℕ) → ◌≡◌ {A = RustOption ℕ × List ℕ} (None, l'') (placed l' p fraction_part) → ⊥
+        no_fraction_put l'' g = second_put b at (offset_part ++ fields_part) fraction_part all_room (n + m) l' two_put l'' (rw q at g)
+
+        pub body_put : (k : ℕ) (l'' : List ℕ) → ◌≡◌ {A = RustOption ℕ × List ℕ} (Some k, l'') (placed l' p fraction_part)
+            → (◌≡◌ {A = RustOption ℕ × List ℕ} (Some (n + m + k), l'') (placed b at (body_of t))) × (at + (n + m + k) ≤ length b)
+        unfolding body_of
+        body_put k l'' g =
+            let w = both_put b at (offset_part ++ fields_part) fraction_part all_room (n + m) l' two_put k l'' (rw q at g) in
+            (rw (append_assoc offset_part fields_part fraction_part) at w.0, omega (arith, w.1, all_room))

@@ -2,9 +2,9 @@
 // A field is 32 bits wide and never cut: a year of 70000 is a bad year.
 #![tactic(auto)]
 
-ghost use Rattle.std.specs.Prelude.{◌≡◌, true, false, ◌&&◌, List, [], ℕ, ◌+◌, ◌%◌, ◌^◌, ◌≤◌, ◌<◌, ltb, leb, length, nat_abs, MatchOption};
+ghost use Rattle.std.specs.Prelude.{◌≡◌, true, false, ◌&&◌, List, [], ℕ, Option, ◌+◌, ◌%◌, ◌^◌, ◌≤◌, ◌<◌, ltb, leb, length, nat_abs, MatchOption};
 ghost use Rattle.ion.specs.Value.{signed};
-ghost use Rattle.buffer.specs.Laid.{placed};
+ghost use Rattle.buffer.specs.Laid.{placed, written, size_of};
 ghost use Rattle.encoding.specs.Fields.{var_int_bytes, var_uint_bytes, var_uints_bytes};
 ghost use Rattle.encoding.specs.Argument.{checked_bytes};
 ghost use Rattle.encoding.specs.Timestamp.{offset_bytes, fraction_bytes, day_before, day_after, utc_minutes, utc_day, utc_fields};
@@ -92,9 +92,10 @@ impl Fraction {
     fn digits_hold(self) -> bool
         ensures { result ≡ (leb self.digits 18 && ltb self.coefficient (10 ^ self.digits)) }
     {
-        (self.digits <= 18)
-            && digits::power_of_ten(u64::from(self.digits)).is_some_and(|power| self.coefficient
-                < power)
+        let Some(power) = digits::power_of_ten(u64::from(self.digits)) else {
+            return false;
+        };
+        (self.digits <= 18) & (self.coefficient < power)
     }
 }
 
@@ -138,6 +139,8 @@ impl Timestamp {
     }
 
     // Check 7: the local rules, then the UTC year, which is 1 to 9999 too. None where it is not passed, else the UTC fields in the place of the local ones.
+    // Each caller has its own copy, with this inline, since most of them do not use all of the fields.
+    #[inline(always)]
     fn checked(self) -> Option<Utc>
         ensures { MatchOption result
             (is_timestamp (offset_minutes self.offset) (fields_of self) (fraction_digits self.fraction) ≡ false)
@@ -270,6 +273,7 @@ impl Local {
     }
 
     // The day of the minute that is so many minutes behind the start of the day before.
+    #[inline(always)]
     fn utc_day(self, minutes: u32) -> Date
         ensures { date_of result ≡ utc_day minutes self.t.year self.t.month self.t.day }
     {
@@ -287,6 +291,7 @@ impl Local {
     }
 
     // The fields of that minute.
+    #[inline(always)]
     #[tactic(auto, unfolding(crate::specs::Utc::with_fields))]
     fn at_minute(self, minutes: u32) -> Timestamp
         ensures { result ≡ with_fields self.t (utc_fields minutes self.t.year self.t.month self.t.day []) }
@@ -304,6 +309,7 @@ impl Local {
     }
 
     // With no offset known the fields stay.
+    #[inline(always)]
     fn in_utc(self) -> Timestamp
         ensures { result ≡ in_utc self.t }
     {
@@ -326,8 +332,8 @@ struct Utc {
 }
 
 // One byte holds each field below the year; the remainder lets the compiler see that it does.
-fn put_small(buf: &mut [u8], at: usize, value: u32) -> usize
-    ensures { ◌≡◌ {A = ℕ × List ℕ} (result, buf.new) (placed buf.old at (var_uint_bytes (value % 128))) }
+fn put_small(buf: &mut [u8], at: usize, value: u32) -> Option<usize>
+    ensures { ◌≡◌ {A = Option ℕ × List ℕ} (result, buf.new) (placed buf.old at (var_uint_bytes (value % 128))) }
 {
     var_uint::write(buf, at, (value % 128) as u64)
 }
@@ -351,9 +357,9 @@ impl Utc {
     }
 
     // The fields as VarUInts, as far as the precision goes. Those below the year take one byte each, and there is room for them.
-    fn put_fields(self, buf: &mut [u8], at: usize) -> usize
+    fn put_fields(self, buf: &mut [u8], at: usize) -> Option<usize>
         requires { at + length (var_uints_bytes (fields_of self.t)) ≤ length buf.old }
-        ensures { ◌≡◌ {A = ℕ × List ℕ} (result, buf.new) (placed buf.old at (var_uints_bytes (fields_of self.t))) }
+        ensures { ◌≡◌ {A = Option ℕ × List ℕ} (result, buf.new) (placed buf.old at (var_uints_bytes (fields_of self.t))) }
     {
         let below = [
             self.t.month,
@@ -363,23 +369,27 @@ impl Utc {
             self.t.second,
         ];
         let count = self.t.precision.field_count() as usize - 1;
-        let year = var_uint::write(buf, at, self.year());
-        for (i, field) in below[..count].iter().enumerate() {
-            put_small(buf, at + year + i, *field);
+        let year = var_uint::write(buf, at, self.year())?;
+        for (i, field) in below.iter().enumerate() {
+            if i == count {
+                break;
+            }
+            put_small(buf, at + year + i, *field)?;
         }
-        year + count
+        Some(year + count)
     }
 
     // A decimal's body: the exponent, below zero, which one byte holds, then the coefficient as an Int.
-    fn put_fraction(self, buf: &mut [u8], at: usize) -> usize
+    fn put_fraction(self, buf: &mut [u8], at: usize) -> Option<usize>
         requires { at + length (fraction_bytes (fraction_digits self.t.fraction)) ≤ length buf.old }
-        ensures { ◌≡◌ {A = ℕ × List ℕ} (result, buf.new) (placed buf.old at (fraction_bytes (fraction_digits self.t.fraction))) }
+        ensures { ◌≡◌ {A = Option ℕ × List ℕ} (result, buf.new) (placed buf.old at (fraction_bytes (fraction_digits self.t.fraction))) }
     {
         match self.t.fraction {
-            None => 0,
+            None => Some(0),
             Some(fraction) => {
-                let one = var_int::write(buf, at, true, (fraction.digits % 64) as u64);
-                one + int::write_u64(buf, at + one, fraction.coefficient)
+                let one = var_int::write(buf, at, true, (fraction.digits % 64) as u64)?;
+                let more = int::write_u64(buf, at + one, fraction.coefficient)?;
+                Some(one + more)
             }
         }
     }
@@ -405,54 +415,52 @@ impl Utc {
     }
 
     // Offset, UTC fields, fraction.
-    fn put_body(self, buf: &mut [u8], at: usize) -> usize
+    fn put_body(self, buf: &mut [u8], at: usize) -> Option<usize>
         requires { at + length (body_of self.t) ≤ length buf.old }
-        ensures { ◌≡◌ {A = ℕ × List ℕ} (result, buf.new) (placed buf.old at (body_of self.t)) }
+        ensures { ◌≡◌ {A = Option ℕ × List ℕ} (result, buf.new) (placed buf.old at (body_of self.t)) }
     {
         let (negative, magnitude) = self.offset_parts();
-        let one = var_int::write(buf, at, negative, magnitude);
-        let two = one + self.put_fields(buf, at + one);
-        two + self.put_fraction(buf, at + two)
+        let one = var_int::write(buf, at, negative, magnitude)?;
+        let two = self.put_fields(buf, at + one)?;
+        let three = self.put_fraction(buf, at + one + two)?;
+        Some(one + two + three)
     }
 
     // Header and body.
-    fn size(self) -> usize
+    fn value_size(self) -> usize
         ensures { result ≡ length (value_of self.t) }
     {
         let body = self.body_size();
         header::encoded_size_of(body) + body
     }
 
-    fn put(self, buf: &mut [u8], at: usize) -> usize
-        ensures { ◌≡◌ {A = ℕ × List ℕ} (result, buf.new) (placed buf.old at (value_of self.t)) }
+    fn put(self, buf: &mut [u8], at: usize) -> Option<usize>
+        ensures { ◌≡◌ {A = Option ℕ × List ℕ} (result, buf.new) (placed buf.old at (value_of self.t)) }
     {
         let body = self.body_size();
         let size = header::encoded_size_of(body) + body;
         if !buffer::has_room(buf.len(), at, size) {
-            return 0;
+            return None;
         }
-        let header = header::write(buf, at, TYPE_CODE, body);
-        header + self.put_body(buf, at + header)
+        let header = header::write(buf, at, TYPE_CODE, body)?;
+        let rest = self.put_body(buf, at + header)?;
+        Some(header + rest)
     }
 }
 
 // The bytes that `t` takes, header and body; none where it does not pass check 7.
-pub fn size(t: Timestamp) -> usize
-    ensures { result ≡ length (checked_bytes (argument_of t)) }
+pub fn size(t: Timestamp) -> Option<usize>
+    ensures { result ≡ size_of (checked_bytes (argument_of t)) }
 {
-    match t.checked() {
-        Some(utc) => utc.size(),
-        None => 0,
-    }
+    let utc = t.checked()?;
+    Some(utc.value_size())
 }
 
 // Header and body: the offset as a VarInt, the UTC fields as VarUInts, then any fraction as a decimal's body.
 // Nothing is put where `t` does not pass check 7.
-pub fn write(buf: &mut [u8], at: usize, t: Timestamp) -> usize
-    ensures { ◌≡◌ {A = ℕ × List ℕ} (result, buf.new) (placed buf.old at (checked_bytes (argument_of t))) }
+pub fn write(buf: &mut [u8], at: usize, t: Timestamp) -> Option<usize>
+    ensures { ◌≡◌ {A = Option ℕ × List ℕ} (result, buf.new) (written buf.old at (checked_bytes (argument_of t))) }
 {
-    match t.checked() {
-        Some(utc) => utc.put(buf, at),
-        None => 0,
-    }
+    let utc = t.checked()?;
+    utc.put(buf, at)
 }

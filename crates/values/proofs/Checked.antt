@@ -7,7 +7,8 @@ use Prim.Native.Nat.{ℕ}
 use lib.ListN.{length}
 use Rattle.encoding.specs.Headers.{annotated_bytes}
 use Rattle.encoding.specs.Argument.{Argument, argument_bytes, argument_checks, any_holds, checked_bytes}
-use Rattle.buffer.specs.Laid.{placed}
+use Rattle.std.specs.Prelude.{Option}
+use Rattle.buffer.specs.Laid.{written}
 use Rattle.annotations.specs.Sids.{sids_of}
 use Rattle.annotations.proofs.Sids.{sids_none}
 use Rattle.values.specs.Values.{annotated_checked}
@@ -30,7 +31,7 @@ pub annotated_bytes-none : (an v : List ℕ) → an ≡ [] → annotated_bytes a
 unfolding annotated_bytes
 annotated_bytes-none an v e = rw e refl
 
--- what a call without annotations left, as every call states it
-pub unannotated : (b : List ℕ) (at : ℕ) (notes : List ℕ) (a : Argument) → length notes ≡ 0 → (n : ℕ) (l : List ℕ)
-    → ◌≡◌ {A = ℕ × List ℕ} (n, l) (placed b at (checked_bytes a)) → ◌≡◌ {A = ℕ × List ℕ} (n, l) (placed b at (annotated_checked (sids_of notes) a))
-unannotated b at notes a z n l e = e ∙ ap (placed b at) (sym (annotated-plain a) ∙ ap (λ (an : List ℕ). annotated_checked an a) (sym (sids_none notes z)))
+-- what a call without annotations left
+pub unannotated : (b : List ℕ) (at : ℕ) (notes : List ℕ) (a : Argument) → length notes ≡ 0 → (r : Option ℕ) (l : List ℕ)
+    → ◌≡◌ {A = Option ℕ × List ℕ} (r, l) (written b at (checked_bytes a)) → ◌≡◌ {A = Option ℕ × List ℕ} (r, l) (written b at (annotated_checked (sids_of notes) a))
+unannotated b at notes a z r l e = e ∙ ap (written b at) (sym (annotated-plain a) ∙ ap (λ (an : List ℕ). annotated_checked an a) (sym (sids_none notes z)))

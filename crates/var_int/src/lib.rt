@@ -1,7 +1,7 @@
 // VarInt: a VarUInt whose first byte holds six bits of the magnitude below the sign.
 #![tactic(auto)]
 
-ghost use Rattle.std.specs.Prelude.{◌≡◌, false, List, ℕ, length};
+ghost use Rattle.std.specs.Prelude.{◌≡◌, false, List, ℕ, Option, length};
 ghost use Rattle.ion.specs.Value.{signed};
 ghost use Rattle.encoding.specs.Fields.{var_int_bytes};
 ghost use Rattle.buffer.specs.Laid.{placed};
@@ -26,10 +26,10 @@ pub fn encoded_size_of(magnitude: u64) -> usize
 }
 
 // The sign and the magnitude as a VarInt: the digits of base 128, then the last again, with the end flag, and the first, with the sign. Zero keeps its sign.
-pub fn write(buf: &mut [u8], at: usize, negative: bool, magnitude: u64) -> usize
-    ensures { ◌≡◌ {A = ℕ × List ℕ} (result, buf.new) (placed buf.old at (var_int_bytes (signed negative magnitude))) }
+pub fn write(buf: &mut [u8], at: usize, negative: bool, magnitude: u64) -> Option<usize>
+    ensures { ◌≡◌ {A = Option ℕ × List ℕ} (result, buf.new) (placed buf.old at (var_int_bytes (signed negative magnitude))) }
 {
-    let sign = SIGN * (negative as u8);
+    let sign = SIGN * u8::from(negative);
     if magnitude < TWO_BYTES {
         return buffer::put(buf, at, END_FLAG + sign + magnitude as u8);
     }
@@ -39,12 +39,9 @@ pub fn write(buf: &mut [u8], at: usize, negative: bool, magnitude: u64) -> usize
         encoded_size_of(magnitude),
         LOWER_7_BITMASK,
         magnitude,
-    );
-    if put == 0 {
-        return 0;
-    }
+    )?;
     let last = put - 1;
     buf[at + last] = END_FLAG + (magnitude % 128) as u8;
     buf[at] = sign + (magnitude >> (7 * last)) as u8;
-    put
+    Some(put)
 }

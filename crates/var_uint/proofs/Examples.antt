@@ -3,6 +3,7 @@
 use mathlib.Core.Path.{◌≡◌, refl}
 use mathlib.Core.List.{List, [], ◌∷◌, map}
 use Prim.Native.Nat.{ℕ, ◌-◌, ◌^◌}
+use Rattle.std.specs.Prelude.{Option, Some, None}
 use Rattle.encoding.specs.Digits.{low_digits, count_digits, digit_count, digits}
 use Rattle.encoding.specs.Fields.{var_uint_bytes}
 use Rattle.buffer.specs.Laid.{laid, placed}
@@ -12,17 +13,17 @@ abbrev untouched : List ℕ
 untouched = 0xEE ∷ 0xEE ∷ 0xEE ∷ 0xEE ∷ 0xEE ∷ []
 
 -- what a fill of `value` at `at` answers and leaves, for each of the limits
-abbrev fills : ℕ → ℕ → List ℕ → List (ℕ × List ℕ)
+abbrev fills : ℕ → ℕ → List ℕ → List (Option ℕ × List ℕ)
 fills at value = map (λ (limit : ℕ). filled limit untouched at (var_uint_bytes value))
 
 -- 16384 is 01 00 80: store by store, and no store more than the field has bytes
 pub three_bytes : fills 1 16384 (0 ∷ 1 ∷ 2 ∷ 3 ∷ 4 ∷ (2 ^ 64 - 1) ∷ [])
-    ≡ (0, 0xEE ∷ 0xEE ∷ 0xEE ∷ 0xEE ∷ 0xEE ∷ [])
-    ∷ (1, 0xEE ∷ 0xEE ∷ 0xEE ∷ 0x80 ∷ 0xEE ∷ [])
-    ∷ (2, 0xEE ∷ 0xEE ∷ 0x00 ∷ 0x80 ∷ 0xEE ∷ [])
-    ∷ (3, 0xEE ∷ 0x01 ∷ 0x00 ∷ 0x80 ∷ 0xEE ∷ [])
-    ∷ (3, 0xEE ∷ 0x01 ∷ 0x00 ∷ 0x80 ∷ 0xEE ∷ [])
-    ∷ (3, 0xEE ∷ 0x01 ∷ 0x00 ∷ 0x80 ∷ 0xEE ∷ [])
+    ≡ (Some 0, 0xEE ∷ 0xEE ∷ 0xEE ∷ 0xEE ∷ 0xEE ∷ [])
+    ∷ (Some 1, 0xEE ∷ 0xEE ∷ 0xEE ∷ 0x80 ∷ 0xEE ∷ [])
+    ∷ (Some 2, 0xEE ∷ 0xEE ∷ 0x00 ∷ 0x80 ∷ 0xEE ∷ [])
+    ∷ (Some 3, 0xEE ∷ 0x01 ∷ 0x00 ∷ 0x80 ∷ 0xEE ∷ [])
+    ∷ (Some 3, 0xEE ∷ 0x01 ∷ 0x00 ∷ 0x80 ∷ 0xEE ∷ [])
+    ∷ (Some 3, 0xEE ∷ 0x01 ∷ 0x00 ∷ 0x80 ∷ 0xEE ∷ [])
     ∷ []
 unfolding filled placed laid var_uint_bytes digits digit_count count_digits low_digits
 three_bytes = refl
@@ -38,27 +39,27 @@ three_stored = refl
 
 -- 300 is 02 AC, up to the buffer's end
 pub two_bytes : fills 3 300 (0 ∷ 1 ∷ 2 ∷ 3 ∷ [])
-    ≡ (0, 0xEE ∷ 0xEE ∷ 0xEE ∷ 0xEE ∷ 0xEE ∷ [])
-    ∷ (1, 0xEE ∷ 0xEE ∷ 0xEE ∷ 0xEE ∷ 0xAC ∷ [])
-    ∷ (2, 0xEE ∷ 0xEE ∷ 0xEE ∷ 0x02 ∷ 0xAC ∷ [])
-    ∷ (2, 0xEE ∷ 0xEE ∷ 0xEE ∷ 0x02 ∷ 0xAC ∷ [])
+    ≡ (Some 0, 0xEE ∷ 0xEE ∷ 0xEE ∷ 0xEE ∷ 0xEE ∷ [])
+    ∷ (Some 1, 0xEE ∷ 0xEE ∷ 0xEE ∷ 0xEE ∷ 0xAC ∷ [])
+    ∷ (Some 2, 0xEE ∷ 0xEE ∷ 0xEE ∷ 0x02 ∷ 0xAC ∷ [])
+    ∷ (Some 2, 0xEE ∷ 0xEE ∷ 0xEE ∷ 0x02 ∷ 0xAC ∷ [])
     ∷ []
 unfolding filled placed laid var_uint_bytes digits digit_count count_digits low_digits
 two_bytes = refl
 
 -- 127 is FF: a whole field of one store
 pub one_byte : fills 4 127 (0 ∷ 1 ∷ 2 ∷ [])
-    ≡ (0, 0xEE ∷ 0xEE ∷ 0xEE ∷ 0xEE ∷ 0xEE ∷ [])
-    ∷ (1, 0xEE ∷ 0xEE ∷ 0xEE ∷ 0xEE ∷ 0xFF ∷ [])
-    ∷ (1, 0xEE ∷ 0xEE ∷ 0xEE ∷ 0xEE ∷ 0xFF ∷ [])
+    ≡ (Some 0, 0xEE ∷ 0xEE ∷ 0xEE ∷ 0xEE ∷ 0xEE ∷ [])
+    ∷ (Some 1, 0xEE ∷ 0xEE ∷ 0xEE ∷ 0xEE ∷ 0xFF ∷ [])
+    ∷ (Some 1, 0xEE ∷ 0xEE ∷ 0xEE ∷ 0xEE ∷ 0xFF ∷ [])
     ∷ []
 unfolding filled placed laid var_uint_bytes digits digit_count count_digits low_digits
 one_byte = refl
 
 -- Room for the first byte of the field alone; a place at the end of the buffer, and places past it.
-pub no_store : (fills 4 300 (0 ∷ 1 ∷ 2 ∷ []) ≡ (0, untouched) ∷ (0, untouched) ∷ (0, untouched) ∷ [])
-    × (fills 5 0 (0 ∷ 1 ∷ []) ≡ (0, untouched) ∷ (0, untouched) ∷ [])
-    × (fills 6 0 (0 ∷ 1 ∷ []) ≡ (0, untouched) ∷ (0, untouched) ∷ [])
-    × (fills (2 ^ 64 - 1) 300 (0 ∷ 1 ∷ 2 ∷ []) ≡ (0, untouched) ∷ (0, untouched) ∷ (0, untouched) ∷ [])
+pub no_store : (fills 4 300 (0 ∷ 1 ∷ 2 ∷ []) ≡ (None, untouched) ∷ (None, untouched) ∷ (None, untouched) ∷ [])
+    × (fills 5 0 (0 ∷ 1 ∷ []) ≡ (None, untouched) ∷ (None, untouched) ∷ [])
+    × (fills 6 0 (0 ∷ 1 ∷ []) ≡ (None, untouched) ∷ (None, untouched) ∷ [])
+    × (fills (2 ^ 64 - 1) 300 (0 ∷ 1 ∷ 2 ∷ []) ≡ (None, untouched) ∷ (None, untouched) ∷ (None, untouched) ∷ [])
 unfolding filled placed laid var_uint_bytes digits digit_count count_digits low_digits
 no_store = (refl, refl, refl, refl)

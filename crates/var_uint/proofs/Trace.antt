@@ -11,6 +11,7 @@ use lib.ListN.{length, take, set, get_or, length-append, get_or-append}
 use lib.Seq.{take-suc, take_all, length-take-le, get_or_at}
 use Rattle.encoding.specs.Digits.{low_digits, digits, digit_count}
 use Rattle.encoding.specs.Fields.{var_uint_bytes}
+use Rattle.std.specs.Prelude.{Option, Some}
 use Rattle.var_uint.specs.Filled.{filled, Store, stores, stored, NoEndFlag, EndFlagFirst}
 use Rattle.var_uint.proofs.Filled.{filled-same, filled_none, filled_next}
 
@@ -41,9 +42,9 @@ stored_snoc b [] s = refl
 stored_snoc b (t ∷ ss) s = stored_snoc (set b t.0 t.1) ss s
 
 module _ (b : List ℕ) (at : ℕ) (out : List ℕ) (room : at + length out ≤ length b) where
-  pub filled_is_trace : (limit : ℕ) → filled limit b at out ≡ (length (take limit (stores at out)), stored b (take limit (stores at out)))
+  pub filled_is_trace : (limit : ℕ) → filled limit b at out ≡ (Some (length (take limit (stores at out))), stored b (take limit (stores at out)))
   unfolding stored
-  filled_is_trace zero = filled_none b at out
+  filled_is_trace zero = filled_none b at out room
   filled_is_trace (suc k) =
       let n = length-stores at out in ⊎_elim
       (λ z.
@@ -55,11 +56,11 @@ module _ (b : List ℕ) (at : ℕ) (out : List ℕ) (room : at + length out ≤ 
       let t = take-suc (stores at out) k (0, 0) (omega arith) ∙ ap (λ (s : Store). take k (stores at out) ++ (s ∷ [])) (store_behind at out k l) in
       let m : length (take (suc k) (stores at out)) ≡ suc k = length-take-le (suc k) (stores at out) (omega arith) in
       let ss = stored b (take k (stores at out)) in
-      let made : ◌≡◌ {A = ℕ × List ℕ} (k, ss) (filled k b at out) =
-      sym (filled_is_trace k ∙ ap (λ (i : ℕ). (i, ss)) (length-take-le k (stores at out) (omega arith))) in
+      let made : ◌≡◌ {A = Option ℕ × List ℕ} (Some k, ss) (filled k b at out) =
+      sym (filled_is_trace k ∙ ap (λ (i : ℕ). (Some i, ss)) (length-take-le k (stores at out) (omega arith))) in
       let next = filled_next b at out room k ss (at + p) (get_or out p 0) made l refl refl in
       rw (m, t, stored_snoc b (take k (stores at out)) (at + p, get_or out p 0))
-      (ap (λ (i : ℕ). filled i b at out) (sym (add-one k)) ∙ (sym next ∙ ap (λ (i : ℕ). (i, set ss (at + p) (get_or out p 0))) (add-one k))))
+      (ap (λ (i : ℕ). filled i b at out) (sym (add-one k)) ∙ (sym next ∙ ap (λ (i : ℕ). (Some i, set ss (at + p) (get_or out p 0))) (add-one k))))
       (eq-zero-or-pos (length out - k))
 
 -- the last byte's store comes first

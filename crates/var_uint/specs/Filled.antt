@@ -1,11 +1,11 @@
 -- A field's bytes, stored from the last to the first: document 02, Item 4.
 -- Assumes nothing.
-use Rattle.std.specs.Prelude.{ℕ, ◌+◌, ◌-◌, ◌≤◌, ◌<◌, List, [], ◌∷◌, ◌++◌, length, drop, set}
+use Rattle.std.specs.Prelude.{ℕ, ◌+◌, ◌-◌, ◌≤◌, ◌<◌, List, [], ◌∷◌, ◌++◌, Option, length, drop, set}
 use Rattle.buffer.specs.Laid.{placed}
 
 -- What a fill of at most `limit` stores answers and leaves of the field `out` at `at`: the last `limit` bytes, or all if there are no more, lie at the
 -- places that they have in the whole field, and every other byte is as it was. Where the field does not fit, no byte is stored. It answers how many were.
-unfoldable pub filled : ℕ → List ℕ → ℕ → List ℕ → ℕ × List ℕ
+unfoldable pub filled : ℕ → List ℕ → ℕ → List ℕ → Option ℕ × List ℕ
 filled limit b at out = placed b (at + (length out - limit)) (drop (length out - limit) out)
 
 -- ---- the same as a trace

@@ -1,7 +1,7 @@
 // VarUInt: seven bits a byte, most significant first, the end flag on the last. It is stored from the last byte to the first.
 #![tactic(auto)]
 
-ghost use Rattle.std.specs.Prelude.{◌≡◌, List, ℕ, length};
+ghost use Rattle.std.specs.Prelude.{◌≡◌, List, ℕ, Option, length};
 ghost use Rattle.encoding.specs.Fields.{var_uint_bytes};
 ghost use Rattle.buffer.specs.Laid.{placed};
 ghost use Rattle.var_uint.specs.Filled.{filled};
@@ -25,32 +25,28 @@ pub fn encoded_size_of(value: u64) -> usize
 }
 
 // The last `limit` bytes of `value` as a VarUInt at `at`, or all if it has no more: the byte with the end flag by the first store, and by each further
-// one the byte before. Answers how many stores it made: none where the whole field does not fit.
-pub fn fill(buf: &mut [u8], at: usize, value: u64, limit: usize) -> usize
-    ensures { ◌≡◌ {A = ℕ × List ℕ} (result, buf.new) (filled limit buf.old at (var_uint_bytes value)) }
+// one the byte before. Answers how many stores it made, or makes none where the whole field does not fit.
+pub fn fill(buf: &mut [u8], at: usize, value: u64, limit: usize) -> Option<usize>
+    ensures { ◌≡◌ {A = Option ℕ × List ℕ} (result, buf.new) (filled limit buf.old at (var_uint_bytes value)) }
 {
     let size = encoded_size_of(value);
     if !buffer::has_room(buf.len(), at, size) {
-        return 0;
+        return None;
     }
+    let count = size.min(limit);
     let mut flag = END_FLAG;
     let mut rest = value;
-    let mut made: usize = 0;
-    while made < size {
-        if limit <= made {
-            return made;
-        }
-        made += 1;
-        buf[at + (size - made)] = flag + (rest % 128) as u8;
+    for i in (size - count..size).rev() {
+        buf[at + i] = flag + (rest % 128) as u8;
         flag = 0;
         rest = rest / 128;
     }
-    made
+    Some(count)
 }
 
 // `value` as a VarUInt. Most lengths and sids take one byte, a whole field of one store, so that is asked first.
-pub fn write(buf: &mut [u8], at: usize, value: u64) -> usize
-    ensures { ◌≡◌ {A = ℕ × List ℕ} (result, buf.new) (placed buf.old at (var_uint_bytes value)) }
+pub fn write(buf: &mut [u8], at: usize, value: u64) -> Option<usize>
+    ensures { ◌≡◌ {A = Option ℕ × List ℕ} (result, buf.new) (placed buf.old at (var_uint_bytes value)) }
 {
     if value < TWO_BYTES {
         return buffer::put(buf, at, END_FLAG + value as u8);

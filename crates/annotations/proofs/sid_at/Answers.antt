@@ -1,15 +1,15 @@
--- `annotations::sid_at` meets its contract: the eight bytes as one sum, or the fewer ones of the last sid.
--- Assumes nothing.
+-- The bytes from the sid's first on, as one number. Assumes nothing.
 use mathlib.Core.Path.{◌∙◌}
 use Prim.Native.Nat.{◌*◌}
 use Rattle.annotations.specs.Sids.{sid_at}
-use Rattle.annotations.proofs.Sids.{least_first_eight}
+use Rattle.annotations.proofs.Sids.{least_first_chunk, least_first_part}
 use Rattle.annotations.proofs.sid_at.Goals as goal
 
-pub returns-then-at-annotations : goal.returns-then-at-annotations
+pub returns-in-Some : goal.returns-in-Some
 unfolding sid_at
-returns-then-at-annotations c = let a = c.args in c.whole_sid.ensures ∙ least_first_eight a.annotations.now (8 * a.i)
+returns-in-Some c =
+    least_first_chunk c.args.annotations.now c.in-Some.bytes.now (8 * c.args.i) c.from_le_bytes.result c.in-Some.ensures.cases.same c.from_le_bytes.ensures
 
-pub returns : goal.returns
+pub returns-in-None : goal.returns-in-None
 unfolding sid_at
-returns c = c.last_sid.ensures
+returns-in-None c = c.short_sid.ensures ∙ least_first_part c.args.annotations.now (8 * c.args.i) 8

@@ -1,37 +1,33 @@
--- `buffer::copy` meets its contract. The loop's invariant: the first `i` bytes of `src` are laid at `at`.
--- Each turn lays one byte more behind them. Assumes nothing.
-use mathlib.Core.Path.{◌≡◌, refl, sym, ◌∙◌, ap}
+-- Each turn lays one byte more behind those that are laid. Assumes nothing.
+use mathlib.Core.Path.{◌≡◌, sym, ◌∙◌, ap, refl}
 use Prim.Native.Nat.{◌+◌}
 use native.Mathlib.Omega.{arith}
 use native.Mathlib.Numerals.{add-one}
-use lib.ListN.{length, take, get_or, length-set}
+use lib.ListN.{length, take, get_or}
 use lib.Seq.{take-suc, take_all, length-take-le}
 use Rattle.buffer.specs.Laid.{laid}
-use Rattle.buffer.proofs.Laid.{laid_nil, laid_snoc, placed_full, placed_by, no_room, room}
+use Rattle.buffer.proofs.Laid.{laid_nil, laid_snoc, no_room, placed_by, placed_full, room}
 use Rattle.buffer.proofs.copy.Goals as goal
 
 pub returns-then-not-has_room : goal.returns-then-not-has_room
 returns-then-not-has_room c = let a = c.args in
-    sym (placed_full a.buf.now a.at a.src.now (no_room c.has_room.result a.buf.now _ c.has_room.ensures c.if-not-has_room.true-raw))
+    sym (placed_full a.buf.now a.at a.src.now (no_room _ a.buf.now _ c.has_room.ensures c.if-not-has_room.true))
 
 pub loop-i-init : goal.loop-i-init
 loop-i-init c = let a = c.args in
-    (omega arith, room c.has_room.result a.buf.now _ c.has_room.ensures c.if-not-has_room.false-raw, refl, sym (laid_nil a.buf.now a.at))
+    (room _ a.buf.now _ c.has_room.ensures c.if-not-has_room.false, sym (laid_nil a.buf.now a.at))
 
 pub loop-i-preserved : goal.loop-i-preserved
 loop-i-preserved c = let a = c.args in
     let l = c.loop-i in
     let n : length (take l.i a.src.now) ≡ l.i = length-take-le l.i a.src.now (omega arith) in (
       omega arith,
-      omega arith,
-      simp length-set l.invariant.2,
-      rw (l.invariant.3, add-one, take-suc a.src.now l.i 0 (omega arith))
+      rw (l.invariant.1, add-one, take-suc a.src.now l.i 0 (omega arith))
           (laid_snoc a.buf.now a.at (take l.i a.src.now) (a.at + l.i) (get_or a.src.now l.i 0) (omega arith) (omega arith)),
     )
 
 pub returns : goal.returns
 returns c = let a = c.args in
     let l = c.loop-i in
-    let e : l.i ≡ length a.src.now = omega arith in
-    placed_by a.buf.now a.at a.src.now l.i l.buf l.invariant.1 e
-    (l.invariant.3 ∙ ap (laid a.buf.now a.at) (take_all l.i a.src.now (omega arith)))
+    placed_by a.buf.now a.at a.src.now _ l.buf l.invariant.0 refl
+    (l.invariant.1 ∙ ap (laid a.buf.now a.at) (take_all l.i a.src.now (omega arith)))

@@ -1,6 +1,7 @@
 -- `containers::open_annotated` meets its contract: room for the whole; the annotations are put, and the reserves before and behind them cleared.
 -- Assumes nothing.
 use mathlib.Core.Path.{◌≡◌, sym, ◌∙◌, ap}
+use mathlib.Core.Bool.{not}
 use mathlib.Core.List.{List, [], ◌∷◌, ◌++◌}
 use Prim.Native.Nat.{ℕ, ◌+◌, ◌-◌, ◌≤◌, ◌<◌}
 use native.Mathlib.Omega.{arith}
@@ -10,11 +11,11 @@ use Rattle.ion.proofs.Tests.{by_cases}
 use lib.ListN.{length, replicate, length-append}
 use Rattle.encoding.specs.Headers.{annotation_bytes}
 use Rattle.buffer.specs.Laid.{laid}
-use Rattle.buffer.proofs.Laid.{laid-before, laid_more, placed-fits, placed_full, placed_by, no_room, room}
+use Rattle.std.proofs.Common.{Option, Some, None}
+use Rattle.buffer.proofs.Laid.{laid-before, laid_more, placed-some, placed_full, placed_by, no_room, room}
 use Rattle.annotations.specs.Sids.{sids_of}
 use Rattle.annotations.specs.Prefix.{placed_before}
-use Rattle.annotations.proofs.Prefix.{placed_before-fits, placed_before_full}
-use Rattle.annotations.proofs.Sids.{annotations_least}
+use Rattle.annotations.proofs.Prefix.{before-some, before-none}
 use Rattle.containers.proofs.open_annotated.Goals as goal
 
 abbrev reserved : List ℕ → List ℕ
@@ -23,35 +24,16 @@ reserved A = 0 ∷ 0 ∷ (A ++ (0 ∷ 0 ∷ []))
 length-reserved : (A : List ℕ) → length (reserved A) ≡ length A + 4
 length-reserved A = omega (arith, length-append A (0 ∷ 0 ∷ []))
 
-module _ (b : List ℕ) (at : ℕ) (an : List ℕ) (n : ℕ) (l : List ℕ) (e : ◌≡◌ {A = ℕ × List ℕ} (n, l) (placed_before b (at + 2) (annotation_bytes an) 2)) where
-  put_some : (n ≡ 0 → ⊥) → (at + (length (annotation_bytes an) + 4) ≤ length b) × (n ≡ length (annotation_bytes an)) × (l ≡ laid b (at + 2) (annotation_bytes an))
-  put_some h =
-      by_cases (leb (at + 2 + length (annotation_bytes an) + 2) (length b))
-      (λ p.
-      let f = leb-true (at + 2 + length (annotation_bytes an) + 2) (length b) p in
-      let w = placed-some-of f in (omega arith, w.0, w.1))
-      (λ p.
-      let f = leb-false (at + 2 + length (annotation_bytes an) + 2) (length b) p in
-      absurd (h (ap (λ (x : ℕ × List ℕ). x.0) (e ∙ placed_before_full b (at + 2) (annotation_bytes an) 2 f))))
-    where
-      placed-some-of : at + 2 + length (annotation_bytes an) + 2 ≤ length b → (n ≡ length (annotation_bytes an)) × (l ≡ laid b (at + 2) (annotation_bytes an))
-      placed-some-of f =
-          let q = e ∙ placed_before-fits b (at + 2) (annotation_bytes an) 2 f ∙ placed-fits b (at + 2) (annotation_bytes an) (omega arith) in
-          (ap (λ (x : ℕ × List ℕ). x.0) q, ap (λ (x : ℕ × List ℕ). x.1) q)
+module _ (b : List ℕ) (at : ℕ) (an l : List ℕ) where
+  put_some : (n : ℕ) → ◌≡◌ {A = Option ℕ × List ℕ} (Some n, l) (placed_before b (at + 2) (annotation_bytes an) 2)
+      → (at + (length (annotation_bytes an) + 4) ≤ length b) × (n ≡ length (annotation_bytes an)) × (l ≡ laid b (at + 2) (annotation_bytes an))
+  put_some n e =
+      let w = before-some b (at + 2) (annotation_bytes an) 2 n l e in
+      let v = placed-some b (at + 2) (annotation_bytes an) n l w.1 in
+      (omega (arith, w.0), v.1, v.2)
 
-  put-none : n ≡ 0 → (length b < at + (length (annotation_bytes an) + 4)) × (l ≡ b)
-  put-none z =
-      by_cases (leb (at + 2 + length (annotation_bytes an) + 2) (length b))
-      (λ p.
-      let f = leb-true (at + 2 + length (annotation_bytes an) + 2) (length b) p in
-      let q = e ∙ placed_before-fits b (at + 2) (annotation_bytes an) 2 f ∙ placed-fits b (at + 2) (annotation_bytes an) (omega arith) in
-      let k : n ≡ length (annotation_bytes an) = ap (λ (x : ℕ × List ℕ). x.0) q in absurd (never k))
-      (λ p.
-      let f = leb-false (at + 2 + length (annotation_bytes an) + 2) (length b) p in
-      (omega arith, ap (λ (x : ℕ × List ℕ). x.1) (e ∙ placed_before_full b (at + 2) (annotation_bytes an) 2 f)))
-    where
-      never : n ≡ length (annotation_bytes an) → ⊥
-      never k = let p = annotations_least an in omega (arith, k, z, p)
+  put-none : ◌≡◌ {A = Option ℕ × List ℕ} (None, l) (placed_before b (at + 2) (annotation_bytes an) 2) → (length b < at + (length (annotation_bytes an) + 4)) × (l ≡ b)
+  put-none e = let w = before-none b (at + 2) (annotation_bytes an) 2 l e in (omega (arith, w.0), w.1)
 
 -- the annotations, then the reserves before and behind them
 around : (b : List ℕ) (at : ℕ) (A l m o : List ℕ) → at + (length A + 4) ≤ length b → l ≡ laid b (at + 2) A → m ≡ laid l at (replicate 2 0)
@@ -64,98 +46,67 @@ around b at A l m o h p q r =
 pub returns-then-not-has_room : goal.returns-then-not-has_room
 returns-then-not-has_room c = let a = c.args in
     let A = annotation_bytes (sids_of a.annotations.now) in
-    let h = no_room c.has_room.result a.buf.now _ c.has_room.ensures c.if-not-has_room.true-raw in
+    let h = no_room _ a.buf.now _ c.has_room.ensures c.if-not-has_room.true in
     sym (placed_full a.buf.now a.at (reserved A) (omega (arith, h, length-reserved A)))
 
 pub overflow_add-at : goal.overflow_add-at
 overflow_add-at c = let a = c.args in
-    let h = room c.has_room.result a.buf.now _ c.has_room.ensures c.if-not-has_room.false-raw in
-    omega (arith, h)
+    omega (arith, room _ a.buf.now _ c.has_room.ensures c.if-not-has_room.false)
 
-pub returns-then-noted-eq0 : goal.returns-then-noted-eq0
-returns-then-noted-eq0 c = let a = c.args in
-    let w = c.write_before-noted in
+pub returns-in_err-noted : goal.returns-in_err-noted
+returns-in_err-noted c = let a = c.args in
     let A = annotation_bytes (sids_of a.annotations.now) in
-    let h = put-none a.buf.now a.at (sids_of a.annotations.now) w.result w.new.buf w.ensures c.if-noted-eq0.true in
-    ap (λ (x : List ℕ). (0, x)) h.1 ∙ sym (placed_full a.buf.now a.at (reserved A) (omega (arith, h.0, length-reserved A)))
+    let h = put-none a.buf.now a.at (sids_of a.annotations.now) c.write_before.new.buf c.in_err-noted.ensures in
+    rw (c.from_residual.ensures, h.1) (sym (placed_full a.buf.now a.at (reserved A) (omega (arith, h.0, length-reserved A))))
 
 pub overflow_add-header : goal.overflow_add-header
 overflow_add-header c =
-    let noted : List ℕ = annotation_bytes (sids_of c.args.annotations.now) in
-    let put : let a = c.args in let w = c.write_before-noted in
-    (a.at + (length (noted) + 4) ≤ length a.buf.now) × (w.result ≡ length (noted)) × (w.new.buf ≡ laid a.buf.now (a.at + 2) (noted)) = let a = c.args in
-    let w = c.write_before-noted in
-    put_some a.buf.now a.at (sids_of a.annotations.now) w.result w.new.buf w.ensures c.if-noted-eq0.false in
-    omega (arith, (put).0)
+    let a = c.args in
+    let h = put_some a.buf.now a.at (sids_of a.annotations.now) c.write_before.new.buf c.in_ok-noted.noted c.in_ok-noted.ensures in
+    omega (arith, h.0, h.1)
 
 pub overflow_add-header-2 : goal.overflow_add-header-2
 overflow_add-header-2 c =
-    let noted : List ℕ = annotation_bytes (sids_of c.args.annotations.now) in
-    let put : let a = c.args in let w = c.write_before-noted in
-    (a.at + (length (noted) + 4) ≤ length a.buf.now) × (w.result ≡ length (noted)) × (w.new.buf ≡ laid a.buf.now (a.at + 2) (noted)) = let a = c.args in
-    let w = c.write_before-noted in
-    put_some a.buf.now a.at (sids_of a.annotations.now) w.result w.new.buf w.ensures c.if-noted-eq0.false in
-    omega (arith, (put).0, (put).1)
+    let a = c.args in
+    let h = put_some a.buf.now a.at (sids_of a.annotations.now) c.write_before.new.buf c.in_ok-noted.noted c.in_ok-noted.ensures in
+    omega (arith, h.0, h.1)
 
 pub overflow_add-at-2 : goal.overflow_add-at-2
 overflow_add-at-2 c =
-    let noted : List ℕ = annotation_bytes (sids_of c.args.annotations.now) in
-    let put : let a = c.args in let w = c.write_before-noted in
-    (a.at + (length (noted) + 4) ≤ length a.buf.now) × (w.result ≡ length (noted)) × (w.new.buf ≡ laid a.buf.now (a.at + 2) (noted)) = let a = c.args in
-    let w = c.write_before-noted in
-    put_some a.buf.now a.at (sids_of a.annotations.now) w.result w.new.buf w.ensures c.if-noted-eq0.false in
-    omega (arith, (put).0)
+    let a = c.args in
+    let h = put_some a.buf.now a.at (sids_of a.annotations.now) c.write_before.new.buf c.in_ok-noted.noted c.in_ok-noted.ensures in
+    omega (arith, h.0, h.1)
 
 pub clear-requires : goal.clear-requires
 clear-requires c =
-    let noted : List ℕ = annotation_bytes (sids_of c.args.annotations.now) in
-    let put : let a = c.args in let w = c.write_before-noted in
-    (a.at + (length (noted) + 4) ≤ length a.buf.now) × (w.result ≡ length (noted)) × (w.new.buf ≡ laid a.buf.now (a.at + 2) (noted)) = let a = c.args in
-    let w = c.write_before-noted in
-    put_some a.buf.now a.at (sids_of a.annotations.now) w.result w.new.buf w.ensures c.if-noted-eq0.false in
-    omega (arith, (put).0, (put).1)
+    let a = c.args in
+    let h = put_some a.buf.now a.at (sids_of a.annotations.now) c.write_before.new.buf c.in_ok-noted.noted c.in_ok-noted.ensures in
+    omega (arith, h.0, h.1)
 
 pub overflow_add-header-3 : goal.overflow_add-header-3
 overflow_add-header-3 c =
-    let noted : List ℕ = annotation_bytes (sids_of c.args.annotations.now) in
-    let put : let a = c.args in let w = c.write_before-noted in
-    (a.at + (length (noted) + 4) ≤ length a.buf.now) × (w.result ≡ length (noted)) × (w.new.buf ≡ laid a.buf.now (a.at + 2) (noted)) = let a = c.args in
-    let w = c.write_before-noted in
-    put_some a.buf.now a.at (sids_of a.annotations.now) w.result w.new.buf w.ensures c.if-noted-eq0.false in
-    let h = put in omega (arith, h.0, h.1)
+    let a = c.args in
+    let h = put_some a.buf.now a.at (sids_of a.annotations.now) c.write_before.new.buf c.in_ok-noted.noted c.in_ok-noted.ensures in
+    omega (arith, h.0, h.1)
 
 pub clear-requires-2 : goal.clear-requires-2
 clear-requires-2 c =
-    let noted : List ℕ = annotation_bytes (sids_of c.args.annotations.now) in
-    let put : let a = c.args in let w = c.write_before-noted in
-    (a.at + (length (noted) + 4) ≤ length a.buf.now) × (w.result ≡ length (noted)) × (w.new.buf ≡ laid a.buf.now (a.at + 2) (noted)) = let a = c.args in
-    let w = c.write_before-noted in
-    put_some a.buf.now a.at (sids_of a.annotations.now) w.result w.new.buf w.ensures c.if-noted-eq0.false in
-    let h = put in omega (arith, h.0, h.1)
+    let a = c.args in
+    let h = put_some a.buf.now a.at (sids_of a.annotations.now) c.write_before.new.buf c.in_ok-noted.noted c.in_ok-noted.ensures in
+    omega (arith, h.0, h.1)
 
 pub overflow_add-result : goal.overflow_add-result
 overflow_add-result c =
-    let noted : List ℕ = annotation_bytes (sids_of c.args.annotations.now) in
-    let put : let a = c.args in let w = c.write_before-noted in
-    (a.at + (length (noted) + 4) ≤ length a.buf.now) × (w.result ≡ length (noted)) × (w.new.buf ≡ laid a.buf.now (a.at + 2) (noted)) = let a = c.args in
-    let w = c.write_before-noted in
-    put_some a.buf.now a.at (sids_of a.annotations.now) w.result w.new.buf w.ensures c.if-noted-eq0.false in
-    let h = put in omega (arith, h.0, h.1)
+    let a = c.args in
+    let h = put_some a.buf.now a.at (sids_of a.annotations.now) c.write_before.new.buf c.in_ok-noted.noted c.in_ok-noted.ensures in
+    omega (arith, h.0, h.1)
 
 pub returns : goal.returns
 returns c =
-    let noted : List ℕ = annotation_bytes (sids_of c.args.annotations.now) in
-    let put : let a = c.args in let w = c.write_before-noted in
-    (a.at + (length (noted) + 4) ≤ length a.buf.now) × (w.result ≡ length (noted)) × (w.new.buf ≡ laid a.buf.now (a.at + 2) (noted)) = let a = c.args in
-    let w = c.write_before-noted in
-    put_some a.buf.now a.at (sids_of a.annotations.now) w.result w.new.buf w.ensures c.if-noted-eq0.false in
     let a = c.args in
-    let w = c.write_before-noted in
-    let A = noted in
-    let h = put in
+    let h = put_some a.buf.now a.at (sids_of a.annotations.now) c.write_before.new.buf c.in_ok-noted.noted c.in_ok-noted.ensures in
+    let A = annotation_bytes (sids_of a.annotations.now) in
     let x : a.at + 2 - a.at ≡ 2 = omega arith in
-    let y : (a.at + 2 + w.result + 2) - (a.at + 2 + w.result) ≡ 2 = omega arith in
-    let q = rw x at c.clear.ensures in
-    let r = rw (y, h.1) at c.clear-2.ensures in
+    let y : (a.at + 2 + c.in_ok-noted.noted + 2) - (a.at + 2 + c.in_ok-noted.noted) ≡ 2 = omega arith in
     placed_by a.buf.now a.at (reserved A) _ _ (omega (arith, h.0, length-reserved A)) (omega (arith, h.1, length-reserved A))
-    (around a.buf.now a.at A w.new.buf c.clear.new.buf c.clear-2.new.buf h.0 h.2 q r)
+    (around a.buf.now a.at A c.write_before.new.buf c.clear.new.buf c.clear-2.new.buf h.0 h.2 (rw x at c.clear.ensures) (rw (y, h.1) at c.clear-2.ensures))

@@ -1,86 +1,67 @@
 -- `entry_containers::open` meets its contract: refused by place, by depth or for room, or the container is stored.
 -- Assumes nothing.
-use native.Mathlib.Omega.{arith}
-use Prim.Native.Nat.{◌+◌, ◌<◌, ◌≤◌}
-use mathlib.Core.Path.{◌≡◌, refl, sym, ◌∙◌}
-use mathlib.Core.Bool.{true}
-use mathlib.Core.List.{◌∷◌}
-use lib.Dec.{leb}
-use lib.ListN.{length}
-use borrow.Author.Tests.{not-true, not-false}
+use Rattle.std.proofs.Common.{◌≡◌, ◌+◌, ◌-◌, ◌<◌, ◌≤◌, ◌∷◌, length, refl, arith, ℕ}
+use Rattle.std.proofs.lemmas.Result.{err_from_is_err_and}
 use Rattle.annotations.specs.Sids.{sids_of}
 use Rattle.machine.specs.Call.{opening}
-use Rattle.machine.specs.Machine.{most_open, lacks_name, place_verdict, is_accepted}
+use Rattle.machine.specs.Machine.{most_open, lacks_name}
 use Rattle.steps.specs.Kinds.{kind_of}
+use Rattle.steps.proofs.Containers.{opening_lines}
 use Rattle.state_bytes.specs.StateBytes.{state_of}
-use Rattle.entry_steps.proofs.Entered.{barred_entry}
-use Rattle.entry_steps.proofs.Calls.{room_line, open_deep, open_full, open_fits, open_done}
+use Rattle.entry_steps.proofs.Entered.{refused_place}
+use Rattle.entry_steps.proofs.Calls.{open_deep, open_full, open_fits, open_done}
 use Rattle.entry_containers.proofs.open.Goals as goal
 
-pub returns-then-not-value_passes : goal.returns-then-not-value_passes
-returns-then-not-value_passes c = let a = c.args in
-    let st = state_of a.state.now in
-    let o = opening (sids_of a.annotations.now) (kind_of a.kind) in
-    barred_entry o a.state.now a.buf.now (lacks_name st)
-    ((leb most_open st.depth, 4) ∷ room_line o a.state.now a.buf.now) refl c.value_place.result c.answered.result
-    (sym c.value_passes.ensures ∙ not-true _ c.if-not-value_passes.true-raw)
-    c.value_place.ensures c.answered.ensures
+pub returns-in_err-check : goal.returns-in_err-check
+returns-in_err-check c =
+    let a = c.args in
+    let an = sids_of a.annotations.now in
+    let s = state_of a.state.now in
+    let p = err_from_is_err_and c.from_residual.result c.from_residual.ensures.1 in
+    rw (p.1, p.2)
+    (refused_place (opening an (kind_of a.kind)) a.state.now a.buf.now (lacks_name s) (opening_lines an s a.buf.now) refl c.in_err-check.field-0.0
+    c.in_err-check.ensures)
 
 pub returns-then-depth-ge-MOST_OPEN : goal.returns-then-depth-ge-MOST_OPEN
-returns-then-depth-ge-MOST_OPEN c = let a = c.args in
-    rw c.number_of.ensures (open_deep (sids_of a.annotations.now) (kind_of a.kind) a.state.now a.buf.now
-    (sym c.value_passes.ensures ∙ not-false _ c.if-not-value_passes.false-raw)
-    (omega (arith, c.depth-depth.ensures, c.if-depth-ge-MOST_OPEN.true)))
-
-pub returns-then-put-eq0 : goal.returns-then-put-eq0
-returns-then-put-eq0 c =
-    let passed : let a = c.args in let st = state_of a.state.now in
-    is_accepted (place_verdict st (length a.buf.now) (lacks_name st)) ≡ true = sym c.value_passes.ensures ∙ not-false _ c.if-not-value_passes.false-raw in
-    let shallow : (state_of c.args.state.now).depth < most_open = omega (arith, c.depth-depth.ensures, c.if-depth-ge-MOST_OPEN.false) in
+returns-then-depth-ge-MOST_OPEN c =
     let a = c.args in
-    rw c.number_of-then-put-eq0.ensures (open_full (sids_of a.annotations.now) (kind_of a.kind) a.state.now a.buf.now (passed) (shallow)
-    c.open-put.result c.open-put.new.buf (rw c.used-used.ensures at c.open-put.ensures) c.if-put-eq0.true)
+    open_deep (sids_of a.annotations.now) (kind_of a.kind) a.state.now a.buf.now c.in_ok-check.ensures
+    (rw c.depth-depth.ensures at c.if-depth-ge-MOST_OPEN.true)
 
-pub overflow_sub-put : goal.overflow_sub-put
-overflow_sub-put c =
-    let passed : let a = c.args in let st = state_of a.state.now in
-    is_accepted (place_verdict st (length a.buf.now) (lacks_name st)) ≡ true = sym c.value_passes.ensures ∙ not-false _ c.if-not-value_passes.false-raw in
-    let shallow : (state_of c.args.state.now).depth < most_open = omega (arith, c.depth-depth.ensures, c.if-depth-ge-MOST_OPEN.false) in
-    let fitting : let a = c.args in let n = c.open-put.result in
-    (2 ≤ n) × ((state_of a.state.now).used + n ≤ length a.buf.now) = let a = c.args in
-    open_fits (sids_of a.annotations.now) (kind_of a.kind) a.state.now a.buf.now (passed) (shallow) c.open-put.result
-    c.open-put.new.buf (rw c.used-used.ensures at c.open-put.ensures) c.if-put-eq0.false in
-    omega (arith, (fitting).0)
+pub returns-in_default : goal.returns-in_default
+returns-in_default c =
+    let a = c.args in
+    open_full (sids_of a.annotations.now) (kind_of a.kind) a.state.now a.buf.now c.in_ok-check.ensures
+    (rw c.depth-depth.ensures at c.if-depth-ge-MOST_OPEN.false) c.open.new.buf (rw c.used-used.ensures at c.in_default.ensures)
+
+pub overflow_sub-container : goal.overflow_sub-container
+overflow_sub-container c =
+    let a = c.args in
+    let w : (2 ≤ c.in-Some.put) × ((state_of a.state.now).used + c.in-Some.put ≤ length a.buf.now) =
+    open_fits (sids_of a.annotations.now) (kind_of a.kind) a.state.now a.buf.now c.in_ok-check.ensures
+    (rw c.depth-depth.ensures at c.if-depth-ge-MOST_OPEN.false) c.open.new.buf c.in-Some.put (rw c.used-used.ensures at c.in-Some.ensures) in
+    w.0
+
+pub overflow_add-container : goal.overflow_add-container
+overflow_add-container c =
+    let a = c.args in
+    let w : (2 ≤ c.in-Some.put) × ((state_of a.state.now).used + c.in-Some.put ≤ length a.buf.now) =
+    open_fits (sids_of a.annotations.now) (kind_of a.kind) a.state.now a.buf.now c.in_ok-check.ensures
+    (rw c.depth-depth.ensures at c.if-depth-ge-MOST_OPEN.false) c.open.new.buf c.in-Some.put (rw c.used-used.ensures at c.in-Some.ensures) in
+    omega (arith, c.used-used.ensures, w.0, w.1)
 
 pub overflow_add-used : goal.overflow_add-used
 overflow_add-used c =
-    let passed : let a = c.args in let st = state_of a.state.now in
-    is_accepted (place_verdict st (length a.buf.now) (lacks_name st)) ≡ true = sym c.value_passes.ensures ∙ not-false _ c.if-not-value_passes.false-raw in
-    let shallow : (state_of c.args.state.now).depth < most_open = omega (arith, c.depth-depth.ensures, c.if-depth-ge-MOST_OPEN.false) in
-    let fitting : let a = c.args in let n = c.open-put.result in
-    (2 ≤ n) × ((state_of a.state.now).used + n ≤ length a.buf.now) = let a = c.args in
-    open_fits (sids_of a.annotations.now) (kind_of a.kind) a.state.now a.buf.now (passed) (shallow) c.open-put.result
-    c.open-put.new.buf (rw c.used-used.ensures at c.open-put.ensures) c.if-put-eq0.false in
-    omega (arith, c.used-used.ensures, (fitting).0, (fitting).1)
-
-pub overflow_add-used-2 : goal.overflow_add-used-2
-overflow_add-used-2 c =
-    let passed : let a = c.args in let st = state_of a.state.now in
-    is_accepted (place_verdict st (length a.buf.now) (lacks_name st)) ≡ true = sym c.value_passes.ensures ∙ not-false _ c.if-not-value_passes.false-raw in
-    let shallow : (state_of c.args.state.now).depth < most_open = omega (arith, c.depth-depth.ensures, c.if-depth-ge-MOST_OPEN.false) in
-    let fitting : let a = c.args in let n = c.open-put.result in
-    (2 ≤ n) × ((state_of a.state.now).used + n ≤ length a.buf.now) = let a = c.args in
-    open_fits (sids_of a.annotations.now) (kind_of a.kind) a.state.now a.buf.now (passed) (shallow) c.open-put.result
-    c.open-put.new.buf (rw c.used-used.ensures at c.open-put.ensures) c.if-put-eq0.false in
-    omega (arith, c.used-used.ensures, (fitting).1)
+    let a = c.args in
+    let w : (2 ≤ c.in-Some.put) × ((state_of a.state.now).used + c.in-Some.put ≤ length a.buf.now) =
+    open_fits (sids_of a.annotations.now) (kind_of a.kind) a.state.now a.buf.now c.in_ok-check.ensures
+    (rw c.depth-depth.ensures at c.if-depth-ge-MOST_OPEN.false) c.open.new.buf c.in-Some.put (rw c.used-used.ensures at c.in-Some.ensures) in
+    omega (arith, c.used-used.ensures, w.1)
 
 pub returns : goal.returns
 returns c =
-    let passed : let a = c.args in let st = state_of a.state.now in
-    is_accepted (place_verdict st (length a.buf.now) (lacks_name st)) ≡ true = sym c.value_passes.ensures ∙ not-false _ c.if-not-value_passes.false-raw in
-    let shallow : (state_of c.args.state.now).depth < most_open = omega (arith, c.depth-depth.ensures, c.if-depth-ge-MOST_OPEN.false) in
     let a = c.args in
     let used = c.used-used.ensures in
-    rw (c.store.ensures, c.store_container.ensures, c.type_code-code.ensures, used, c.depth-depth.ensures)
-    (open_done (sids_of a.annotations.now) (kind_of a.kind) a.state.now a.buf.now (passed) (shallow)
-    c.open-put.result c.open-put.new.buf (rw used at c.open-put.ensures) c.if-put-eq0.false)
+    rw (c.store.ensures, c.store_container.ensures, c.into.ensures, used, c.depth-depth.ensures)
+    (open_done (sids_of a.annotations.now) (kind_of a.kind) a.state.now a.buf.now c.in_ok-check.ensures
+    (rw c.depth-depth.ensures at c.if-depth-ge-MOST_OPEN.false) c.open.new.buf c.in-Some.put (rw used at c.in-Some.ensures))

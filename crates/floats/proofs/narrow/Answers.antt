@@ -32,31 +32,28 @@ pub returns-then-digits-dropped : goal.returns-then-digits-dropped
 returns-then-digits-dropped c = sym (narrowed_fields _ ∙ narrowed_cut _ _ _ _ (omega arith) (omega arith) (omega arith) c.dropped_digits-dropped.ensures c.if-digits-dropped.true)
 
 pub overflow_add-result-3 : goal.overflow_add-result-3
-overflow_add-result-3 c =
-    let magnitude : let b = c.args.bits in
-    let d = c.dropped_digits-dropped.result in
-    (b % 2 ^ 63 / 2 ^ 52 + d - 926) * 2 ^ 23 + (b % 2 ^ 52 + 2 ^ 52) / 2 ^ d < 2 ^ 31 = let b = c.args.bits in
+overflow_add-result-3 c = let b = c.args.bits in
     let d = c.dropped_digits-dropped in
-    magnitude-small (leb (2 ^ 63) b) (b % 2 ^ 63 / 2 ^ 52) (b % 2 ^ 52) d.result (omega arith) (omega arith) (omega arith) d.ensures in
-    omega (arith, magnitude)
+    omega (
+      arith,
+      magnitude-small (leb (2 ^ 63) b) (b % 2 ^ 63 / 2 ^ 52) (b % 2 ^ 52) d.result (omega arith) (omega arith) (omega arith) d.ensures,
+    )
 
 pub overflow_cast-result : goal.overflow_cast-result
-overflow_cast-result c =
-    let magnitude : let b = c.args.bits in
-    let d = c.dropped_digits-dropped.result in
-    (b % 2 ^ 63 / 2 ^ 52 + d - 926) * 2 ^ 23 + (b % 2 ^ 52 + 2 ^ 52) / 2 ^ d < 2 ^ 31 = let b = c.args.bits in
+overflow_cast-result c = let b = c.args.bits in
     let d = c.dropped_digits-dropped in
-    magnitude-small (leb (2 ^ 63) b) (b % 2 ^ 63 / 2 ^ 52) (b % 2 ^ 52) d.result (omega arith) (omega arith) (omega arith) d.ensures in
-    omega (arith, magnitude)
+    omega (
+      arith,
+      magnitude-small (leb (2 ^ 63) b) (b % 2 ^ 63 / 2 ^ 52) (b % 2 ^ 52) d.result (omega arith) (omega arith) (omega arith) d.ensures,
+    )
 
 pub overflow_add-result-4 : goal.overflow_add-result-4
-overflow_add-result-4 c =
-    let magnitude : let b = c.args.bits in
-    let d = c.dropped_digits-dropped.result in
-    (b % 2 ^ 63 / 2 ^ 52 + d - 926) * 2 ^ 23 + (b % 2 ^ 52 + 2 ^ 52) / 2 ^ d < 2 ^ 31 = let b = c.args.bits in
+overflow_add-result-4 c = let b = c.args.bits in
     let d = c.dropped_digits-dropped in
-    magnitude-small (leb (2 ^ 63) b) (b % 2 ^ 63 / 2 ^ 52) (b % 2 ^ 52) d.result (omega arith) (omega arith) (omega arith) d.ensures in
-    omega (arith, magnitude)
+    omega (
+      arith,
+      magnitude-small (leb (2 ^ 63) b) (b % 2 ^ 63 / 2 ^ 52) (b % 2 ^ 52) d.result (omega arith) (omega arith) (omega arith) d.ensures,
+    )
 
 pub returns : goal.returns
 returns c = let b = c.args.bits in

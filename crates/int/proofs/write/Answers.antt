@@ -28,30 +28,30 @@ module _ (s : Bool) (m : List ℕ) (r : ℕ) (h : r < length m) (e : r + length 
       ∙ rw (trimmed_cons m r h e, top_bit_is s) (sym (int_taken (get_or m r 0) (drop (suc r) m) s k))
 
 pub overflow_mul-sign : goal.overflow_mul-sign
-overflow_mul-sign c = omega (arith, bool_byte-most c.args.negative)
+overflow_mul-sign c = omega (arith, c.from-sign.ensures, bool_byte-most c.args.negative)
 
 pub returns-then-negative : goal.returns-then-negative
 returns-then-negative c = let a = c.args in
-    c.put.ensures
+    rw c.from-sign.ensures at c.put.ensures
     ∙ ap (placed a.buf.now a.at) (ap (λ (b : ℕ). b ∷ []) (top_bit_is a.negative)
     ∙ sym (int_negative_zero a.negative (trimmed a.magnitude.now) c.if-negative.true (omega arith)))
 
 pub returns-then-zeros-magnitude : goal.returns-then-zeros-magnitude
 returns-then-zeros-magnitude c = let a = c.args in
-    sym (ap (placed a.buf.now a.at) (int_zero a.negative (trimmed a.magnitude.now) c.if-negative.false (omega arith))
-    ∙ placed_nil a.buf.now a.at)
+    c.copy.ensures
+    ∙ ap (placed a.buf.now a.at) (sym (int_zero a.negative (trimmed a.magnitude.now) c.if-negative.false (omega arith)))
 
 pub overflow_add-sign : goal.overflow_add-sign
-overflow_add-sign c = omega (arith, bool_byte-most c.args.negative)
+overflow_add-sign c = omega (arith, c.from-sign.ensures, bool_byte-most c.args.negative)
 
 pub returns-then-first-lt-SIGN : goal.returns-then-first-lt-SIGN
 returns-then-first-lt-SIGN c = let a = c.args in
     let z = c.leading_zero_bytes-zeros in
-    c.write_first.ensures
+    rw c.from-sign.ensures at c.write_first.ensures
     ∙ ap (placed a.buf.now a.at) (clear a.negative a.magnitude.now z.result (omega arith) z.ensures (omega arith))
 
 pub returns : goal.returns
 returns c = let a = c.args in
     let z = c.leading_zero_bytes-zeros in
-    c.write_first-2.ensures
+    rw c.from-sign.ensures at c.write_first-2.ensures
     ∙ ap (placed a.buf.now a.at) (taken a.negative a.magnitude.now z.result (omega arith) z.ensures (omega arith))

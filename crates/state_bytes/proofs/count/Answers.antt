@@ -1,17 +1,19 @@
 -- `state_bytes::count` meets its contract: the count is the last number of the record.
 -- Assumes nothing.
+use Rattle.std.proofs.Common.{◌∙◌}
 use native.Mathlib.Omega.{arith}
-use Rattle.state_bytes.specs.StateBytes.{state_of}
 use Rattle.machine.specs.Machine.{counted}
+use Rattle.state_bytes.specs.StateBytes.{state_of}
 use Rattle.state_bytes.proofs.Laws.{uncounted_short, uncounted, some-counted, stored-count}
 use Rattle.state_bytes.proofs.count.Goals as goal
 
-pub returns-then-st-ne-STATE_SIZE : goal.returns-then-st-ne-STATE_SIZE
-returns-then-st-ne-STATE_SIZE c = let a = c.args in uncounted_short a.st.now (counted (state_of a.st.now).containers a.depth) a.depth c.if-st-ne-STATE_SIZE.true
+pub returns-in_default : goal.returns-in_default
+returns-in_default c = let a = c.args in uncounted_short a.st.now (counted (state_of a.st.now).containers a.depth) a.depth c.in_default.ensures.cases
 
 pub returns-then-depth : goal.returns-then-depth
-returns-then-depth c = let a = c.args in
-    uncounted a.st.now (counted (state_of a.st.now).containers a.depth) a.depth c.if-depth.true
+returns-then-depth c =
+    let a = c.args in
+    c.in-Some.ensures.cases.same ∙ uncounted a.st.now (counted (state_of a.st.now).containers a.depth) a.depth c.if-depth.true
 
 pub overflow_sub-at : goal.overflow_sub-at
 overflow_sub-at c = omega (arith, some-counted c.args.depth c.if-depth.false)
@@ -32,6 +34,8 @@ pub put_four-requires : goal.put_four-requires
 put_four-requires c = omega (arith, some-counted c.args.depth c.if-depth.false)
 
 pub returns : goal.returns
-returns c = let a = c.args in
-    stored-count a.st.now c.put_four.new.st a.depth c.get_four-members.result c.if-st-ne-STATE_SIZE.false
-    (some-counted a.depth c.if-depth.false) c.get_four-members.ensures.0 c.put_four.ensures
+returns c =
+    let a = c.args in
+    let h = c.in-Some.ensures.cases in
+    stored-count a.st.now c.put_four.new.st a.depth c.get_four-members.result h.long (some-counted a.depth c.if-depth.false)
+    (rw h.same at c.get_four-members.ensures) (rw h.same at c.put_four.ensures)

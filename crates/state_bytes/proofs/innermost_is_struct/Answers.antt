@@ -4,4 +4,4 @@ use Rattle.state_bytes.proofs.Laws.{struct_below}
 use Rattle.state_bytes.proofs.innermost_is_struct.Goals as goal
 
 pub returns : goal.returns
-returns c u = struct_below c.args.st.now c.args.depth c.requires.1 c.requires.0 u
+returns c u = struct_below c.args.st.now c.args.depth c.told-st c.requires u

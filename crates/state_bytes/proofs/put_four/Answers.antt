@@ -1,19 +1,13 @@
--- `state_bytes::put_four` meets its contract: four stores in a row.
+-- `state_bytes::put_four` meets its contract: the part is the number's bytes.
 -- Assumes nothing.
-use Prim.Native.Nat.{◌/◌, ◌%◌}
-use lib.ListN.{length-set}
+use Rattle.std.proofs.Common.{◌≡◌, ◌+◌, ◌-◌, refl}
 use native.Mathlib.Omega.{arith}
-use Rattle.state_bytes.proofs.Laws.{laid-four}
+use Rattle.std.proofs.lemmas.List.{drop-drop}
+use Rattle.buffer.specs.Laid.{laid}
 use Rattle.state_bytes.proofs.put_four.Goals as goal
 
-pub bounds-st-at-2 : goal.bounds-st-at-2
-bounds-st-at-2 c = simp length-set (omega arith)
-
-pub bounds-st-at-3 : goal.bounds-st-at-3
-bounds-st-at-3 c = simp length-set (omega arith)
-
-pub bounds-st-at-4 : goal.bounds-st-at-4
-bounds-st-at-4 c = simp length-set (omega arith)
-
 pub returns : goal.returns
-returns c = let a = c.args in laid-four a.st.now a.at (a.n % 256) (a.n / 256 % 256) (a.n / 65536 % 256) (a.n / 16777216 % 256) c.requires
+unfolding laid
+returns c =
+    let e : c.args.at + 4 - c.args.at ≡ 4 = omega arith in
+    rw (e, c.copy_from_slice.ensures.after, c.four_bytes.ensures, drop-drop, laid) refl

@@ -1,18 +1,10 @@
--- The loop's invariant: the bytes are ASCII where the OR of those passed is below 80 and the others are ASCII.
--- Assumes nothing.
-use mathlib.Core.Path.{refl, sym, ◌∙◌}
-use native.Mathlib.Omega.{arith}
-use lib.Dec.{ltb}
-use Rattle.text.proofs.Ascii.{ascii-next, ascii_end}
+-- The OR of all bytes is below 80 where each byte is. Assumes nothing.
+use Rattle.std.proofs.Common.{◌≡◌, bit_or, rules}
+use Rattle.std.specs.List.{fold}
+use Rattle.text.proofs.Ascii.{fold_ascii}
 use Rattle.text.proofs.is_ascii.Goals as goal
 
-pub loop-i-init : goal.loop-i-init
-loop-i-init c = (omega arith, refl)
-
-pub loop-i-preserved : goal.loop-i-preserved
-loop-i-preserved c = let l = c.loop-i in
-    (omega arith, l.invariant.1 ∙ ascii-next l.all c.args.s.now l.i (omega arith))
-
 pub returns : goal.returns
-returns c = let l = c.loop-i in
-    sym (l.invariant.1 ∙ ascii_end (ltb l.all 0x80) c.args.s.now l.i (omega arith))
+returns c = let s = c.args.s.now in
+    let e : c.fold.result ≡ fold bit_or 0 s = search rules in
+    rw e (fold_ascii 0 s)

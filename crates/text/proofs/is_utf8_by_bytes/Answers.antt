@@ -1,5 +1,4 @@
--- The loop's invariant: the whole is UTF-8 where the bytes left end the character under way and are whole characters from there on.
--- Assumes nothing.
+-- Each byte ends, goes on with or begins a character, or nothing is UTF-8 with it. Assumes nothing.
 use Prim.Native.Nat.{◌+◌}
 use mathlib.Core.Path.{refl, sym, ◌∙◌, ap}
 use native.Mathlib.Omega.{arith}
@@ -10,15 +9,15 @@ use Rattle.ion.proofs.Bytes.{drop-next}
 use Rattle.text.proofs.Bytes.{utf8_end}
 use Rattle.text.proofs.is_utf8_by_bytes.Goals as goal
 
-pub loop-i-init : goal.loop-i-init
+pub loop-b-init : goal.loop-b-init
 unfolding utf8
-loop-i-init c = (omega arith, refl)
+loop-b-init c = rw c.tails-d.ensures refl
 
-pub loop-i-preserved : goal.loop-i-preserved
-loop-i-preserved c = let l = c.loop-i in
+pub loop-b-preserved : goal.loop-b-preserved
+loop-b-preserved c = let l = c.loop-b in
     let s = c.args.s.now in
-    (omega arith, l.invariant.1 ∙ (ap (utf8_from (due l.d)) (drop-next s l.i (omega arith)) ∙ sym (c.next_byte-d.ensures (drop (l.i + 1) s))))
+    l.invariant ∙ (ap (utf8_from (due l.d)) (drop-next s l.b-index (omega arith)) ∙ sym (c.in-Some.ensures (drop (l.b-index + 1) s)))
 
 pub returns : goal.returns
-returns c = let l = c.loop-i in
-    sym (l.invariant.1 ∙ utf8_end l.d c.args.s.now l.i (omega arith))
+returns c = let l = c.loop-b in
+    sym (l.invariant ∙ utf8_end l.d c.args.s.now l.b-index (omega arith))

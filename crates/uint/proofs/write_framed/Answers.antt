@@ -6,12 +6,13 @@ use Prim.Native.Nat.{ℕ, ◌+◌, ◌*◌, ◌/◌, ◌^◌, ◌≤◌, ◌<◌
 use native.Mathlib.Omega.{arith}
 use native.Mathlib.Nat.{add-zero}
 use lib.ListN.{length, set}
+use Rattle.std.specs.Prelude.{Option, Some, None}
 use Rattle.encoding.specs.Fields.{uint_bytes}
 use Rattle.encoding.specs.Headers.{framed_bytes}
 use Rattle.encoding.proofs.Sizes.{uint-zero, uint_least, uint-most}
 use Rattle.encoding.proofs.Headers.{framed_short}
 use Rattle.buffer.specs.Laid.{placed}
-use Rattle.buffer.proofs.Laid.{laid_cons, placed_full, placed_by, placed-none, placed-some}
+use Rattle.buffer.proofs.Laid.{placed_cons, placed_cons_none, placed_full, placed-some}
 use borrow.Author.Rules.{rules}
 use Rattle.uint.proofs.write_framed.Goals as goal
 
@@ -25,20 +26,21 @@ module _ (code n : ℕ) (h : n < 2 ^ 64) where
 
   module _ (b : List ℕ) (at : ℕ) where
     -- no room for the whole
-    full : length b < at + (1 + length (uint_bytes n)) → ◌≡◌ {A = ℕ × List ℕ} (0, b) (placed b at (framed_bytes code (uint_bytes n)))
+    full : length b < at + (1 + length (uint_bytes n)) → ◌≡◌ {A = Option ℕ × List ℕ} (None, b) (placed b at (framed_bytes code (uint_bytes n)))
     full k = sym (placed_full b at (framed_bytes code (uint_bytes n)) (omega (arith, ap length framed)))
 
     -- what the UInt leaves
-    module _ (size : ℕ) (l : List ℕ) (e : ◌≡◌ {A = ℕ × List ℕ} (size, l) (placed b (at + 1) (uint_bytes n))) where
-      none : 0 < n → size ≡ 0 → ◌≡◌ {A = ℕ × List ℕ} (0, l) (placed b at (framed_bytes code (uint_bytes n)))
-      none p z = let q = placed-none b (at + 1) (uint_bytes n) size l e z (uint_least n p) in rw q.1 (full (omega (arith, q.0)))
+    none : (l : List ℕ) → ◌≡◌ {A = Option ℕ × List ℕ} (None, l) (placed b (at + 1) (uint_bytes n)) → ◌≡◌ {A = Option ℕ × List ℕ} (None, l) (placed b at (framed_bytes code (uint_bytes n)))
+    none l e = placed_cons_none b at (code + length (uint_bytes n)) (uint_bytes n) l e ∙ ap (placed b at) (sym framed)
 
-      before : (size ≡ 0 → ⊥) → ◌≡◌ {A = ℕ × List ℕ} (1 + size, set l at (code + size)) (placed b at (framed_bytes code (uint_bytes n)))
-      before some =
-          let q = placed-some b (at + 1) (uint_bytes n) size l e some in
-          rw (framed, q.2, q.1)
-          (placed_by b at _ (1 + length (uint_bytes n)) _ (omega (arith, q.0)) (omega arith)
-          (laid_cons b at (uint_bytes n) (code + length (uint_bytes n)) q.0))
+    module _ (size : ℕ) (l : List ℕ) (e : ◌≡◌ {A = Option ℕ × List ℕ} (Some size, l) (placed b (at + 1) (uint_bytes n))) where
+      most : size ≤ 8
+      most = let q = placed-some b (at + 1) (uint_bytes n) size l e in omega (arith, uint-most n h)
+
+      before : ◌≡◌ {A = Option ℕ × List ℕ} (Some (1 + size), set l at (code + size)) (placed b at (framed_bytes code (uint_bytes n)))
+      before =
+          let q = placed-some b (at + 1) (uint_bytes n) size l e in
+          rw (framed, ← q.1) (placed_cons b at (code + size) (uint_bytes n) size l e)
 
 pub returns-then-value-eq0 : goal.returns-then-value-eq0
 returns-then-value-eq0 c = let a = c.args in
@@ -47,28 +49,23 @@ returns-then-value-eq0 c = let a = c.args in
 pub returns-then-buf-at : goal.returns-then-buf-at
 returns-then-buf-at c = let a = c.args in full (a.code / 16 * 16) a.value (search rules) a.buf.now a.at (omega arith)
 
-pub returns-then-size-eq0 : goal.returns-then-size-eq0
-returns-then-size-eq0 c = let a = c.args in
-    none (a.code / 16 * 16) a.value (search rules) a.buf.now a.at _ _ c.write-size.ensures (omega arith) c.if-size-eq0.true
+pub returns-in_err-size : goal.returns-in_err-size
+returns-in_err-size c = let a = c.args in
+    ap (λ (r : Option ℕ). (r, c.write.new.buf)) c.from_residual.ensures
+    ∙ none (a.code / 16 * 16) a.value (search rules) a.buf.now a.at _ c.in_err-size.ensures
 
 pub overflow_cast-buf : goal.overflow_cast-buf
-overflow_cast-buf c =
-    let size_most : c.write-size.result ≤ 8 = let a = c.args in
-    omega (arith, uint-most a.value (search rules), (placed-some a.buf.now (a.at + 1) (uint_bytes a.value) _ _ c.write-size.ensures c.if-size-eq0.false).1) in
-    omega (arith, size_most)
+overflow_cast-buf c = let a = c.args in
+    omega (arith, most (a.code / 16 * 16) a.value (search rules) a.buf.now a.at _ _ c.in_ok-size.ensures)
 
 pub overflow_add-buf : goal.overflow_add-buf
-overflow_add-buf c =
-    let size_most : c.write-size.result ≤ 8 = let a = c.args in
-    omega (arith, uint-most a.value (search rules), (placed-some a.buf.now (a.at + 1) (uint_bytes a.value) _ _ c.write-size.ensures c.if-size-eq0.false).1) in
-    omega (arith, size_most)
+overflow_add-buf c = let a = c.args in
+    omega (arith, most (a.code / 16 * 16) a.value (search rules) a.buf.now a.at _ _ c.in_ok-size.ensures)
 
 pub overflow_add-result : goal.overflow_add-result
-overflow_add-result c =
-    let size_most : c.write-size.result ≤ 8 = let a = c.args in
-    omega (arith, uint-most a.value (search rules), (placed-some a.buf.now (a.at + 1) (uint_bytes a.value) _ _ c.write-size.ensures c.if-size-eq0.false).1) in
-    omega (arith, size_most)
+overflow_add-result c = let a = c.args in
+    omega (arith, most (a.code / 16 * 16) a.value (search rules) a.buf.now a.at _ _ c.in_ok-size.ensures)
 
 pub returns : goal.returns
 returns c = let a = c.args in
-    before (a.code / 16 * 16) a.value (search rules) a.buf.now a.at _ _ c.write-size.ensures c.if-size-eq0.false
+    before (a.code / 16 * 16) a.value (search rules) a.buf.now a.at _ _ c.in_ok-size.ensures

@@ -9,6 +9,7 @@ use native.Mathlib.Omega.{arith}
 use mir.Val.{bool_byte}
 use lib.ListN.{length, set, length-set}
 use Rattle.ion.specs.Value.{signed}
+use Rattle.std.specs.Prelude.{Option, Some, None}
 use Rattle.encoding.specs.Digits.{low_digits, digit_count}
 use Rattle.encoding.specs.Fields.{sign_bit, var_int_groups, var_int_bytes}
 use Rattle.encoding.proofs.Digits.{low_digits-first, digit_count-zero}
@@ -54,10 +55,10 @@ record Known (b l : List ℕ) (at : ℕ) (s : Bool) (n size put : ℕ) : Type 0 
   all : AllPut b at 128 size n put l
 
 known : (b l : List ℕ) (at : ℕ) (s : Bool) (n size put : ℕ) → 64 ≤ n → n < 2 ^ 64 → size ≡ length (var_int_bytes (signed false n))
-    → ◌≡◌ {A = ℕ × List ℕ} (put, l) (placed b at (low_digits 128 size n)) → (put ≡ 0 → ⊥) → Known b l at s n size put
-known b l at s n size put h w e p some =
+    → ◌≡◌ {A = Option ℕ × List ℕ} (Some put, l) (placed b at (low_digits 128 size n)) → Known b l at s n size put
+known b l at s n size put h w e p =
     let g : size ≡ suc (digit_count 128 (n / 64)) = e ∙ length-var_int false n in
-    let k = all_put b at 128 size n put l p some in
+    let k = all_put b at 128 size n put l p in
     let f : n / 128 ^ (put - 1) < 64 = var_int-first (put - 1) n (omega (arith, k.count, g)) in
     record {
       size_is = g;
@@ -69,66 +70,72 @@ known b l at s n size put h w e p some =
     }
 
 pub overflow_mul-sign : goal.overflow_mul-sign
-overflow_mul-sign c = omega (arith, bool_byte-most c.args.negative)
+overflow_mul-sign c = omega (arith, c.from-sign.ensures, bool_byte-most c.args.negative)
 
 pub overflow_add-sign : goal.overflow_add-sign
-overflow_add-sign c = omega (arith, bool_byte-most c.args.negative)
+overflow_add-sign c = omega (arith, c.from-sign.ensures, bool_byte-most c.args.negative)
 
 pub overflow_add-sign-then-magnitude-lt-TWO_BYTES : goal.overflow_add-sign-then-magnitude-lt-TWO_BYTES
-overflow_add-sign-then-magnitude-lt-TWO_BYTES c = omega (arith, bool_byte-most c.args.negative)
+overflow_add-sign-then-magnitude-lt-TWO_BYTES c = omega (arith, c.from-sign.ensures, bool_byte-most c.args.negative)
 
 pub returns-then-magnitude-lt-TWO_BYTES : goal.returns-then-magnitude-lt-TWO_BYTES
 returns-then-magnitude-lt-TWO_BYTES c = let a = c.args in
-    c.put.ensures ∙ ap (placed a.buf.now a.at) (one a.negative a.magnitude (omega arith))
+    rw c.from-sign.ensures at c.put.ensures ∙ ap (placed a.buf.now a.at) (one a.negative a.magnitude (omega arith))
 
-pub returns-then-put-eq0 : goal.returns-then-put-eq0
-returns-then-put-eq0 c = let a = c.args in
-    let s = c.encoded_size_of.ensures in
-    none_put a.buf.now a.at 128 _ a.magnitude _ _ c.put_digits-put.ensures (var_int_bytes (signed a.negative a.magnitude)) c.if-put-eq0.true
-    (omega (arith, length-var_int false a.magnitude)) (s ∙ sym (length-var_int_sign a.negative a.magnitude))
+pub returns-in_err-put : goal.returns-in_err-put
+returns-in_err-put c = let a = c.args in
+    ap (λ (r : Option ℕ). (r, c.put_digits.new.buf)) c.from_residual.ensures
+    ∙ none_put a.buf.now a.at 128 _ a.magnitude _ c.in_err-put.ensures (var_int_bytes (signed a.negative a.magnitude))
+    (c.encoded_size_of.ensures ∙ sym (length-var_int_sign a.negative a.magnitude))
+
+pub overflow_sub-last : goal.overflow_sub-last
+overflow_sub-last c =
+    let a = c.args in
+    let k = known _ _ a.at a.negative a.magnitude _ _ (omega arith) (omega arith) c.encoded_size_of.ensures c.in_ok-put.ensures in omega (arith, k.all.count)
 
 pub overflow_add-buf-2 : goal.overflow_add-buf-2
 overflow_add-buf-2 c =
     let a = c.args in
-    let k = known _ _ a.at a.negative a.magnitude _ _ (omega arith) (omega arith) c.encoded_size_of.ensures c.put_digits-put.ensures c.if-put-eq0.false in omega arith
+    let k = known _ _ a.at a.negative a.magnitude _ _ (omega arith) (omega arith) c.encoded_size_of.ensures c.in_ok-put.ensures in omega arith
 
 pub bounds-buf-at : goal.bounds-buf-at
 bounds-buf-at c =
     let a = c.args in
-    let k = known _ _ a.at a.negative a.magnitude _ _ (omega arith) (omega arith) c.encoded_size_of.ensures c.put_digits-put.ensures c.if-put-eq0.false in omega arith
+    let k = known _ _ a.at a.negative a.magnitude _ _ (omega arith) (omega arith) c.encoded_size_of.ensures c.in_ok-put.ensures in omega arith
 
 pub overflow_mul-buf : goal.overflow_mul-buf
 overflow_mul-buf c =
     let a = c.args in
-    let k = known _ _ a.at a.negative a.magnitude _ _ (omega arith) (omega arith) c.encoded_size_of.ensures c.put_digits-put.ensures c.if-put-eq0.false in omega arith
+    let k = known _ _ a.at a.negative a.magnitude _ _ (omega arith) (omega arith) c.encoded_size_of.ensures c.in_ok-put.ensures in omega arith
 
 pub overflow_shr-buf : goal.overflow_shr-buf
 overflow_shr-buf c =
     let a = c.args in
-    let k = known _ _ a.at a.negative a.magnitude _ _ (omega arith) (omega arith) c.encoded_size_of.ensures c.put_digits-put.ensures c.if-put-eq0.false in omega arith
+    let k = known _ _ a.at a.negative a.magnitude _ _ (omega arith) (omega arith) c.encoded_size_of.ensures c.in_ok-put.ensures in omega arith
 
 pub overflow_cast-buf-2 : goal.overflow_cast-buf-2
 overflow_cast-buf-2 c =
     let a = c.args in
-    let k = known _ _ a.at a.negative a.magnitude _ _ (omega arith) (omega arith) c.encoded_size_of.ensures c.put_digits-put.ensures c.if-put-eq0.false in omega arith
+    let k = known _ _ a.at a.negative a.magnitude _ _ (omega arith) (omega arith) c.encoded_size_of.ensures c.in_ok-put.ensures in omega arith
 
 pub overflow_add-buf-3 : goal.overflow_add-buf-3
 overflow_add-buf-3 c =
     let a = c.args in
-    let k = known _ _ a.at a.negative a.magnitude _ _ (omega arith) (omega arith) c.encoded_size_of.ensures c.put_digits-put.ensures c.if-put-eq0.false in omega arith
+    let k = known _ _ a.at a.negative a.magnitude _ _ (omega arith) (omega arith) c.encoded_size_of.ensures c.in_ok-put.ensures in omega arith
 
 pub bounds-buf-at-2 : goal.bounds-buf-at-2
 bounds-buf-at-2 c =
     let a = c.args in
-    let k = known _ _ a.at a.negative a.magnitude _ _ (omega arith) (omega arith) c.encoded_size_of.ensures c.put_digits-put.ensures c.if-put-eq0.false in simp length-set (omega arith)
+    let k = known _ _ a.at a.negative a.magnitude _ _ (omega arith) (omega arith) c.encoded_size_of.ensures c.in_ok-put.ensures in simp length-set (omega arith)
 
 pub returns : goal.returns
 returns c =
     let a = c.args in
-    let n = c.put_digits-put.result in
+    let n = c.in_ok-put.put in
     let s = c.encoded_size_of.ensures in
     let a = c.args in
-    let k = known _ _ a.at a.negative a.magnitude _ _ (omega arith) (omega arith) c.encoded_size_of.ensures c.put_digits-put.ensures c.if-put-eq0.false in
-    placed_by a.buf.now a.at (var_int_bytes (signed a.negative a.magnitude)) n _ (omega (arith, length-var_int_sign a.negative a.magnitude))
+    let k = known _ _ a.at a.negative a.magnitude _ _ (omega arith) (omega arith) c.encoded_size_of.ensures c.in_ok-put.ensures in
+    rw c.from-sign.ensures
+    (placed_by a.buf.now a.at (var_int_bytes (signed a.negative a.magnitude)) n _ (omega (arith, length-var_int_sign a.negative a.magnitude))
     (k.all.count ∙ (s ∙ sym (length-var_int_sign a.negative a.magnitude)))
-    (more a.buf.now _ a.at a.negative a.magnitude _ n (omega arith) k.size_is k.all)
+    (more a.buf.now _ a.at a.negative a.magnitude _ n (omega arith) k.size_is k.all))

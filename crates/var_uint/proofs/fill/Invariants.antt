@@ -1,19 +1,21 @@
--- `var_uint::fill` meets its contract. The loop's invariant: after each store the buffer is what a limit of so many stores leaves, and what is still to
--- come makes up the field with what is stored. Assumes nothing.
+-- The loop's invariant: the buffer is what a limit of so many stores leaves, and the groups that are still to come make up the field with what is stored.
+-- Assumes nothing.
 use mathlib.Core.Path.{◌≡◌}
 use mathlib.Core.List.{List, ◌++◌}
 use Prim.Native.Nat.{ℕ, ◌+◌, ◌-◌, ◌≤◌}
 use lib.ListN.{length, drop}
+use Rattle.std.specs.Prelude.{Option, Some}
 use Rattle.encoding.specs.Fields.{var_uint_bytes}
 use Rattle.var_uint.specs.Filled.{filled}
 use Rattle.var_uint.proofs.Groups.{flagged}
 use Rattle.var_uint.proofs.fill.Given as goal
 
-abbrev pub invariant-loop-made : goal.invariant-loop-made
-invariant-loop-made l =
-    (l.size ≡ length (var_uint_bytes l.value)) × (l.at + l.size ≤ length l.initial.buf) × (length l.buf ≡ length l.initial.buf)
-    × (l.made ≤ l.size) × (l.made ≤ l.limit) × (◌≡◌ {A = ℕ × List ℕ} (l.made, l.buf) (filled l.made l.initial.buf l.at (var_uint_bytes l.value)))
-    × (l.flag ≤ 128) × (flagged l.flag (l.size - l.made) l.rest ++ drop (l.size - l.made) (var_uint_bytes l.value) ≡ var_uint_bytes l.value)
-
-abbrev pub decreases-loop-made : goal.decreases-loop-made
-decreases-loop-made l = l.size - l.made
+abbrev pub invariant-loop-i : goal.invariant-loop-i
+invariant-loop-i l = record {
+  size : l.size ≡ length (var_uint_bytes l.value);
+  room : l.at + l.size ≤ length l.initial.buf;
+  within : (l.count ≤ l.size) × (l.size - l.count ≤ l.i);
+  stored : ◌≡◌ {A = Option ℕ × List ℕ} (Some (l.size - l.i), l.buf) (filled (l.size - l.i) l.initial.buf l.at (var_uint_bytes l.value));
+  flag : l.flag ≤ 128;
+  to_come : flagged l.flag l.i l.rest ++ drop l.i (var_uint_bytes l.value) ≡ var_uint_bytes l.value;
+}

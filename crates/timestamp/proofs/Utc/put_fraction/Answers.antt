@@ -2,11 +2,17 @@
 -- Assumes nothing.
 use Rattle.std.proofs.Common.{sym, arith}
 use Rattle.buffer.proofs.Laid.{placed_nil}
-use Rattle.timestamp.proofs.Body.{fraction_room, fraction_put}
+use Rattle.timestamp.proofs.Body.{no_exponent, coefficient_room, no_coefficient, fraction_put}
 use Rattle.timestamp.proofs.Utc.put_fraction.Goals as goal
 
 pub returns-in-None : goal.returns-in-None
-returns-in-None c = rw c.in-None.is (sym (placed_nil c.args.buf.now c.args.at))
+returns-in-None c = rw c.in-None.is (sym (placed_nil c.args.buf.now c.args.at (omega (arith, c.requires))))
+
+pub returns-in_err-one-in-Some : goal.returns-in_err-one-in-Some
+returns-in_err-one-in-Some c =
+    let a = c.args in
+    let x = c.in-Some.fraction in
+    absurd (no_exponent a.buf.now a.at x.digits x.coefficient (rw c.in-Some.is at a.self.small.2) (rw c.in-Some.is at c.requires) _ c.in_err-one-in-Some.ensures)
 
 pub overflow_add-at : goal.overflow_add-at
 overflow_add-at c =
@@ -14,21 +20,28 @@ overflow_add-at c =
     let x = c.in-Some.fraction in
     omega (
       arith,
-      fraction_room a.buf.now a.at x.digits x.coefficient (rw c.in-Some.is at a.self.small.2) (rw c.in-Some.is at c.requires) _ _ c.write-one.ensures,
+      coefficient_room a.buf.now a.at x.digits x.coefficient (rw c.in-Some.is at a.self.small.2) (rw c.in-Some.is at c.requires) _ _ c.in_ok-one-in-Some.ensures,
     )
+
+pub returns-in_err-more-in-Some : goal.returns-in_err-more-in-Some
+returns-in_err-more-in-Some c =
+    let a = c.args in
+    let x = c.in-Some.fraction in
+    absurd (no_coefficient a.buf.now a.at x.digits x.coefficient (rw c.in-Some.is at a.self.small.2) (rw c.in-Some.is at c.requires) _ _ c.in_ok-one-in-Some.ensures
+    _ c.in_err-more-in-Some.ensures)
 
 pub overflow_add-result : goal.overflow_add-result
 overflow_add-result c =
     let a = c.args in
     let x = c.in-Some.fraction in
     let put =
-    fraction_put a.buf.now a.at x.digits x.coefficient (rw c.in-Some.is at a.self.small.2) (rw c.in-Some.is at c.requires) _ _ c.write-one.ensures
-    _ _ c.write_u64.ensures in
-    omega (arith, put.1, rw c.in-Some.is at c.requires)
+    fraction_put a.buf.now a.at x.digits x.coefficient (rw c.in-Some.is at a.self.small.2) (rw c.in-Some.is at c.requires) _ _ c.in_ok-one-in-Some.ensures
+    _ _ c.in_ok-more-in-Some.ensures in
+    omega (arith, put.1)
 
-pub returns-in-Some : goal.returns-in-Some
-returns-in-Some c =
+pub returns-in_ok-more-in-Some : goal.returns-in_ok-more-in-Some
+returns-in_ok-more-in-Some c =
     let a = c.args in
     let x = c.in-Some.fraction in
     rw c.in-Some.is (fraction_put a.buf.now a.at x.digits x.coefficient (rw c.in-Some.is at a.self.small.2) (rw c.in-Some.is at c.requires) _ _
-    c.write-one.ensures _ _ c.write_u64.ensures).0
+    c.in_ok-one-in-Some.ensures _ _ c.in_ok-more-in-Some.ensures).0

@@ -1,0 +1,21 @@
+-- None where check 8 refuses, else header and body. Assumes nothing.
+use native.Mathlib.Omega.{arith}
+use mathlib.Core.Path.{◌∙◌, ap, sym}
+use Rattle.std.specs.Prelude.{Option, Some}
+use Rattle.encoding.specs.Argument.{write_decimal, checked_bytes}
+use Rattle.encoding.proofs.Headers.{length-framed}
+use Rattle.buffer.specs.Laid.{size_of}
+use Rattle.decimal.proofs.Decimals.{refused, sized, value_fits}
+use Rattle.decimal.proofs.Decimal.size.Goals as goal
+
+pub returns-then-body-gt-MAX_BODY : goal.returns-then-body-gt-MAX_BODY
+returns-then-body-gt-MAX_BODY c = let a = c.args.self in
+    rw (refused a.negative a.magnitude.now a.exponent c.body_size-body.result c.body_size-body.ensures c.if-body-gt-MAX_BODY.true)
+
+pub overflow_add-result : goal.overflow_add-result
+overflow_add-result c = let a = c.args.self in
+    value_fits a.negative a.magnitude.now a.exponent c.body_size-body.result c.body_size-body.ensures (omega arith) _ c.encoded_size_of.ensures
+
+pub returns : goal.returns
+returns c = let a = c.args.self in
+    sized a.negative a.magnitude.now a.exponent c.body_size-body.result c.body_size-body.ensures (omega arith) _ c.encoded_size_of.ensures

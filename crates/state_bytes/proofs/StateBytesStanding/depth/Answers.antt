@@ -1,0 +1,11 @@
+-- `depth` of lent bytes meets its contract: of as many bytes as a state has it is what they spell, of others that of the state that does not fit.
+-- Assumes nothing.
+use Rattle.std.proofs.Common.{◌∙◌}
+use Rattle.state_bytes.proofs.Laws.{state_is, state_none}
+use Rattle.state_bytes.proofs.StateBytesStanding.depth.Goals as goal
+
+pub returns-in-Some : goal.returns-in-Some
+returns-in-Some c = let h = c.in-Some.ensures.cases in c.from.ensures ∙ rw (h.same, state_is c.args.self.now.0.now h.long)
+
+pub returns-in-None : goal.returns-in-None
+returns-in-None c = rw (state_none c.args.self.now.0.now c.in-None.ensures.cases)

@@ -1,8 +1,0 @@
--- `state_bytes::value_place` meets its contract: line 3 asks for the innermost container and the waiting name.
--- Assumes nothing.
-use mathlib.Core.Path.{◌∙◌}
-use Rattle.state_bytes.proofs.value_place.Goals as goal
-
-pub returns : goal.returns
-returns c = let a = c.args in
-    c.judged.ensures ∙ (rw (c.in_struct.ensures, c.waiting.ensures, c.depth-depth.ensures))
