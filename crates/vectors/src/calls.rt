@@ -1,8 +1,8 @@
 // The call that a vector names: the function and its arguments, before which may stand `ann` and the sids of a scalar's annotations, eight bytes
 // each. The bytes go to `AT`.
 use crate::functions::{Function, NoFunction, ion_type};
-use scalars::Scalar;
 use timestamp::{Fraction, Precision, Timestamp};
+use values::{Blob, Clob, Decimal, F32Bits, F64Bits, Int, Symbol, Text};
 use words::{hex, numbers};
 
 pub(crate) const AT: usize = 3;
@@ -116,27 +116,11 @@ impl<'a> Call<'a> {
         }
     }
 
-    // The scalar to write, where no check can refuse it.
-    fn scalar(self) -> Option<Scalar> {
-        Some(match self.function {
-            Function::WriteNull => Scalar::Null(ion_type(self.word(1))),
-            Function::WriteBool => Scalar::Bool(self.number(1) == 1),
-            Function::WriteI64 => Scalar::I64(self.signed(1)),
-            Function::WriteF32 => Scalar::F32Bits((self.bits() % 0x1_0000_0000) as u32),
-            Function::WriteF64 => Scalar::F64Bits(self.bits()),
-            Function::WriteSymbol => Scalar::Symbol(self.number(1)),
-            _ => return None,
-        })
-    }
-
-    // Makes the call, and answers how many bytes it put.
-    pub(crate) fn put(self, buf: &mut [u8]) -> usize {
+    // Makes the call, and answers how many bytes it put, if it put any.
+    pub(crate) fn put(self, buf: &mut [u8]) -> Option<usize> {
         let mut annotations = [0u8; 256];
         let n = hex::bytes(self.sids, &mut annotations);
         let annotations = &annotations[..n];
-        if let Some(scalar) = self.scalar() {
-            return values::write_scalar(buf, AT, annotations, scalar);
-        }
         let mut bytes = [0u8; 256];
         let m = hex::bytes(self.hex(), &mut bytes);
         let bytes = &bytes[..m];
@@ -156,21 +140,35 @@ impl<'a> Call<'a> {
             }
             Function::Annotations => annotations::write(buf, AT, bytes),
             // 01 for UTF-8, 00 for bytes that are not
-            Function::IsUtf8 => buffer::put(buf, AT, text::is_utf8(bytes) as u8),
+            Function::IsUtf8 => buffer::put(buf, AT, u8::from(text::is_utf8(bytes))),
+            Function::WriteNull => values::write(buf, AT, annotations, ion_type(self.word(1))),
+            Function::WriteBool => values::write(buf, AT, annotations, self.number(1) == 1),
+            Function::WriteI64 => values::write(buf, AT, annotations, self.signed(1)),
             Function::WriteInt => {
-                values::write_int(buf, AT, annotations, self.is_negative(), bytes)
+                let int = Int {
+                    negative: self.is_negative(),
+                    magnitude: bytes,
+                };
+                values::write(buf, AT, annotations, int)
             }
+            Function::WriteF32 => {
+                let bits = F32Bits((self.bits() % 0x1_0000_0000) as u32);
+                values::write(buf, AT, annotations, bits)
+            }
+            Function::WriteF64 => values::write(buf, AT, annotations, F64Bits(self.bits())),
             Function::WriteDecimal => {
-                let exponent = self.signed(3);
-                values::write_decimal(buf, AT, annotations, self.is_negative(), bytes, exponent)
+                let decimal = Decimal {
+                    negative: self.is_negative(),
+                    magnitude: bytes,
+                    exponent: self.signed(3),
+                };
+                values::write(buf, AT, annotations, decimal)
             }
-            Function::WriteTimestamp => {
-                values::write_timestamp(buf, AT, annotations, self.local_time())
-            }
-            Function::WriteString => values::write_string(buf, AT, annotations, bytes),
-            Function::WriteClob => values::write_clob(buf, AT, annotations, bytes),
-            Function::WriteBlob => values::write_blob(buf, AT, annotations, bytes),
-            _ => 0,
+            Function::WriteTimestamp => values::write(buf, AT, annotations, self.local_time()),
+            Function::WriteSymbol => values::write(buf, AT, annotations, Symbol(self.number(1))),
+            Function::WriteString => values::write(buf, AT, annotations, Text(bytes)),
+            Function::WriteClob => values::write(buf, AT, annotations, Clob(bytes)),
+            Function::WriteBlob => values::write(buf, AT, annotations, Blob(bytes)),
         }
     }
 
