@@ -1,120 +1,219 @@
-// Whether a line has the form of document 01, which is refusal 12 where it has not: words, brackets, and the limits of numbers.
-ghost use Rattle.std.specs.Prelude.{◌≤◌, length};
-
-use crate::names::{MOST_U64, are_names, is_name};
-use crate::walk;
-use words::hex::is_hex;
-use words::{count, numbers, word};
+// The scalars of a line, read by the form of document 01: their words, and the limits of numbers.
+use crate::names::Name;
+use words::{count, hex, numbers, word};
 
 const MOST_I32: u64 = 2147483647;
 
-// What `type_code` answers for a word that names no type.
-const NO_TYPE: usize = 14;
-
-// The code in the Ion document of the type that a word names, which is its index here. `int` is found at 2: 3 is the code of negative ints.
-pub(crate) fn type_code(name: &[u8]) -> usize {
-    words::index(
-        b"null bool int int float decimal timestamp symbol string clob blob list sexp struct",
-        name,
-    )
+// The types of the Ion document, by their codes. 3 is that of negative ints.
+#[derive(Clone, Copy)]
+pub(crate) enum Type {
+    Null,
+    Bool,
+    Int,
+    Float = 4,
+    Decimal,
+    Timestamp,
+    Symbol,
+    String,
+    Clob,
+    Blob,
+    List,
+    Sexp,
+    Struct,
 }
 
-fn is_bool(word: &[u8]) -> bool {
-    words::index(b"0 1", word) < 2
-}
-
-fn is_hex_of(word: &[u8], digits: usize) -> bool {
-    is_hex(word) & (word.len() == digits)
-}
-
-// Whether a word is a hex number with or without minus.
-fn is_integer(word: &[u8]) -> bool {
-    is_hex(numbers::magnitude(word))
-}
-
-fn is_decimal(text: &[u8]) -> bool {
-    (count(text) == 3) & is_integer(word(text, 1)) & numbers::is_i64(word(text, 2))
-}
-
-fn is_offset(word: &[u8]) -> bool {
-    (word == b"?".as_slice()) | numbers::is_i32(word)
-}
-
-// Whether the words from index `from` to before `to` are numbers of at most `limit`.
-fn are_numbers(text: &[u8], from: usize, to: usize, limit: u64) -> bool {
-    let mut i = from;
-    while i < to {
-        if !numbers::is_natural(word(text, i), limit) {
-            return false;
+impl Type {
+    fn of(word: &[u8]) -> Option<Type> {
+        match word {
+            b"null" => Some(Type::Null),
+            b"bool" => Some(Type::Bool),
+            b"int" => Some(Type::Int),
+            b"float" => Some(Type::Float),
+            b"decimal" => Some(Type::Decimal),
+            b"timestamp" => Some(Type::Timestamp),
+            b"symbol" => Some(Type::Symbol),
+            b"string" => Some(Type::String),
+            b"clob" => Some(Type::Clob),
+            b"blob" => Some(Type::Blob),
+            b"list" => Some(Type::List),
+            b"sexp" => Some(Type::Sexp),
+            b"struct" => Some(Type::Struct),
+            _ => None,
         }
-        i += 1;
-    }
-    true
-}
-
-// Behind the name and the offset stand 1, 2, 3, 5 or 6 fields, or six and a fraction's digit count and coefficient.
-fn is_timestamp(text: &[u8]) -> bool {
-    let words = count(text);
-    let is_precision = (3 <= words) & (words != 6) & (words != 9) & (words <= 10);
-    is_precision
-        & is_offset(word(text, 1))
-        & are_numbers(text, 2, words::least(words, 9), MOST_I32)
-        & are_numbers(text, 9, words::least(words, 10), MOST_U64)
-}
-
-// Whether behind a name stand hex pairs, or nothing.
-fn are_pairs(text: &[u8]) -> bool {
-    let words = count(text);
-    let pairs = word(text, 1);
-    (words == 1) | ((words == 2) & is_hex(pairs) & (pairs.len() % 2 == 0))
-}
-
-// Whether a scalar whose name has one word behind it is of the form.
-fn is_right_word(scalar: usize, word: &[u8]) -> bool {
-    match scalar {
-        walk::NULL => type_code(word) != NO_TYPE,
-        walk::BOOL => is_bool(word),
-        walk::I64 => numbers::is_i64(word),
-        walk::INT => is_integer(word),
-        walk::F32 => is_hex_of(word, 8),
-        walk::F64 => is_hex_of(word, 16),
-        walk::SYMBOL => is_name(word),
-        _ => false,
     }
 }
 
-// Whether the words of a part are of the form.
-fn is_right(part: usize, text: &[u8]) -> bool
-    requires { length text.now ≤ 4096 }
-{
-    match part {
-        walk::DECIMAL => is_decimal(text),
-        walk::TIMESTAMP => is_timestamp(text),
-        walk::STRING | walk::CLOB | walk::BLOB => are_pairs(text),
-        walk::ANNOTATIONS => are_names(text),
-        walk::NAME => is_name(text),
-        walk::LIST | walk::SEXP | walk::STRUCT | walk::CLOSE | walk::MARK => true,
-        _ => (count(text) == 2) & is_right_word(part, word(text, 1)),
-    }
+// The last field that a timestamp has.
+#[derive(Clone, Copy)]
+pub(crate) enum Precision {
+    Year,
+    Month,
+    Day,
+    Minute,
+    Second,
 }
 
-// Whether a line is a value and nothing else.
-pub(crate) fn is_value(line: &[u8], stack: &mut [u8; 4097]) -> bool
-    requires { length line.now ≤ 4096 }
-{
-    let mut at: usize = 0;
-    let mut depth: usize = 0;
-    let mut due = walk::VALUE;
-    while at < line.len() {
-        let step = walk::next(line, at, due);
-        let from = step.from;
-        let to = step.to;
-        if !is_right(step.part, &line[from..to]) {
-            return false;
+impl Precision {
+    // By the words of a timestamp: its name, the offset, 1, 2, 3, 5 or 6 fields, and a fraction's digit count and coefficient.
+    fn of(words: usize) -> Option<Precision> {
+        match words {
+            3 => Some(Precision::Year),
+            4 => Some(Precision::Month),
+            5 => Some(Precision::Day),
+            7 => Some(Precision::Minute),
+            8 | 10 => Some(Precision::Second),
+            _ => None,
         }
-        depth = walk::depth_behind(stack, depth, step);
-        due = walk::due_behind(stack, depth, step);
-        at = step.at;
     }
-    due == walk::NOTHING
+}
+
+// A field that is not there is 0.
+#[derive(Clone, Copy)]
+pub(crate) struct Timestamp {
+    pub(crate) precision: Precision,
+    pub(crate) offset: Option<i32>,
+    pub(crate) year: u32,
+    pub(crate) month: u32,
+    pub(crate) day: u32,
+    pub(crate) hour: u32,
+    pub(crate) minute: u32,
+    pub(crate) second: u32,
+    pub(crate) has_fraction: bool,
+    pub(crate) digits: u32,
+    pub(crate) coefficient: u64,
+}
+
+impl Timestamp {
+    fn of(text: &[u8]) -> Option<Timestamp> {
+        let words = count(text);
+        Some(Timestamp {
+            precision: Precision::of(words)?,
+            offset: offset(word(text, 1))?,
+            year: field(text, words, 2)?,
+            month: field(text, words, 3)?,
+            day: field(text, words, 4)?,
+            hour: field(text, words, 5)?,
+            minute: field(text, words, 6)?,
+            second: field(text, words, 7)?,
+            has_fraction: words == 10,
+            digits: field(text, words, 8)?,
+            coefficient: coefficient(text, words)?,
+        })
+    }
+}
+
+// An offset, which may be unknown.
+fn offset(word: &[u8]) -> Option<Option<i32>> {
+    match word {
+        b"?" => Some(None),
+        _ => Some(Some(numbers::i32_of(word)?)),
+    }
+}
+
+// The field of a timestamp at a word, or 0 where it has no such word.
+fn field(text: &[u8], words: usize, i: usize) -> Option<u32> {
+    if words <= i {
+        return Some(0);
+    }
+    Some(numbers::natural(word(text, i), MOST_I32)? as u32)
+}
+
+fn coefficient(text: &[u8], words: usize) -> Option<u64> {
+    if words < 10 {
+        return Some(0);
+    }
+    numbers::natural(word(text, 9), u64::MAX)
+}
+
+// A scalar. Of an int, a coefficient, a string, a clob and a blob it has the word that spells them in hex.
+#[derive(Clone, Copy)]
+pub(crate) enum Scalar<'a> {
+    Null(Type),
+    Bool(bool),
+    I64(i64),
+    Int(&'a [u8]),
+    F32(u32),
+    F64(u64),
+    Decimal(&'a [u8], i64),
+    Timestamp(Timestamp),
+    Symbol(Name),
+    String(&'a [u8]),
+    Clob(&'a [u8]),
+    Blob(&'a [u8]),
+}
+
+impl<'a> Scalar<'a> {
+    // The scalar that a text spells: its name, and words.
+    pub(crate) fn of(text: &'a [u8]) -> Option<Scalar<'a>> {
+        match word(text, 0) {
+            b"null" => Some(Scalar::Null(Type::of(only_word(text)?)?)),
+            b"bool" => Some(Scalar::Bool(bit(only_word(text)?)?)),
+            b"i64" => Some(Scalar::I64(numbers::i64_of(only_word(text)?)?)),
+            b"int" => Some(Scalar::Int(integer(only_word(text)?)?)),
+            b"f32" => Some(Scalar::F32((bits(only_word(text)?, 8)? % 0x1_0000_0000) as u32)),
+            b"f64" => Some(Scalar::F64(bits(only_word(text)?, 16)?)),
+            b"dec" => decimal(text),
+            b"ts" => Some(Scalar::Timestamp(Timestamp::of(text)?)),
+            b"symbol" => Some(Scalar::Symbol(Name::of(only_word(text)?)?)),
+            b"string" => Some(Scalar::String(pairs(text)?)),
+            b"clob" => Some(Scalar::Clob(pairs(text)?)),
+            b"blob" => Some(Scalar::Blob(pairs(text)?)),
+            _ => None,
+        }
+    }
+}
+
+// The word behind a name, where there is just one.
+fn only_word(text: &[u8]) -> Option<&[u8]> {
+    if count(text) == 2 {
+        Some(word(text, 1))
+    } else {
+        None
+    }
+}
+
+fn bit(word: &[u8]) -> Option<bool> {
+    match word {
+        b"0" => Some(false),
+        b"1" => Some(true),
+        _ => None,
+    }
+}
+
+// A hex number of so many digits.
+fn bits(word: &[u8], digits: usize) -> Option<u64> {
+    if hex::is_hex(word) && word.len() == digits {
+        Some(hex::bits(word))
+    } else {
+        None
+    }
+}
+
+// A hex number with or without minus.
+fn integer(word: &[u8]) -> Option<&[u8]> {
+    if hex::is_hex(numbers::magnitude(word)) {
+        Some(word)
+    } else {
+        None
+    }
+}
+
+fn decimal(text: &[u8]) -> Option<Scalar<'_>> {
+    if count(text) != 3 {
+        return None;
+    }
+    Some(Scalar::Decimal(integer(word(text, 1))?, numbers::i64_of(word(text, 2))?))
+}
+
+// The hex pairs behind a name, or nothing.
+fn pairs(text: &[u8]) -> Option<&[u8]> {
+    if count(text) == 1 {
+        return Some(&[]);
+    }
+    let pairs = only_word(text)?;
+    if hex::is_hex(pairs) && pairs.len() % 2 == 0 {
+        Some(pairs)
+    } else {
+        None
+    }
 }

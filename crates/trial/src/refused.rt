@@ -1,0 +1,28 @@
+// Why a line has no bytes, by the numbers of document 01.
+#[derive(Clone, Copy)]
+pub(crate) enum Refused {
+    // By a call, which answers this number.
+    Call(u8),
+    // A text symbol, name or annotation.
+    Text,
+    // A line not of the form.
+    Form,
+}
+
+impl Refused {
+    pub(crate) fn number(self) -> u8 {
+        match self {
+            Refused::Call(number) => number,
+            Refused::Text => 11,
+            Refused::Form => 12,
+        }
+    }
+}
+
+// What a call answers, which is 0 where it does what it is asked.
+pub(crate) fn answered(number: u8) -> Result<(), Refused> {
+    match number {
+        0 => Ok(()),
+        _ => Err(Refused::Call(number)),
+    }
+}
