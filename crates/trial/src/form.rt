@@ -1,5 +1,8 @@
 // The scalars of a line, read by the form of document 01: their words, and the limits of numbers.
-use crate::names::Name;
+ghost use Rattle.std.specs.Prelude.{◌≤◌, length};
+
+use crate::names::{Name, are_names};
+use crate::walk::Part;
 use words::{count, hex, numbers, word};
 
 const MOST_I32: u64 = 2147483647;
@@ -84,7 +87,7 @@ pub(crate) struct Timestamp {
 }
 
 impl Timestamp {
-    fn of(text: &[u8]) -> Option<Timestamp> {
+    pub(crate) fn of(text: &[u8]) -> Option<Timestamp> {
         let words = count(text);
         Some(Timestamp {
             precision: Precision::of(words)?,
@@ -135,7 +138,8 @@ pub(crate) enum Scalar<'a> {
     F32(u32),
     F64(u64),
     Decimal(&'a [u8], i64),
-    Timestamp(Timestamp),
+    // As its words.
+    Timestamp(&'a [u8]),
     Symbol(Name),
     String(&'a [u8]),
     Clob(&'a [u8]),
@@ -145,7 +149,7 @@ pub(crate) enum Scalar<'a> {
 impl<'a> Scalar<'a> {
     // The scalar that a text spells: its name, and words.
     pub(crate) fn of(text: &'a [u8]) -> Option<Scalar<'a>> {
-        match word(text, 0) {
+        match first_word(text) {
             b"null" => Some(Scalar::Null(Type::of(only_word(text)?)?)),
             b"bool" => Some(Scalar::Bool(bit(only_word(text)?)?)),
             b"i64" => Some(Scalar::I64(numbers::i64_of(only_word(text)?)?)),
@@ -153,7 +157,7 @@ impl<'a> Scalar<'a> {
             b"f32" => Some(Scalar::F32((bits(only_word(text)?, 8)? % 0x1_0000_0000) as u32)),
             b"f64" => Some(Scalar::F64(bits(only_word(text)?, 16)?)),
             b"dec" => decimal(text),
-            b"ts" => Some(Scalar::Timestamp(Timestamp::of(text)?)),
+            b"ts" => Some(Scalar::Timestamp(text)),
             b"symbol" => Some(Scalar::Symbol(Name::of(only_word(text)?)?)),
             b"string" => Some(Scalar::String(pairs(text)?)),
             b"clob" => Some(Scalar::Clob(pairs(text)?)),
@@ -163,12 +167,22 @@ impl<'a> Scalar<'a> {
     }
 }
 
+pub(crate) fn first_word(text: &[u8]) -> &[u8]
+    ensures { length result.now ≤ length text.now }
+{
+    match text.iter().position(|byte| *byte == b' ') {
+        Some(end) => &text[..end],
+        None => text,
+    }
+}
+
 // The word behind a name, where there is just one.
 fn only_word(text: &[u8]) -> Option<&[u8]> {
-    if count(text) == 2 {
-        Some(word(text, 1))
-    } else {
-        None
+    let mut words = text.split(|byte| *byte == b' ').skip(1);
+    let word = words.next()?;
+    match words.next() {
+        Some(_) => None,
+        None => Some(word),
     }
 }
 
@@ -215,5 +229,18 @@ fn pairs(text: &[u8]) -> Option<&[u8]> {
         Some(pairs)
     } else {
         None
+    }
+}
+
+// Whether the words of a part are of the form.
+pub(crate) fn is_right(part: Part) -> bool {
+    match part {
+        Part::Scalar(text) => match Scalar::of(text) {
+            Some(Scalar::Timestamp(text)) => Timestamp::of(text).is_some(),
+            scalar => scalar.is_some(),
+        },
+        Part::Name(name) => Name::of(name).is_some(),
+        Part::Annotations(names) => are_names(names),
+        Part::Opening(_) | Part::Closing | Part::Mark => true,
     }
 }

@@ -2,7 +2,7 @@
 ghost use Rattle.std.specs.Prelude.{◌≤◌, length, IfOk};
 
 use crate::filled::Filled;
-use crate::form::{Scalar, Timestamp};
+use crate::form::{Scalar, Timestamp, is_right};
 use crate::names::Name;
 use crate::refused::{Refused, answered};
 use crate::walk::{Container, Line, Part, Walk};
@@ -93,7 +93,9 @@ impl Writer {
                 bytes,
                 exponent,
             ),
-            Scalar::Timestamp(value) => self.write_timestamp(value),
+            Scalar::Timestamp(text) => self.write_timestamp(Timestamp::of(text).ok_or(
+                Refused::Form,
+            )?),
             Scalar::Symbol(name) => goatminute::gm_write_symbol(
                 state,
                 buf,
@@ -122,8 +124,9 @@ impl Writer {
         answered(goatminute::gm_close(&mut self.state, &mut self.buf, &mut []))
     }
 
-    fn name(&mut self, name: Name) -> Result<(), Refused> {
-        answered(goatminute::gm_field_name(&mut self.state, &mut self.buf, name.sid()?))
+    fn name(&mut self, word: &[u8]) -> Result<(), Refused> {
+        let sid = Name::of(word).ok_or(Refused::Form)?.sid()?;
+        answered(goatminute::gm_field_name(&mut self.state, &mut self.buf, sid))
     }
 
     // Puts the sids of annotations, eight bytes each from the lowest on.
@@ -141,10 +144,10 @@ impl Writer {
     // The call of a part, if it has one.
     fn put(&mut self, part: Part) -> Result<(), Refused> {
         match part {
-            Part::Scalar(value) => self.write(value)?,
+            Part::Scalar(text) => self.write(Scalar::of(text).ok_or(Refused::Form)?)?,
             Part::Opening(container) => self.open(container)?,
             Part::Closing => self.close()?,
-            Part::Name(name) => self.name(name)?,
+            Part::Name(word) => self.name(word)?,
             Part::Annotations(names) => return self.annotate(names),
             Part::Mark => (),
         }
@@ -181,6 +184,10 @@ impl Writer {
 // Walks along a line that has the form.
 fn check<'a>(walk: &mut Walk<'a>, line: Line<'a>) -> Result<(), Refused> {
     walk.start(line);
-    while walk.next()?.is_some() {}
+    while let Some(part) = walk.next()? {
+        if !is_right(part) {
+            return Err(Refused::Form);
+        }
+    }
     Ok(())
 }

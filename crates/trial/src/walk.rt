@@ -1,8 +1,7 @@
 // The walk along a line: its brackets, and the parts between them. What is due is kept on a stack, so a line may be as deep as its bytes allow.
 ghost use Rattle.std.specs.Prelude.{◌≡◌, ◌+◌, ◌<◌, ◌≤◌, length, MatchOption, MatchResult, IfOk, IfSome};
 
-use crate::form::Scalar;
-use crate::names::{Name, are_names};
+use crate::form::first_word;
 use crate::refused::Refused;
 
 const LONGEST_LINE: usize = 4096;
@@ -58,16 +57,17 @@ pub(crate) enum Container {
     Struct,
 }
 
+// Parts, each with its words, without its brackets.
 #[derive(Clone, Copy)]
 pub(crate) enum Part<'a> {
-    Scalar(Scalar<'a>),
+    Scalar(&'a [u8]),
     // The bracket and the name of a container.
     Opening(Container),
     // The bracket of a container.
     Closing,
     // The name of the value that comes next.
-    Name(Name),
-    // The annotations of the value that comes next, as their words.
+    Name(&'a [u8]),
+    // The annotations of the value that comes next.
     Annotations(&'a [u8]),
     // A space, or the bracket of a field or an `ann`.
     Mark,
@@ -87,15 +87,6 @@ impl<'a> Line<'a> {
         } else {
             Some(Line { bytes })
         }
-    }
-}
-
-fn first_word(text: &[u8]) -> &[u8]
-    ensures { length result.now ≤ length text.now }
-{
-    match text.iter().position(|byte| *byte == b' ') {
-        Some(end) => &text[..end],
-        None => text,
     }
 }
 
@@ -190,7 +181,7 @@ impl<'a> Walk<'a> {
         self.due.push(Due::Field);
         self.due.push(Due::Bracket);
         self.due.push(Due::Value);
-        Ok(Part::Name(Name::of(name).ok_or(Refused::Form)?))
+        Ok(Part::Name(name))
     }
 
     // The annotations of an `ann`: a space, a bracket, the names, the bracket and a space.
@@ -202,9 +193,6 @@ impl<'a> Walk<'a> {
         let names = self.text_to(b')')?;
         self.skip(names.len() + 1);
         self.pass(b' ')?;
-        if !are_names(names) {
-            return Err(Refused::Form);
-        }
         self.due.push(Due::Bracket);
         self.due.push(Due::BareValue);
         Ok(Part::Annotations(names))
@@ -242,7 +230,7 @@ impl<'a> Walk<'a> {
             }
             _ => {
                 self.skip(text.len() + 1);
-                Ok(Part::Scalar(Scalar::of(text).ok_or(Refused::Form)?))
+                Ok(Part::Scalar(text))
             }
         }
     }

@@ -2,5 +2,5 @@
 use Rattle.std.proofs.Common.{length}
 use Rattle.trial.proofs.run.check.Given as goal
 
-abbrev pub decreases-loop : goal.decreases-loop
-decreases-loop l = length l.walk.rest.now
+abbrev pub decreases-loop-part : goal.decreases-loop-part
+decreases-loop-part l = length l.walk.rest.now
