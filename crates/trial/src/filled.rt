@@ -1,5 +1,7 @@
 // An array whose first bytes are in use.
-ghost use Rattle.std.specs.Prelude.{◌≡◌, ◌+◌, ◌*◌, ◌≤◌, length, min, take};
+ghost use Rattle.std.specs.Prelude.{◌≡◌, ◌+◌, ◌*◌, ◌≤◌, length, min};
+
+use std::fmt;
 
 #[derive(Drop)]
 pub(crate) struct Filled<const N: usize> {
@@ -52,5 +54,12 @@ impl<const N: usize> Filled<N> {
     // Puts the bytes that a word spells in hex, and no others.
     pub(crate) fn spell(&mut self, word: &[u8]) {
         self.used = words::hex::bytes(word, &mut self.bytes);
+    }
+}
+
+impl<const N: usize> fmt::Write for Filled<N> {
+    fn write_str(&mut self, s: &str) -> fmt::Result {
+        self.put(s.as_bytes());
+        Ok(())
     }
 }

@@ -1,7 +1,8 @@
 // The scalars of a line, read by the form of document 01: their words, and the limits of numbers.
-ghost use Rattle.std.specs.Prelude.{◌≤◌, length};
+ghost use Rattle.std.specs.Prelude.{◌≤◌, length, IfOk};
 
 use crate::names::{Name, are_names};
+use crate::refused::Refused;
 use crate::walk::Part;
 use words::{count, hex, numbers, word};
 
@@ -25,23 +26,25 @@ pub(crate) enum Type {
     Struct,
 }
 
-impl Type {
-    fn of(word: &[u8]) -> Option<Type> {
+impl TryFrom<&[u8]> for Type {
+    type Error = Refused;
+
+    fn try_from(word: &[u8]) -> Result<Type, Refused> {
         match word {
-            b"null" => Some(Type::Null),
-            b"bool" => Some(Type::Bool),
-            b"int" => Some(Type::Int),
-            b"float" => Some(Type::Float),
-            b"decimal" => Some(Type::Decimal),
-            b"timestamp" => Some(Type::Timestamp),
-            b"symbol" => Some(Type::Symbol),
-            b"string" => Some(Type::String),
-            b"clob" => Some(Type::Clob),
-            b"blob" => Some(Type::Blob),
-            b"list" => Some(Type::List),
-            b"sexp" => Some(Type::Sexp),
-            b"struct" => Some(Type::Struct),
-            _ => None,
+            b"null" => Ok(Type::Null),
+            b"bool" => Ok(Type::Bool),
+            b"int" => Ok(Type::Int),
+            b"float" => Ok(Type::Float),
+            b"decimal" => Ok(Type::Decimal),
+            b"timestamp" => Ok(Type::Timestamp),
+            b"symbol" => Ok(Type::Symbol),
+            b"string" => Ok(Type::String),
+            b"clob" => Ok(Type::Clob),
+            b"blob" => Ok(Type::Blob),
+            b"list" => Ok(Type::List),
+            b"sexp" => Ok(Type::Sexp),
+            b"struct" => Ok(Type::Struct),
+            _ => Err(Refused::Form),
         }
     }
 }
@@ -58,16 +61,22 @@ pub(crate) enum Precision {
 
 impl Precision {
     // By the words of a timestamp: its name, the offset, 1, 2, 3, 5 or 6 fields, and a fraction's digit count and coefficient.
-    fn of(words: usize) -> Option<Precision> {
+    fn of(words: usize) -> Result<Precision, Refused> {
         match words {
-            3 => Some(Precision::Year),
-            4 => Some(Precision::Month),
-            5 => Some(Precision::Day),
-            7 => Some(Precision::Minute),
-            8 | 10 => Some(Precision::Second),
-            _ => None,
+            3 => Ok(Precision::Year),
+            4 => Ok(Precision::Month),
+            5 => Ok(Precision::Day),
+            7 => Ok(Precision::Minute),
+            8 | 10 => Ok(Precision::Second),
+            _ => Err(Refused::Form),
         }
     }
+}
+
+#[derive(Clone, Copy)]
+pub(crate) struct Fraction {
+    pub(crate) digits: u32,
+    pub(crate) coefficient: u64,
 }
 
 // A field that is not there is 0.
@@ -81,15 +90,15 @@ pub(crate) struct Timestamp {
     pub(crate) hour: u32,
     pub(crate) minute: u32,
     pub(crate) second: u32,
-    pub(crate) has_fraction: bool,
-    pub(crate) digits: u32,
-    pub(crate) coefficient: u64,
+    pub(crate) fraction: Option<Fraction>,
 }
 
-impl Timestamp {
-    pub(crate) fn of(text: &[u8]) -> Option<Timestamp> {
+impl TryFrom<&[u8]> for Timestamp {
+    type Error = Refused;
+
+    fn try_from(text: &[u8]) -> Result<Timestamp, Refused> {
         let words = count(text);
-        Some(Timestamp {
+        Ok(Timestamp {
             precision: Precision::of(words)?,
             offset: offset(word(text, 1))?,
             year: field(text, words, 2)?,
@@ -98,34 +107,46 @@ impl Timestamp {
             hour: field(text, words, 5)?,
             minute: field(text, words, 6)?,
             second: field(text, words, 7)?,
-            has_fraction: words == 10,
-            digits: field(text, words, 8)?,
-            coefficient: coefficient(text, words)?,
+            fraction: fraction_of(text, words)?,
         })
     }
 }
 
+// A number of at most `most`.
+fn number(word: &[u8], most: u64) -> Result<u64, Refused>
+    ensures { IfOk result (λ n. n ≤ most) }
+{
+    numbers::natural(word, most).ok_or(Refused::Form)
+}
+
+fn signed_number(word: &[u8]) -> Result<i64, Refused> {
+    numbers::i64_of(word).ok_or(Refused::Form)
+}
+
 // An offset, which may be unknown.
-fn offset(word: &[u8]) -> Option<Option<i32>> {
+fn offset(word: &[u8]) -> Result<Option<i32>, Refused> {
     match word {
-        b"?" => Some(None),
-        _ => Some(Some(numbers::i32_of(word)?)),
+        b"?" => Ok(None),
+        _ => Ok(Some(numbers::i32_of(word).ok_or(Refused::Form)?)),
     }
 }
 
 // The field of a timestamp at a word, or 0 where it has no such word.
-fn field(text: &[u8], words: usize, i: usize) -> Option<u32> {
+fn field(text: &[u8], words: usize, i: usize) -> Result<u32, Refused> {
     if words <= i {
-        return Some(0);
+        return Ok(0);
     }
-    Some(numbers::natural(word(text, i), MOST_I32)? as u32)
+    Ok(number(word(text, i), MOST_I32)? as u32)
 }
 
-fn coefficient(text: &[u8], words: usize) -> Option<u64> {
+fn fraction_of(text: &[u8], words: usize) -> Result<Option<Fraction>, Refused> {
     if words < 10 {
-        return Some(0);
+        return Ok(None);
     }
-    numbers::natural(word(text, 9), u64::MAX)
+    Ok(Some(Fraction {
+        digits: field(text, words, 8)?,
+        coefficient: number(word(text, 9), u64::MAX)?,
+    }))
 }
 
 // A scalar. Of an int, a coefficient, a string, a clob and a blob it has the word that spells them in hex.
@@ -146,23 +167,24 @@ pub(crate) enum Scalar<'a> {
     Blob(&'a [u8]),
 }
 
-impl<'a> Scalar<'a> {
-    // The scalar that a text spells: its name, and words.
-    pub(crate) fn of(text: &'a [u8]) -> Option<Scalar<'a>> {
+impl<'a> TryFrom<&'a [u8]> for Scalar<'a> {
+    type Error = Refused;
+
+    fn try_from(text: &'a [u8]) -> Result<Scalar<'a>, Refused> {
         match first_word(text) {
-            b"null" => Some(Scalar::Null(Type::of(only_word(text)?)?)),
-            b"bool" => Some(Scalar::Bool(bit(only_word(text)?)?)),
-            b"i64" => Some(Scalar::I64(numbers::i64_of(only_word(text)?)?)),
-            b"int" => Some(Scalar::Int(integer(only_word(text)?)?)),
-            b"f32" => Some(Scalar::F32((bits(only_word(text)?, 8)? % 0x1_0000_0000) as u32)),
-            b"f64" => Some(Scalar::F64(bits(only_word(text)?, 16)?)),
+            b"null" => Ok(Scalar::Null(Type::try_from(only_word(text)?)?)),
+            b"bool" => Ok(Scalar::Bool(bit(only_word(text)?)?)),
+            b"i64" => Ok(Scalar::I64(signed_number(only_word(text)?)?)),
+            b"int" => Ok(Scalar::Int(integer(only_word(text)?)?)),
+            b"f32" => Ok(Scalar::F32((bits(only_word(text)?, 8)? % 0x1_0000_0000) as u32)),
+            b"f64" => Ok(Scalar::F64(bits(only_word(text)?, 16)?)),
             b"dec" => decimal(text),
-            b"ts" => Some(Scalar::Timestamp(text)),
-            b"symbol" => Some(Scalar::Symbol(Name::of(only_word(text)?)?)),
-            b"string" => Some(Scalar::String(pairs(text)?)),
-            b"clob" => Some(Scalar::Clob(pairs(text)?)),
-            b"blob" => Some(Scalar::Blob(pairs(text)?)),
-            _ => None,
+            b"ts" => Ok(Scalar::Timestamp(text)),
+            b"symbol" => Ok(Scalar::Symbol(Name::try_from(only_word(text)?)?)),
+            b"string" => Ok(Scalar::String(pairs(text)?)),
+            b"clob" => Ok(Scalar::Clob(pairs(text)?)),
+            b"blob" => Ok(Scalar::Blob(pairs(text)?)),
+            _ => Err(Refused::Form),
         }
     }
 }
@@ -177,70 +199,77 @@ pub(crate) fn first_word(text: &[u8]) -> &[u8]
 }
 
 // The word behind a name, where there is just one.
-fn only_word(text: &[u8]) -> Option<&[u8]> {
+fn only_word(text: &[u8]) -> Result<&[u8], Refused> {
     let mut words = text.split(|byte| *byte == b' ').skip(1);
-    let word = words.next()?;
-    match words.next() {
-        Some(_) => None,
-        None => Some(word),
+    match (words.next(), words.next()) {
+        (Some(word), None) => Ok(word),
+        _ => Err(Refused::Form),
     }
 }
 
-fn bit(word: &[u8]) -> Option<bool> {
+fn bit(word: &[u8]) -> Result<bool, Refused> {
     match word {
-        b"0" => Some(false),
-        b"1" => Some(true),
-        _ => None,
+        b"0" => Ok(false),
+        b"1" => Ok(true),
+        _ => Err(Refused::Form),
     }
 }
 
 // A hex number of so many digits.
-fn bits(word: &[u8], digits: usize) -> Option<u64> {
+fn bits(word: &[u8], digits: usize) -> Result<u64, Refused> {
     if hex::is_hex(word) && word.len() == digits {
-        Some(hex::bits(word))
+        Ok(hex::bits(word))
     } else {
-        None
+        Err(Refused::Form)
     }
 }
 
 // A hex number with or without minus.
-fn integer(word: &[u8]) -> Option<&[u8]> {
+fn integer(word: &[u8]) -> Result<&[u8], Refused> {
     if hex::is_hex(numbers::magnitude(word)) {
-        Some(word)
+        Ok(word)
     } else {
-        None
+        Err(Refused::Form)
     }
 }
 
-fn decimal(text: &[u8]) -> Option<Scalar<'_>> {
+fn decimal(text: &[u8]) -> Result<Scalar<'_>, Refused> {
     if count(text) != 3 {
-        return None;
+        return Err(Refused::Form);
     }
-    Some(Scalar::Decimal(integer(word(text, 1))?, numbers::i64_of(word(text, 2))?))
+    Ok(Scalar::Decimal(integer(word(text, 1))?, signed_number(word(text, 2))?))
 }
 
 // The hex pairs behind a name, or nothing.
-fn pairs(text: &[u8]) -> Option<&[u8]> {
+fn pairs(text: &[u8]) -> Result<&[u8], Refused> {
     if count(text) == 1 {
-        return Some(&[]);
+        return Ok(&[]);
     }
     let pairs = only_word(text)?;
     if hex::is_hex(pairs) && pairs.len() % 2 == 0 {
-        Some(pairs)
+        Ok(pairs)
     } else {
-        None
+        Err(Refused::Form)
     }
 }
 
-// Whether the words of a part are of the form.
-pub(crate) fn is_right(part: Part) -> bool {
+// Reads the words of a part.
+pub(crate) fn check(part: Part) -> Result<(), Refused> {
     match part {
-        Part::Scalar(text) => match Scalar::of(text) {
-            Some(Scalar::Timestamp(text)) => Timestamp::of(text).is_some(),
-            scalar => scalar.is_some(),
-        },
-        Part::Name(name) => Name::of(name).is_some(),
-        Part::Annotations(names) => are_names(names),
-        Part::Opening(_) | Part::Closing | Part::Mark => true,
+        Part::Scalar(text) => {
+            if let Scalar::Timestamp(text) = Scalar::try_from(text)? {
+                Timestamp::try_from(text)?;
+            }
+        }
+        Part::Name(word) => {
+            Name::try_from(word)?;
+        }
+        Part::Annotations(names) => {
+            if !are_names(names) {
+                return Err(Refused::Form);
+            }
+        }
+        Part::Opening(_) | Part::Closing | Part::Mark => (),
     }
+    Ok(())
 }

@@ -12,9 +12,9 @@ mod walk;
 ghost use Rattle.std.specs.Prelude.{◌+◌, ◌≤◌, length, IfOk};
 
 use filled::Filled;
-use refused::Refused;
 use run::Writer;
 use std::fmt;
+use std::fmt::Write;
 use std::io::Read;
 use std::process::ExitCode;
 use walk::{TOO_LONG, Walk};
@@ -70,23 +70,15 @@ impl Answers {
         Ok(())
     }
 
-    // Puts `!` and the number of a refusal, of one digit or two.
-    fn refuse(&mut self, refused: Refused) {
-        let number = refused.number();
-        let ones = b'0' + number % 10;
-        if number < 10 {
-            self.waiting.put(&[b'!', ones]);
-        } else {
-            self.waiting.put(&[b'!', b'0' + number / 10 % 10, ones]);
-        }
-    }
-
     fn answer<'a>(&mut self, writer: &mut Writer, walk: &mut Walk<'a>, line: &'a [u8])
         requires { self.old.waiting.used ≤ 32767 }
     {
         match writer.bytes_of(walk, line) {
             Ok(bytes) => self.waiting.put_hex(bytes),
-            Err(refused) => self.refuse(refused),
+            Err(refused) => {
+                // There is room.
+                let _ = write!(self.waiting, "{refused}");
+            }
         }
         self.waiting.put(b"\n");
     }

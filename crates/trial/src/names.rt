@@ -20,14 +20,18 @@ pub(crate) enum Name {
     Text,
 }
 
-impl Name {
-    pub(crate) fn of(word: &[u8]) -> Option<Name> {
-        if is_quoted(word) {
-            return Some(Name::Text);
-        }
-        Some(Name::Sid(natural(word, u64::MAX)?))
-    }
+impl TryFrom<&[u8]> for Name {
+    type Error = Refused;
 
+    fn try_from(word: &[u8]) -> Result<Name, Refused> {
+        if is_quoted(word) {
+            return Ok(Name::Text);
+        }
+        Ok(Name::Sid(natural(word, u64::MAX).ok_or(Refused::Form)?))
+    }
+}
+
+impl Name {
     pub(crate) fn sid(self) -> Result<u64, Refused> {
         match self {
             Name::Sid(sid) => Ok(sid),
@@ -41,5 +45,5 @@ pub(crate) fn are_names(text: &[u8]) -> bool {
     text.is_empty()
         || text
             .split(|byte| *byte == b' ')
-            .all(|word| Name::of(word).is_some())
+            .all(|word| Name::try_from(word).is_ok())
 }

@@ -1,4 +1,6 @@
 // Why a line has no bytes, by the numbers of document 01.
+use std::fmt;
+
 #[derive(Clone, Copy)]
 pub(crate) enum Refused {
     // By a call, which answers this number.
@@ -10,12 +12,18 @@ pub(crate) enum Refused {
 }
 
 impl Refused {
-    pub(crate) fn number(self) -> u8 {
+    fn number(self) -> u8 {
         match self {
             Refused::Call(number) => number,
             Refused::Text => 11,
             Refused::Form => 12,
         }
+    }
+}
+
+impl fmt::Display for Refused {
+    fn fmt<W: fmt::Write>(&self, f: &mut fmt::Formatter<W>) -> fmt::Result {
+        write!(f, "!{}", self.number())
     }
 }
 

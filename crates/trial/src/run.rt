@@ -2,7 +2,7 @@
 ghost use Rattle.std.specs.Prelude.{◌≤◌, length, IfOk};
 
 use crate::filled::Filled;
-use crate::form::{Scalar, Timestamp, is_right};
+use crate::form::{Fraction, Scalar, Timestamp, check};
 use crate::names::Name;
 use crate::refused::{Refused, answered};
 use crate::walk::{Container, Line, Part, Walk};
@@ -39,6 +39,10 @@ impl Writer {
     }
 
     fn write_timestamp(&mut self, value: Timestamp) -> u8 {
+        let fraction = value.fraction.unwrap_or(Fraction {
+            digits: 0,
+            coefficient: 0,
+        });
         goatminute::gm_write_timestamp(
             &mut self.state,
             &mut self.buf,
@@ -52,9 +56,9 @@ impl Writer {
             value.second,
             value.offset.is_some() as u8,
             value.offset.unwrap_or(0),
-            value.has_fraction as u8,
-            value.digits,
-            value.coefficient,
+            value.fraction.is_some() as u8,
+            fraction.digits,
+            fraction.coefficient,
         )
     }
 
@@ -93,9 +97,7 @@ impl Writer {
                 bytes,
                 exponent,
             ),
-            Scalar::Timestamp(text) => self.write_timestamp(Timestamp::of(text).ok_or(
-                Refused::Form,
-            )?),
+            Scalar::Timestamp(text) => self.write_timestamp(Timestamp::try_from(text)?),
             Scalar::Symbol(name) => goatminute::gm_write_symbol(
                 state,
                 buf,
@@ -125,7 +127,7 @@ impl Writer {
     }
 
     fn name(&mut self, word: &[u8]) -> Result<(), Refused> {
-        let sid = Name::of(word).ok_or(Refused::Form)?.sid()?;
+        let sid = Name::try_from(word)?.sid()?;
         answered(goatminute::gm_field_name(&mut self.state, &mut self.buf, sid))
     }
 
@@ -135,7 +137,7 @@ impl Writer {
             return Ok(());
         }
         for word in names.split(|byte| *byte == b' ') {
-            let sid = Name::of(word).ok_or(Refused::Form)?.sid()?;
+            let sid = Name::try_from(word)?.sid()?;
             self.annotations.put(&sid.to_le_bytes());
         }
         Ok(())
@@ -144,7 +146,7 @@ impl Writer {
     // The call of a part, if it has one.
     fn put(&mut self, part: Part) -> Result<(), Refused> {
         match part {
-            Part::Scalar(text) => self.write(Scalar::of(text).ok_or(Refused::Form)?)?,
+            Part::Scalar(text) => self.write(Scalar::try_from(text)?)?,
             Part::Opening(container) => self.open(container)?,
             Part::Closing => self.close()?,
             Part::Name(word) => self.name(word)?,
@@ -174,20 +176,18 @@ impl Writer {
         ensures { IfOk result (λ bytes. length bytes.now ≤ 16384) }
     {
         let line = Line::of(line).ok_or(Refused::Form)?;
-        check(walk, line)?;
+        hold_to_form(walk, line)?;
         self.put_line(walk, line)?;
         let bytes = goatminute::gm_finished(&self.state, &self.buf).min(ROOM);
         Ok(&self.buf[..bytes])
     }
 }
 
-// Walks along a line that has the form.
-fn check<'a>(walk: &mut Walk<'a>, line: Line<'a>) -> Result<(), Refused> {
+// Walks along a line, and reads the words of each part.
+fn hold_to_form<'a>(walk: &mut Walk<'a>, line: Line<'a>) -> Result<(), Refused> {
     walk.start(line);
     while let Some(part) = walk.next()? {
-        if !is_right(part) {
-            return Err(Refused::Form);
-        }
+        check(part)?;
     }
     Ok(())
 }
