@@ -171,16 +171,17 @@ impl<'a> TryFrom<&'a [u8]> for Scalar<'a> {
     type Error = Refused;
 
     fn try_from(text: &'a [u8]) -> Result<Scalar<'a>, Refused> {
+        let word = only_word(text);
         match first_word(text) {
-            b"null" => Ok(Scalar::Null(Type::try_from(only_word(text)?)?)),
-            b"bool" => Ok(Scalar::Bool(bit(only_word(text)?)?)),
-            b"i64" => Ok(Scalar::I64(signed_number(only_word(text)?)?)),
-            b"int" => Ok(Scalar::Int(integer(only_word(text)?)?)),
-            b"f32" => Ok(Scalar::F32((bits(only_word(text)?, 8)? % 0x1_0000_0000) as u32)),
-            b"f64" => Ok(Scalar::F64(bits(only_word(text)?, 16)?)),
+            b"null" => Ok(Scalar::Null(Type::try_from(word?)?)),
+            b"bool" => Ok(Scalar::Bool(bit(word?)?)),
+            b"i64" => Ok(Scalar::I64(signed_number(word?)?)),
+            b"int" => Ok(Scalar::Int(integer(word?)?)),
+            b"f32" => Ok(Scalar::F32((bits(word?, 8)? % 0x1_0000_0000) as u32)),
+            b"f64" => Ok(Scalar::F64(bits(word?, 16)?)),
             b"dec" => decimal(text),
             b"ts" => Ok(Scalar::Timestamp(text)),
-            b"symbol" => Ok(Scalar::Symbol(Name::try_from(only_word(text)?)?)),
+            b"symbol" => Ok(Scalar::Symbol(Name::try_from(word?)?)),
             b"string" => Ok(Scalar::String(pairs(text)?)),
             b"clob" => Ok(Scalar::Clob(pairs(text)?)),
             b"blob" => Ok(Scalar::Blob(pairs(text)?)),
@@ -201,9 +202,10 @@ pub(crate) fn first_word(text: &[u8]) -> &[u8]
 // The word behind a name, where there is just one.
 fn only_word(text: &[u8]) -> Result<&[u8], Refused> {
     let mut words = text.split(|byte| *byte == b' ').skip(1);
-    match (words.next(), words.next()) {
-        (Some(word), None) => Ok(word),
-        _ => Err(Refused::Form),
+    let word = words.next().ok_or(Refused::Form)?;
+    match words.next() {
+        None => Ok(word),
+        Some(_) => Err(Refused::Form),
     }
 }
 

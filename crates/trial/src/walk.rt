@@ -198,8 +198,8 @@ impl<'a> Walk<'a> {
         Ok(Part::Annotations(names))
     }
 
-    // A value, of which a scalar ends at the next bracket that closes.
-    fn value(&mut self, is_bare: bool) -> Result<Part<'a>, Refused>
+    // A value, of which a scalar ends at the next bracket that closes. `due` is a value that may be annotated, or a bare one.
+    fn value(&mut self, due: Due) -> Result<Part<'a>, Refused>
         ensures { IfOk result (λ _. length self.new.rest.now < length self.old.rest.now) }
     {
         self.pass(b'(')?;
@@ -222,7 +222,7 @@ impl<'a> Walk<'a> {
                 Ok(Part::Opening(Container::Struct))
             }
             b"ann" => {
-                if is_bare {
+                if let Due::BareValue = due {
                     return Err(Refused::Form);
                 }
                 self.skip(name.len());
@@ -247,8 +247,7 @@ impl<'a> Walk<'a> {
             };
         };
         let part = match due {
-            Due::Value => self.value(false)?,
-            Due::BareValue => self.value(true)?,
+            Due::Value | Due::BareValue => self.value(due)?,
             Due::Member => self.member()?,
             Due::Field => self.field()?,
             Due::Bracket => self.bracket(Part::Mark)?,
