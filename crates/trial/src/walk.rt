@@ -1,5 +1,6 @@
 // The walk along a line: its brackets, and the parts between them. What is due is kept on a stack, so a line may be as deep as its bytes allow.
 ghost use Rattle.std.specs.Prelude.{◌≡◌, ◌+◌, ◌<◌, ◌≤◌, length, MatchOption, MatchResult, IfOk, IfSome};
+ghost use Rattle.trial.specs.Steps.{GoesOn};
 
 use crate::form::first_word;
 use crate::refused::Refused;
@@ -149,7 +150,7 @@ impl<'a> Walk<'a> {
 
     // A bracket that ends a container, a field or an `ann`.
     fn bracket(&mut self, part: Part<'a>) -> Result<Part<'a>, Refused>
-        ensures { IfOk result (λ _. length self.new.rest.now < length self.old.rest.now) }
+        ensures { GoesOn result self.old.rest.now self.new.rest.now }
     {
         self.pass(b')')?;
         Ok(part)
@@ -158,7 +159,7 @@ impl<'a> Walk<'a> {
     // A space before a member of a list or s-expression, or its bracket.
     fn member(&mut self) -> Result<Part<'a>, Refused>
         requires { self.old.due.depth + length self.old.rest.now ≤ 4096 }
-        ensures { IfOk result (λ _. length self.new.rest.now < length self.old.rest.now) }
+        ensures { GoesOn result self.old.rest.now self.new.rest.now }
     {
         if self.pass(b' ').is_err() {
             return self.bracket(Part::Closing);
@@ -170,7 +171,7 @@ impl<'a> Walk<'a> {
 
     // A field of a struct, which is a space, a bracket, the name and a space, or the bracket of the struct.
     fn field(&mut self) -> Result<Part<'a>, Refused>
-        ensures { IfOk result (λ _. length self.new.rest.now < length self.old.rest.now) }
+        ensures { GoesOn result self.old.rest.now self.new.rest.now }
     {
         if self.pass(b' ').is_err() {
             return self.bracket(Part::Closing);
@@ -186,7 +187,7 @@ impl<'a> Walk<'a> {
 
     // The annotations of an `ann`: a space, a bracket, the names, the bracket and a space.
     fn annotations(&mut self) -> Result<Part<'a>, Refused>
-        ensures { IfOk result (λ _. length self.new.rest.now < length self.old.rest.now) }
+        ensures { GoesOn result self.old.rest.now self.new.rest.now }
     {
         self.pass(b' ')?;
         self.pass(b'(')?;
@@ -200,7 +201,7 @@ impl<'a> Walk<'a> {
 
     // A value, of which a scalar ends at the next bracket that closes. `due` is a value that may be annotated, or a bare one.
     fn value(&mut self, due: Due) -> Result<Part<'a>, Refused>
-        ensures { IfOk result (λ _. length self.new.rest.now < length self.old.rest.now) }
+        ensures { GoesOn result self.old.rest.now self.new.rest.now }
     {
         self.pass(b'(')?;
         let text = self.text_to(b')')?;
