@@ -19,9 +19,13 @@ use Rattle.words.specs.Numbers.{is_digit, digit_behind, digits_behind, natural, 
 -- ---- a digit
 
 module _ (most n b : ℕ) where
-  pub no_digit : is_digit b ≡ false → digit_behind most n b ≡ None
-  unfolding digit_behind
-  no_digit e = rw (digit_behind, e) refl
+  pub no_digit_below : b < 48 → digit_behind most n b ≡ None
+  unfolding is_digit digit_behind
+  no_digit_below h = rw (digit_behind, is_digit, lt-leb 48 b h)
+
+  pub no_digit_above : 57 < b → digit_behind most n b ≡ None
+  unfolding is_digit digit_behind
+  no_digit_above h = rw (digit_behind, is_digit, le-leb 48 b (omega arith), lt-leb b 57 h)
 
   module _ (low : 48 ≤ b) (high : b ≤ 57) where
     pub digit_past : most < n * 10 + (b - 48) → digit_behind most n b ≡ None

@@ -64,6 +64,7 @@ pub fn bytes(word: &[u8], out: &mut [u8]) -> usize
     let digits = numbers::magnitude(word);
     let zeros = digits.len() % 2;
     let count = (digits.len() / 2 + zeros).min(out.len());
+    // By index: a proof knows nothing of the bytes that an iterator lends to be written.
     for i in 0..count {
         out[i] = digit_behind(digits, zeros, 2 * i) * 16 + digit_behind(digits, zeros, 2 * i + 1);
     }
@@ -89,6 +90,7 @@ pub fn put(out: &mut [u8], at: usize, bytes: &[u8]) -> usize
     if !buffer::has_room(out.len(), at, 2 * bytes.len()) {
         return 0;
     }
+    // By index, as in `bytes`.
     for (i, byte) in bytes.iter().enumerate() {
         out[at + 2 * i] = glyph(*byte / 16);
         out[at + 2 * i + 1] = glyph(*byte);

@@ -15,14 +15,16 @@ const MOST_U32: u64 = 4294967295;
 fn with_digit(value: u64, byte: u8, most: u64) -> Option<u64>
     ensures { result ≡ digit_behind most value byte }
 {
-    if !byte.is_ascii_digit() {
-        return None;
+    match byte {
+        b'0'..=b'9' => {
+            let digit = u64::from(byte - b'0');
+            if most < digit || (most - digit) / 10 < value {
+                return None;
+            }
+            Some(value * 10 + digit)
+        }
+        _ => None,
     }
-    let digit = u64::from(byte - b'0');
-    if most < digit || (most - digit) / 10 < value {
-        return None;
-    }
-    Some(value * 10 + digit)
 }
 
 // A number without sign of at most `most`.
