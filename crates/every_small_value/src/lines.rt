@@ -37,7 +37,8 @@ impl Lines {
         let mut string = [0u8; 3];
         let string = &mut string[..size.bytes];
         small_values::spell(string, number);
-        let end = self.used + words::hex::put(&mut self.bytes, self.used, string);
+        let digits = words::hex::put(&mut self.bytes, self.used, string).unwrap();
+        let end = self.used + digits;
         self.bytes[end] = b'\n';
         self.used = end + 1;
     }

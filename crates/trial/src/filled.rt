@@ -48,7 +48,7 @@ impl<const N: usize> Filled<N> {
         requires { self.old.used + 2 * length bytes.now ≤ N }
         ensures { self.new.used ≤ self.old.used + 2 * length bytes.now }
     {
-        self.used += words::hex::put(&mut self.bytes, self.used, bytes);
+        self.used += words::hex::put(&mut self.bytes, self.used, bytes).unwrap_or(0);
     }
 
     // Puts the bytes that a word spells in hex, and no others.

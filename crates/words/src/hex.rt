@@ -1,5 +1,5 @@
 // Lower-case hex. A byte that is no digit counts as 0.
-ghost use Rattle.std.specs.Prelude.{◌≡◌, List, ℕ, ◌*◌, ◌%◌, ◌^◌, ◌≤◌, min, length, get_or};
+ghost use Rattle.std.specs.Prelude.{◌≡◌, List, ℕ, Option, ◌*◌, ◌%◌, ◌^◌, ◌≤◌, min, length, get_or, IfSome};
 ghost use Rattle.std.proofs.Math.Seq.{paste};
 ghost use Rattle.buffer.specs.Laid.{placed};
 ghost use Rattle.words.specs.Numbers.{magnitude};
@@ -82,18 +82,18 @@ fn glyph(bits: u8) -> u8
     b'a' + (digit - 10)
 }
 
-// Puts two digits for each byte, from `at` on, and answers their number: all of them, or none where they do not fit.
-pub fn put(out: &mut [u8], at: usize, bytes: &[u8]) -> usize
-    ensures { (◌≡◌ {A = ℕ × List ℕ} (result, out.new) (placed out.old at (hex_text bytes.now)))
-        × (result ≤ 2 * length bytes.now) }
+// Puts two digits for each byte, from `at` on, and answers their number; none where they do not fit.
+pub fn put(out: &mut [u8], at: usize, bytes: &[u8]) -> Option<usize>
+    ensures { (◌≡◌ {A = Option ℕ × List ℕ} (result, out.new) (placed out.old at (hex_text bytes.now)))
+        × IfSome result (λ n. n ≤ 2 * length bytes.now) }
 {
     if !buffer::has_room(out.len(), at, 2 * bytes.len()) {
-        return 0;
+        return None;
     }
     // By index, as in `bytes`.
     for (i, byte) in bytes.iter().enumerate() {
         out[at + 2 * i] = glyph(*byte / 16);
         out[at + 2 * i + 1] = glyph(*byte);
     }
-    2 * bytes.len()
+    Some(2 * bytes.len())
 }

@@ -9,19 +9,18 @@ use Rattle.buffer.specs.Laid.{laid}
 use Rattle.buffer.proofs.Laid.{placed_full, placed_by, no_room, room}
 use Rattle.words.specs.Hex.{hex_text}
 use Rattle.words.proofs.HexDigits.{length_text, text_nothing, text_laid}
-use mathlib.Core.Bool.{not}
 use Rattle.words.proofs.hex.put.Goals as goal
 
 pub returns-then-not-has_room : goal.returns-then-not-has_room
 returns-then-not-has_room c = let a = c.args in
     let r = c.has_room in
-    let full = no_room r.result a.out.now _ r.ensures (ap not c.if-not-has_room.true) in
-    (sym (placed_full a.out.now a.at (hex_text a.bytes.now) (omega (arith, length_text a.bytes.now))), omega arith)
+    let full = no_room r.result a.out.now _ r.ensures c.if-not-has_room.true in
+    (sym (placed_full a.out.now a.at (hex_text a.bytes.now) (omega (arith, length_text a.bytes.now))), tt)
 
 pub loop-i-init : goal.loop-i-init
 loop-i-init c = let a = c.args in
     let r = c.has_room in record {
-      room = room r.result a.out.now _ r.ensures (ap not c.if-not-has_room.false);
+      room = room r.result a.out.now _ r.ensures c.if-not-has_room.false;
       keeps = refl;
       laid = text_nothing a.out.now a.at;
     }
