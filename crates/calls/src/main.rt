@@ -12,15 +12,15 @@
 // Where a call's words name none, `no call` is printed.
 #![tactic(auto)]
 
+mod lines;
 mod writes;
 
-ghost use Rattle.std.specs.Prelude.{◌≡◌, ◌≤◌, length};
+ghost use Rattle.std.specs.Prelude.{◌≡◌, length};
 
-use machine::{Closed, Container, Refused, State};
+use lines::{Got, Line};
+use machine::{MOST_OPEN, State};
 use std::io;
-use words::{least, word};
-
-const MOST_U64: u64 = 18446744073709551615;
+use writes::Call;
 
 // As many bytes of input are too many.
 const MOST_TEXT: usize = 65536;
@@ -28,226 +28,98 @@ const MOST_TEXT: usize = 65536;
 // What the buffer holds before a list.
 const FILL: u8 = 0xEE;
 
-// The numbers behind the first word of a line.
-#[derive(Clone, Copy)]
-struct Numbers {
-    first: usize,
-    second: usize,
-    third: usize,
-    fourth: usize,
-    fifth: usize,
-}
-
-fn size(word: &[u8]) -> usize {
-    words::numbers::natural(word, MOST_U64) as usize
-}
-
-fn read(line: &[u8]) -> Numbers {
-    Numbers {
-        first: size(word(line, 1)),
-        second: size(word(line, 2)),
-        third: size(word(line, 3)),
-        fourth: size(word(line, 4)),
-        fifth: size(word(line, 5)),
-    }
-}
-
-fn hex_code(word: &[u8]) -> u8 {
-    (words::hex::bits(word) % 256) as u8
-}
-
-// A new list's state, and its buffer.
-fn fresh(buf: &mut [u8]) -> State {
-    let mut i: usize = 0;
-    while i < buf.len() {
-        buf[i] = FILL;
-        i += 1;
-    }
-    State::empty(0)
-}
-
-fn set(n: Numbers, state: State) -> State {
-    let mut next = state;
-    next.used = n.first;
-    next.depth = n.second;
-    next.waiting = n.third == 1;
-    next
-}
-
-fn with_record(n: Numbers, code: u8, state: State) -> State {
-    let i = n.first % 32;
-    let start = n.second;
-    let header = n.third;
-    let members = n.fifth;
-    let mut next = state;
-    next.containers[i] = Container {
-        start,
-        header,
-        code,
-        members,
-    };
-    next
-}
-
-fn is_open(n: Numbers, code: u8, state: State) -> bool {
-    let i = n.first % 32;
-    let c = state.containers[i];
-    (c.start == n.second) & (c.header == n.third) & (c.code == code) & (c.members == n.fifth)
-}
-
-fn takes(n: Numbers, state: State, buf: &[u8]) -> bool {
-    let room = least(n.first, buf.len());
-    let taken = writer::finished(state, &buf[0..room]);
-    taken.len() == n.second
-}
-
-// Whether `byte` stands at each place from the first number to before the second.
-fn are_all(n: Numbers, byte: u8, buf: &[u8]) -> bool {
-    let to = least(n.second, buf.len());
-    let mut i = n.first;
-    while i < to {
-        let here = buf[i];
-        if here != byte {
-            return false;
-        }
-        i += 1;
-    }
-    true
-}
-
-fn has_bytes(at: usize, word: &[u8], buf: &[u8]) -> bool {
+fn has_bytes(buf: &[u8], from: usize, hex: &[u8]) -> bool {
     let mut bytes = [0u8; 256];
-    let count = words::hex::bytes(word, &mut bytes);
-    let from = least(at, buf.len());
-    let to = from + least(count, buf.len() - from);
-    &bytes[0..count] == &buf[from..to]
-}
-
-// The number of document 01, or 0 for what is accepted, and what the call left; a refused one has no numbers of a container.
-fn parts(answer: Result<Closed, Refused>) -> (usize, Closed) {
-    match answer {
-        Ok(closed) => (0, closed),
-        Err(refused) => (
-            u8::from(refused.why) as usize,
-            writes::without_numbers(refused.state),
-        ),
-    }
-}
-
-// What a call answered and left, and what it answered of a container.
-fn print_got(rt: &impl Print, number: usize, got: Closed) -> io::Result<()> {
-    let state = got.state;
-    print!(rt;
-        "got {} {} {} {} {} {} {} ",
-        number, state.used, state.depth, state.waiting as usize, got.size, got.members, got.moved
-    )
+    let count = words::hex::bytes(hex, &mut bytes);
+    buf.get(from..).unwrap_or(&[]).starts_with(&bytes[..count])
 }
 
 fn report(rt: &impl Print, is_right: bool) -> io::Result<()> {
-    if is_right {
-        return println!(rt; "ok");
-    }
-    println!(rt; "differs")
+    println!(rt; "{}", if is_right { "ok" } else { "differs" })
 }
 
-// Whether a closing answered the numbers of the container that stand behind its name.
-fn has_numbers(call: &[u8], got: Closed) -> bool {
-    if word(call, 0) != b"close".as_slice() {
-        return true;
+fn call(
+    rt: &impl Print,
+    room: usize,
+    expected: Got,
+    words: &[u8],
+    state: &mut State,
+    buf: &mut [u8],
+) -> io::Result<()> {
+    let Ok(call) = Call::try_from(words) else {
+        return println!(rt; "no call");
+    };
+    let room = room.min(buf.len());
+    let got = call.make(*state, &mut buf[..room]);
+    *state = match got {
+        Ok(closed) => closed.state,
+        Err(refused) => refused.state,
+    };
+    let got = Got::from(got);
+    if got != expected {
+        print!(rt; "got {got} ")?;
     }
-    (got.size == size(word(call, 1)))
-        & (got.members == size(word(call, 2)))
-        & (got.moved == size(word(call, 3)))
+    report(rt, got == expected)
 }
 
-fn compare_call(rt: &impl Print, line: &[u8], number: usize, got: Closed) -> io::Result<()> {
-    let n = read(line);
-    let state = got.state;
-    let is_right = (number == n.first)
-        & (state.used == n.second)
-        & (state.depth == n.third)
-        & (state.waiting == (n.fourth == 1))
-        & has_numbers(words::from_word(line, 5), got);
-    if !is_right {
-        print_got(rt, number, got)?;
-    }
-    report(rt, is_right)
-}
-
-fn call(rt: &impl Print, line: &[u8], state: State, buf: &mut [u8]) -> io::Result<State> {
-    let named = words::from_word(line, 5);
-    if !writes::is_call(named) {
-        println!(rt; "no call")?;
-        return Ok(state);
-    }
-    let room = least(size(word(line, 0)), buf.len());
-    let (number, got) = parts(writes::write(named, state, &mut buf[0..room]));
-    compare_call(rt, line, number, got)?;
-    Ok(got.state)
-}
-
-// The lines that are no call, by the index of their first words, of which the first is that of an empty line.
-const NOTHING: usize = 0;
-
-const FRESH: usize = 1;
-
-const SET: usize = 2;
-
-const RECORD: usize = 3;
-
-const OPEN: usize = 4;
-
-const TAKE: usize = 5;
-
-const ALL: usize = 6;
-
-const BYTES: usize = 7;
-
-fn is_as_said(form: usize, line: &[u8], state: State, buf: &[u8]) -> bool {
-    let n = read(line);
-    match form {
-        OPEN => is_open(n, hex_code(word(line, 4)), state),
-        TAKE => takes(n, state, buf),
-        ALL => are_all(n, hex_code(word(line, 3)), buf),
-        _ => has_bytes(n.first, word(line, 2), buf),
-    }
-}
-
-// The state behind a line.
-fn step(rt: &impl Print, line: &[u8], state: State, buf: &mut [u8]) -> io::Result<State> {
-    let form = words::index(b" fresh set record open take all bytes", word(line, 0));
-    match form {
-        NOTHING => Ok(state),
-        FRESH => Ok(fresh(buf)),
-        SET => Ok(set(read(line), state)),
-        RECORD => Ok(with_record(read(line), hex_code(word(line, 4)), state)),
-        OPEN | TAKE | ALL | BYTES => {
-            report(rt, is_as_said(form, line, state, buf))?;
-            Ok(state)
+fn step(rt: &impl Print, line: &[u8], state: &mut State, buf: &mut [u8]) -> io::Result<()> {
+    match Line::from(line) {
+        Line::Nothing => Ok(()),
+        Line::Fresh => {
+            buf.fill(FILL);
+            *state = State::empty(0);
+            Ok(())
         }
-        _ => call(rt, line, state, buf),
+        Line::Set {
+            used,
+            depth,
+            waiting,
+        } => {
+            state.used = used;
+            state.depth = depth;
+            state.waiting = waiting;
+            Ok(())
+        }
+        Line::Record { index, record } => {
+            state.containers[index % MOST_OPEN] = record;
+            Ok(())
+        }
+        Line::Open { index, record } => {
+            report(rt, state.containers[index % MOST_OPEN] == record)
+        }
+        Line::Take { room, length } => {
+            let room = room.min(buf.len());
+            report(rt, writer::finished(*state, &buf[..room]).len() == length)
+        }
+        Line::All { from, to, byte } => {
+            report(rt, buf.iter().take(to).skip(from).all(|here| *here == byte))
+        }
+        Line::Bytes { from, hex } => report(rt, has_bytes(buf, from, hex)),
+        Line::Call {
+            room,
+            expected,
+            words,
+        } => call(rt, room, expected, words, state, buf),
     }
 }
 
-fn run_lines(rt: &impl Print, text: &[u8], buf: &mut [u8]) -> io::Result<()>
-    requires { length text.now ≤ 65536 }
-{
-    let mut state = fresh(buf);
-    let mut at: usize = 0;
-    while at < text.len() {
-        let end = words::find(text, at, b'\n');
-        let stop = least(words::find(text, at, b'#'), end);
-        state = step(rt, &text[at..stop], state, buf)?;
-        at = end + 1;
+fn run_lines(rt: &impl Print, text: &[u8], buf: &mut [u8]) -> io::Result<()> {
+    let mut state = State::empty(0);
+    for line in text.split_inclusive(|byte| *byte == b'\n') {
+        let words = line
+            .split(|byte| matches!(*byte, b'#' | b'\n'))
+            .next()
+            .unwrap_or(line);
+        step(rt, words, &mut state, buf)?;
     }
     Ok(())
 }
 
-// The `ensures` gives the length, which lending the array as a slice needs.
-fn longest_buffer() -> [u8; 2200000]
+// The `ensures` gives the length, which lending the array as a slice needs: it is too long to be counted.
+fn longest_buffer() -> [u8; 2_200_000]
     ensures { 2200000 ≡ length result }
 {
-    [FILL; 2200000]
+    [FILL; 2_200_000]
 }
 
 fn main(rt: HostRuntime) -> io::Result<()> {

@@ -25,7 +25,7 @@ pub const MARKER: [u8; 4] = [0xE0, 0x01, 0x00, 0xEA];
 // and how many direct members it has; a struct counts its name and value pairs.
 // Without annotations the header lies at the start; with them it lies behind the wrapper's reserve and the annotations.
 // The code is a number and no enum: a state that is handed in may hold any, and check 2 refuses the others.
-#[derive(Clone, Copy)]
+#[derive(Clone, Copy, Debug, PartialEq, Eq)]
 pub struct Container {
     pub start: usize,
     pub header: usize,

@@ -4,10 +4,9 @@
 #![tactic(auto)]
 
 mod numbers;
+mod refusal;
 mod values;
 mod walk;
-
-ghost use Rattle.std.specs.Prelude.{◌≤◌, length};
 
 use std::io;
 
@@ -16,8 +15,6 @@ const MOST_TEXT: usize = 65536;
 
 const LONGEST_STREAM: usize = 8192;
 
-const MOST_U64: u64 = 18446744073709551615;
-
 fn print_stream(rt: &impl Print, line: &[u8]) -> io::Result<()> {
     let hex = words::word(line, 0);
     if 2 * LONGEST_STREAM < hex.len() {
@@ -25,12 +22,12 @@ fn print_stream(rt: &impl Print, line: &[u8]) -> io::Result<()> {
     }
     let mut bytes = [0u8; LONGEST_STREAM];
     let n = words::hex::bytes(hex, &mut bytes);
-    let position = words::numbers::natural(words::word(line, 1), MOST_U64);
-    walk::print_walk(rt, &bytes[0..n], position as usize)
+    let position = words::numbers::natural(words::word(line, 1), u64::MAX).unwrap_or(0);
+    walk::print_walk(rt, &bytes[..n], position as usize)
 }
 
 fn answer(rt: &impl Print, line: &[u8]) -> io::Result<()> {
-    if words::byte_at(line, 0) == b'#' {
+    if line.starts_with(b"#") {
         rt.write_all(line)?;
     } else {
         print_stream(rt, line)?;
@@ -38,14 +35,9 @@ fn answer(rt: &impl Print, line: &[u8]) -> io::Result<()> {
     println!(rt)
 }
 
-fn answer_lines(rt: &impl Print, text: &[u8]) -> io::Result<()>
-    requires { length text.now ≤ 65536 }
-{
-    let mut at: usize = 0;
-    while at < text.len() {
-        let end = words::find(text, at, b'\n');
-        answer(rt, &text[at..end])?;
-        at = end + 1;
+fn answer_lines(rt: &impl Print, text: &[u8]) -> io::Result<()> {
+    for line in text.split_inclusive(|byte| *byte == b'\n') {
+        answer(rt, line.strip_suffix(b"\n").unwrap_or(line))?;
     }
     Ok(())
 }

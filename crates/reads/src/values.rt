@@ -1,139 +1,211 @@
-// Values as words, by their type byte and body. A container is shown by its bracket.
-use crate::numbers::{
-    behind, print_bytes, print_int_magnitude, print_int_sign, print_signed, print_uint,
-};
+// Values as words, by their type byte and body.
+use crate::numbers::{Hex, Int, Signed, behind, uint};
+use crate::refusal::{Refusal, answered};
 use entry_reading::{gm_read_decimal, gm_read_symbol, gm_read_timestamp};
-use std::io;
+use std::fmt;
 
 // "Typed Value Formats": a type byte is the type code and four low bits, of which 15 is a null.
 const NULL: u8 = 15;
 
+// A negative int's code is another of type int.
+const INT: u8 = 2;
+
 const NEGATIVE_INT: u8 = 3;
 
-pub(crate) fn print_refusal(rt: &impl Print, number: u8) -> io::Result<()> {
-    print!(rt; "!{number}")
+#[derive(Clone, Copy)]
+struct Decimal<'a> {
+    coefficient: Int<'a>,
+    exponent: Signed,
 }
 
-// A negative int's code is another of type int.
-fn print_null(rt: &impl Print, code: u8) -> io::Result<()> {
-    if code == NEGATIVE_INT {
-        return print!(rt; "n2");
+impl<'a> TryFrom<&'a [u8]> for Decimal<'a> {
+    type Error = Refusal;
+
+    fn try_from(body: &'a [u8]) -> Result<Self, Refusal> {
+        let mut numbers = [0u64; 3];
+        answered(gm_read_decimal(body, &mut numbers))?;
+        let [negative, exponent, coefficient] = numbers;
+        Ok(Decimal {
+            coefficient: Int::from(behind(body, coefficient as usize)),
+            exponent: Signed {
+                negative: negative != 0,
+                magnitude: exponent,
+            },
+        })
     }
-    print!(rt; "n{code}")
 }
 
-fn print_bool(rt: &impl Print, low_bits: u8) -> io::Result<()> {
-    print!(rt; "b{low_bits}")
-}
-
-fn print_int(rt: &impl Print, sign: &str, body: &[u8]) -> io::Result<()> {
-    print!(rt; "i{sign}")?;
-    print_uint(rt, body)
-}
-
-fn print_lob(rt: &impl Print, letter: &str, body: &[u8]) -> io::Result<()> {
-    print!(rt; "{letter}")?;
-    print_bytes(rt, body)
-}
-
-fn print_decimal(rt: &impl Print, body: &[u8]) -> io::Result<()> {
-    let mut decimal = [0u64; 3];
-    let refusal = gm_read_decimal(body, &mut decimal);
-    if refusal != 0 {
-        return print_refusal(rt, refusal);
+impl fmt::Display for Decimal<'_> {
+    fn fmt<W: fmt::Write>(&self, f: &mut fmt::Formatter<W>) -> fmt::Result {
+        write!(f, "d{}:{}", self.coefficient, self.exponent)
     }
-    let coefficient = behind(body, decimal[2] as usize);
-    print!(rt; "d")?;
-    print_int_sign(rt, coefficient)?;
-    print_int_magnitude(rt, coefficient)?;
-    print!(rt; ":")?;
-    print_signed(rt, decimal[0] != 0, decimal[1])
 }
 
-fn print_offset(rt: &impl Print, known: bool, negative: bool, minutes: u64) -> io::Result<()> {
-    if known {
-        print_signed(rt, negative, minutes)?;
-    } else {
-        print!(rt; "?")?;
+// The minutes, or a mark where they are unknown.
+#[derive(Clone, Copy)]
+struct Offset(Option<Signed>);
+
+impl fmt::Display for Offset {
+    fn fmt<W: fmt::Write>(&self, f: &mut fmt::Formatter<W>) -> fmt::Result {
+        match self.0 {
+            Some(minutes) => write!(f, "{minutes}"),
+            None => f.write_str("?"),
+        }
     }
-    print!(rt; ":")
 }
 
-// Of the fields the first `count`.
-fn print_fields(rt: &impl Print, fields: &[u64], count: u64) -> io::Result<()> {
-    for (i, field) in fields.iter().enumerate() {
-        if count <= i as u64 {
+// The fields from the year on that the precision has.
+#[derive(Clone, Copy)]
+struct Fields {
+    all: [u64; 6],
+    count: usize,
+}
+
+impl fmt::Display for Fields {
+    fn fmt<W: fmt::Write>(&self, f: &mut fmt::Formatter<W>) -> fmt::Result {
+        for (i, field) in self.all.iter().take(self.count).enumerate() {
+            if 0 < i {
+                f.write_str(",")?;
+            }
+            write!(f, "{field}")?;
+        }
+        Ok(())
+    }
+}
+
+// How many digits a second has behind the point, and their coefficient.
+#[derive(Clone, Copy)]
+struct Fraction<'a> {
+    digits: u64,
+    coefficient: Int<'a>,
+}
+
+impl fmt::Display for Fraction<'_> {
+    fn fmt<W: fmt::Write>(&self, f: &mut fmt::Formatter<W>) -> fmt::Result {
+        if self.digits == 0 {
             return Ok(());
         }
-        if 0 < i {
-            print!(rt; ",")?;
+        write!(f, "{},{}", self.digits, self.coefficient.magnitude)
+    }
+}
+
+#[derive(Clone, Copy)]
+struct Timestamp<'a> {
+    offset: Offset,
+    fields: Fields,
+    fraction: Fraction<'a>,
+    out_of_calendar: bool,
+}
+
+impl<'a> TryFrom<&'a [u8]> for Timestamp<'a> {
+    type Error = Refusal;
+
+    fn try_from(body: &'a [u8]) -> Result<Self, Refusal> {
+        let mut numbers = [0u64; 13];
+        answered(gm_read_timestamp(body, &mut numbers))?;
+        let [
+            known,
+            negative,
+            minutes,
+            count,
+            year,
+            month,
+            day,
+            hour,
+            minute,
+            second,
+            digits,
+            coefficient,
+            marked,
+        ] = numbers;
+        let offset = Signed {
+            negative: negative != 0,
+            magnitude: minutes,
+        };
+        Ok(Timestamp {
+            offset: Offset((known != 0).then_some(offset)),
+            fields: Fields {
+                all: [year, month, day, hour, minute, second],
+                count: count as usize,
+            },
+            fraction: Fraction {
+                digits,
+                coefficient: Int::from(behind(body, coefficient as usize)),
+            },
+            out_of_calendar: marked != 0,
+        })
+    }
+}
+
+impl fmt::Display for Timestamp<'_> {
+    fn fmt<W: fmt::Write>(&self, f: &mut fmt::Formatter<W>) -> fmt::Result {
+        write!(f, "t{}:{}:{}", self.offset, self.fields, self.fraction)?;
+        if self.out_of_calendar {
+            f.write_str(" out-of-calendar")?;
         }
-        print!(rt; "{field}")?;
-    }
-    Ok(())
-}
-
-fn print_fraction(rt: &impl Print, digits: u64, coefficient: &[u8]) -> io::Result<()> {
-    print!(rt; ":")?;
-    if digits == 0 {
-        return Ok(());
-    }
-    print!(rt; "{digits},")?;
-    print_int_magnitude(rt, coefficient)
-}
-
-fn print_mark(rt: &impl Print, out_of_calendar: bool) -> io::Result<()> {
-    if out_of_calendar {
-        return print!(rt; " out-of-calendar");
-    }
-    Ok(())
-}
-
-fn print_timestamp(rt: &impl Print, body: &[u8]) -> io::Result<()> {
-    let mut timestamp = [0u64; 13];
-    let refusal = gm_read_timestamp(body, &mut timestamp);
-    if refusal != 0 {
-        return print_refusal(rt, refusal);
-    }
-    print!(rt; "t")?;
-    print_offset(rt, timestamp[0] != 0, timestamp[1] != 0, timestamp[2])?;
-    let count = timestamp[3];
-    print_fields(rt, &timestamp[4..10], count)?;
-    print_fraction(rt, timestamp[10], behind(body, timestamp[11] as usize))?;
-    print_mark(rt, timestamp[12] != 0)
-}
-
-fn print_symbol(rt: &impl Print, body: &[u8]) -> io::Result<()> {
-    let mut sid = [0u64; 1];
-    let refusal = gm_read_symbol(body, &mut sid);
-    if refusal != 0 {
-        return print_refusal(rt, refusal);
-    }
-    print!(rt; "s{}", sid[0])
-}
-
-// By the type code. What is no code of a value is a struct's here.
-fn print_by_code(rt: &impl Print, kind: u8, body: &[u8]) -> io::Result<()> {
-    match kind / 16 {
-        1 => print_bool(rt, kind % 16),
-        2 => print_int(rt, "+", body),
-        3 => print_int(rt, "-", body),
-        4 => print_lob(rt, "f", body),
-        5 => print_decimal(rt, body),
-        6 => print_timestamp(rt, body),
-        7 => print_symbol(rt, body),
-        8 => print_lob(rt, "u", body),
-        9 => print_lob(rt, "c", body),
-        10 => print_lob(rt, "o", body),
-        11 => print!(rt; "["),
-        12 => print!(rt; "("),
-        _ => print!(rt; "{{"),
+        Ok(())
     }
 }
 
-pub(crate) fn print_value(rt: &impl Print, kind: u8, body: &[u8]) -> io::Result<()> {
-    if kind % 16 == NULL {
-        return print_null(rt, kind / 16);
+// A symbol's number.
+#[derive(Clone, Copy)]
+struct Sid(u64);
+
+impl TryFrom<&[u8]> for Sid {
+    type Error = Refusal;
+
+    fn try_from(body: &[u8]) -> Result<Self, Refusal> {
+        let mut numbers = [0u64; 1];
+        answered(gm_read_symbol(body, &mut numbers))?;
+        let [sid] = numbers;
+        Ok(Sid(sid))
     }
-    print_by_code(rt, kind, body)
+}
+
+impl fmt::Display for Sid {
+    fn fmt<W: fmt::Write>(&self, f: &mut fmt::Formatter<W>) -> fmt::Result {
+        write!(f, "s{}", self.0)
+    }
+}
+
+// What a body reads as, or why it is refused.
+fn write_read<T: fmt::Display + Drop, W: fmt::Write>(
+    f: &mut fmt::Formatter<W>,
+    read: Result<T, Refusal>,
+) -> fmt::Result {
+    match read {
+        Ok(value) => write!(f, "{value}"),
+        Err(refusal) => write!(f, "{refusal}"),
+    }
+}
+
+// A value, of which a container is shown by its bracket.
+#[derive(Clone, Copy)]
+pub(crate) struct Value<'a> {
+    pub(crate) kind: u8,
+    pub(crate) body: &'a [u8],
+}
+
+impl fmt::Display for Value<'_> {
+    fn fmt<W: fmt::Write>(&self, f: &mut fmt::Formatter<W>) -> fmt::Result {
+        let body = self.body;
+        match (self.kind / 16, self.kind % 16) {
+            (NEGATIVE_INT, NULL) => write!(f, "n{INT}"),
+            (code, NULL) => write!(f, "n{code}"),
+            (1, bit) => write!(f, "b{bit}"),
+            (INT, _) => write!(f, "i+{}", uint(body)),
+            (NEGATIVE_INT, _) => write!(f, "i-{}", uint(body)),
+            (4, _) => write!(f, "f{}", Hex(body)),
+            (5, _) => write_read(f, Decimal::try_from(body)),
+            (6, _) => write_read(f, Timestamp::try_from(body)),
+            (7, _) => write_read(f, Sid::try_from(body)),
+            (8, _) => write!(f, "u{}", Hex(body)),
+            (9, _) => write!(f, "c{}", Hex(body)),
+            (10, _) => write!(f, "o{}", Hex(body)),
+            (11, _) => f.write_str("["),
+            (12, _) => f.write_str("("),
+            // What is no code of a value is a struct's here.
+            _ => f.write_str("{"),
+        }
+    }
 }

@@ -1,26 +1,12 @@
 // The walk over a stream by the reader's entry points: item by item, containers entered.
-ghost use Rattle.std.specs.Prelude.{◌≤◌, length};
-ghost use Rattle.reads.specs.Standing.{Standing};
+ghost use Rattle.std.specs.Prelude.{◌≡◌, ◌≤◌, length};
 
-use crate::values::{print_refusal, print_value};
+use crate::refusal::{Refusal, answered};
+use crate::values::Value;
 use entry_reading::{gm_read_item, gm_read_rest, gm_read_sid};
-use std::io;
-use words::least;
+use std::{fmt, io};
 
 const MOST_OPEN: usize = 32;
-
-// The numbers of an item.
-const NAME: usize = 0;
-
-const SIDS: usize = 1;
-
-const SIDS_END: usize = 2;
-
-const KIND: usize = 3;
-
-const START: usize = 4;
-
-const STOP: usize = 5;
 
 // The least type byte that is no pad's, that of a marker, and what stands for no item more.
 const PAST_PADS: u8 = 0x0F;
@@ -28,6 +14,105 @@ const PAST_PADS: u8 = 0x0F;
 const MARKER: u8 = 0xE0;
 
 const NO_MORE: u8 = 0xFF;
+
+// The bytes between two places, as far as the stream has them.
+fn part(stream: &[u8], from: usize, to: usize) -> &[u8] {
+    let end = to.min(stream.len());
+    &stream[from.min(end)..end]
+}
+
+fn is_struct(kind: u8) -> bool {
+    (0xD0..0xDF).contains(&kind)
+}
+
+// An item: its name in a struct, where the sids of its annotations stand, its type byte, and where its body stands.
+#[derive(Clone, Copy)]
+struct Item {
+    name: u64,
+    sids: usize,
+    sids_end: usize,
+    kind: u8,
+    start: usize,
+    stop: usize,
+}
+
+// The numbers that `gm_read_item` puts.
+impl From<[u64; 6]> for Item {
+    fn from(numbers: [u64; 6]) -> Self {
+        let [name, sids, sids_end, kind, start, stop] = numbers;
+        Item {
+            name,
+            sids: sids as usize,
+            sids_end: sids_end as usize,
+            kind: (kind % 256) as u8,
+            start: start as usize,
+            stop: stop as usize,
+        }
+    }
+}
+
+impl Item {
+    fn is_pad(&self) -> bool {
+        self.kind < PAST_PADS
+    }
+
+    // A list, an s-expression or a struct that is not null.
+    fn opens(&self) -> bool {
+        (0xB0..0xDF).contains(&self.kind) && self.kind % 16 != 15
+    }
+}
+
+// A sid and the place behind it.
+fn sid_at(sids: &[u8], at: usize) -> Result<(u64, usize), Refusal> {
+    let mut numbers = [0u64; 2];
+    answered(gm_read_sid(sids, at, &mut numbers))?;
+    let [sid, next] = numbers;
+    Ok((sid, next as usize))
+}
+
+// The sids that fill a part.
+#[derive(Clone, Copy)]
+struct Annotations<'a>(&'a [u8]);
+
+impl fmt::Display for Annotations<'_> {
+    fn fmt<W: fmt::Write>(&self, f: &mut fmt::Formatter<W>) -> fmt::Result {
+        let sids = self.0;
+        let mut at: usize = 0;
+        // Each has a byte at least, so as many turns do.
+        for _ in 0..sids.len() {
+            if sids.len() <= at {
+                break;
+            }
+            match sid_at(sids, at) {
+                Ok((sid, next)) => {
+                    write!(f, "{sid}::")?;
+                    at = next;
+                }
+                Err(refusal) => return write!(f, "{refusal}"),
+            }
+        }
+        Ok(())
+    }
+}
+
+// Prints what an item shows, which a pad does not.
+fn print_item(rt: &impl Print, stream: &[u8], holder: Holder, item: Item) -> io::Result<()> {
+    if item.is_pad() {
+        return Ok(());
+    }
+    if item.kind == MARKER {
+        return print!(rt; "m ");
+    }
+    if is_struct(holder.kind) {
+        print!(rt; "{}=", item.name)?;
+    }
+    let annotations = Annotations(part(stream, item.sids, item.sids_end));
+    let value = Value {
+        kind: item.kind,
+        body: part(stream, item.start, item.stop),
+    };
+    print!(rt; "{annotations}{value} ")
+}
 
 // What holds an item, a container or the stream: where it ends, its type byte, which is 0 for the stream, and the least name that may follow in it.
 #[derive(Clone, Copy)]
@@ -38,236 +123,146 @@ struct Holder {
 }
 
 // Where a walk stands: the position, and what holds it, the stream first and then the containers that were entered.
-#[derive(Clone, Copy)]
+#[derive(Drop)]
 struct Walk {
     position: usize,
     depth: usize,
     holders: [Holder; MOST_OPEN + 1],
+    ghost standing: { (depth ≤ 32) × (length holders ≡ 33) },
 }
 
-// How a walk ended: a refusal's number, or 0, and the place.
-#[derive(Clone, Copy)]
-struct Ending {
-    refusal: u8,
-    place: usize,
-}
-
-// No refusal: the turns ran out before the walk ended.
-const ENDLESS: u8 = 255;
-
-// The bytes between two places, as far as the stream has them.
-fn part<'a>(stream: &'a [u8], from: u64, to: u64) -> &'a [u8] {
-    let end = least(to as usize, stream.len());
-    let start = least(from as usize, end);
-    &stream[start..end]
-}
-
-fn kind_of(item: &[u64; 6]) -> u8 {
-    (item[KIND] % 256) as u8
-}
-
-fn is_struct(kind: u8) -> bool {
-    (0xD0 <= kind) & (kind < 0xDF)
-}
-
-// A list, an s-expression or a struct that is not null.
-fn opens(kind: u8) -> bool {
-    (0xB0 <= kind) & (kind < 0xDF) & (kind % 16 != 15)
-}
-
-// Prints the sids that fill a part. Each has a byte at least, so as many turns do.
-fn print_annotations(rt: &impl Print, sids: &[u8]) -> io::Result<()> {
-    let mut at: usize = 0;
-    for _ in 0..sids.len() {
-        if sids.len() <= at {
-            return Ok(());
+impl Walk {
+    fn new(end: usize, position: usize) -> Self {
+        let stream = Holder {
+            end,
+            kind: 0,
+            least: 0,
+        };
+        Walk {
+            position,
+            depth: 0,
+            holders: [stream; MOST_OPEN + 1],
         }
-        let mut sid = [0u64; 2];
-        let refusal = gm_read_sid(sids, at, &mut sid);
-        if refusal != 0 {
-            return print_refusal(rt, refusal);
+    }
+
+    // What holds the position.
+    fn innermost(&self) -> Holder {
+        self.holders[self.depth]
+    }
+
+    // The item at the position, or none where what holds it ends.
+    fn read(&self, stream: &[u8]) -> Result<Option<Item>, Refusal> {
+        let holder = self.innermost();
+        let mut numbers = [0u64; 6];
+        answered(gm_read_item(
+            stream,
+            holder.end,
+            holder.kind,
+            holder.least,
+            self.depth as u8,
+            self.position,
+            &mut numbers,
+        ))?;
+        let item = Item::from(numbers);
+        Ok((item.kind != NO_MORE).then_some(item))
+    }
+
+    // Goes behind the container that was entered last, if there is one.
+    fn leave(&mut self) -> bool {
+        if self.depth == 0 {
+            return false;
         }
-        print!(rt; "{}::", sid[0])?;
-        at = sid[1] as usize;
+        self.position = self.innermost().end;
+        self.depth -= 1;
+        true
     }
-    Ok(())
-}
 
-fn print_name(rt: &impl Print, holder: u8, name: u64) -> io::Result<()> {
-    if is_struct(holder) {
-        return print!(rt; "{name}=");
+    // Goes behind an item. The name of a pad does not count.
+    fn pass(&mut self, item: Item) {
+        self.position = item.stop;
+        if !item.is_pad() {
+            self.holders[self.depth].least = item.name;
+        }
     }
-    Ok(())
-}
 
-fn print_named(rt: &impl Print, stream: &[u8], holder: u8, item: &[u64; 6]) -> io::Result<()> {
-    print_name(rt, holder, item[NAME])?;
-    print_annotations(rt, part(stream, item[SIDS], item[SIDS_END]))?;
-    print_value(rt, kind_of(item), part(stream, item[START], item[STOP]))?;
-    print!(rt; " ")
-}
-
-// Prints what an item shows, which a pad does not.
-fn print_item(rt: &impl Print, stream: &[u8], holder: u8, item: &[u64; 6]) -> io::Result<()> {
-    let kind = kind_of(item);
-    if kind < PAST_PADS {
-        return Ok(());
-    }
-    match kind {
-        MARKER => print!(rt; "m "),
-        NO_MORE => print!(rt; ". "),
-        _ => print_named(rt, stream, holder, item),
+    // Goes into a container. The reader refuses one for which there is no room.
+    fn enter(&mut self, item: Item) {
+        if self.depth < MOST_OPEN {
+            self.position = item.start;
+            self.depth += 1;
+            self.holders[self.depth] = Holder {
+                end: item.stop,
+                kind: item.kind,
+                least: 0,
+            };
+        }
     }
 }
 
-fn start(end: usize, position: usize) -> Walk
-    ensures { Standing result }
-{
-    let stream = Holder {
-        end,
-        kind: 0,
-        least: 0,
-    };
-    Walk {
-        position,
-        depth: 0,
-        holders: [stream; MOST_OPEN + 1],
+// How a walk ended: where the stream does, or at a place whose item was refused.
+#[derive(Clone, Copy, PartialEq, Eq, Drop)]
+enum Ending {
+    Whole,
+    Refused { refusal: Refusal, place: usize },
+    // The turns ran out, which no refusal's number says.
+    Endless { place: usize },
+}
+
+impl fmt::Display for Ending {
+    fn fmt<W: fmt::Write>(&self, f: &mut fmt::Formatter<W>) -> fmt::Result {
+        match *self {
+            Ending::Whole => f.write_str("whole"),
+            Ending::Refused { refusal, place } => write!(f, "{refusal}@{place}"),
+            Ending::Endless { place } => write!(f, "!255@{place}"),
+        }
     }
-}
-
-// What holds the position.
-fn innermost(walk: Walk) -> Holder
-    requires { Standing walk }
-{
-    walk.holders[walk.depth]
-}
-
-fn read_item(stream: &[u8], walk: Walk, item: &mut [u64; 6]) -> u8
-    requires { Standing walk }
-{
-    let holder = innermost(walk);
-    gm_read_item(
-        stream,
-        holder.end,
-        holder.kind,
-        holder.least,
-        walk.depth as u8,
-        walk.position,
-        item,
-    )
-}
-
-// The walk behind the container that it entered last.
-fn left(walk: Walk) -> Walk
-    requires { Standing walk }
-    ensures { Standing result }
-{
-    if walk.depth == 0 {
-        return walk;
-    }
-    let mut next = walk;
-    next.position = innermost(walk).end;
-    next.depth -= 1;
-    next
-}
-
-// The walk behind an item. The name of a pad does not count.
-fn passed(walk: Walk, item: &[u64; 6]) -> Walk
-    requires { Standing walk }
-    ensures { Standing result }
-{
-    let mut next = walk;
-    next.position = item[STOP] as usize;
-    if PAST_PADS <= kind_of(item) {
-        let depth = walk.depth;
-        next.holders[depth].least = item[NAME];
-    }
-    next
-}
-
-// The walk in a container. The reader refuses one for which there is no room.
-fn entered(walk: Walk, item: &[u64; 6]) -> Walk
-    requires { Standing walk }
-    ensures { Standing result }
-{
-    if walk.depth == MOST_OPEN {
-        return walk;
-    }
-    let mut next = walk;
-    next.position = item[START] as usize;
-    next.depth += 1;
-    next.holders[next.depth] = Holder {
-        end: item[STOP] as usize,
-        kind: kind_of(item),
-        least: 0,
-    };
-    next
-}
-
-// The walk one item on.
-fn moved(walk: Walk, item: &[u64; 6]) -> Walk
-    requires { Standing walk }
-    ensures { Standing result }
-{
-    let kind = kind_of(item);
-    if kind == NO_MORE {
-        return left(walk);
-    }
-    if opens(kind) {
-        return entered(passed(walk, item), item);
-    }
-    passed(walk, item)
-}
-
-// Whether the stream ends where there is no item more.
-fn ends(walk: Walk, item: &[u64; 6]) -> bool {
-    (walk.depth == 0) & (kind_of(item) == NO_MORE)
 }
 
 // Each turn reads an item, of a byte at least, or leaves a container.
 fn walked(rt: &impl Print, stream: &[u8], position: usize) -> io::Result<Ending>
     requires { length stream.now ≤ 8192 }
 {
-    let mut walk = start(stream.len(), position);
-    let turns = 2 * stream.len() + 1;
-    for _ in 0..turns {
-        let mut item = [0u64; 6];
-        let refusal = read_item(stream, walk, &mut item);
-        if (refusal != 0) | ends(walk, &item) {
-            return Ok(Ending {
-                refusal,
-                place: walk.position,
-            });
+    let mut walk = Walk::new(stream.len(), position);
+    for _ in 0..2 * stream.len() + 1 {
+        match walk.read(stream) {
+            Err(refusal) => {
+                return Ok(Ending::Refused {
+                    refusal,
+                    place: walk.position,
+                });
+            }
+            Ok(Some(item)) => {
+                print_item(rt, stream, walk.innermost(), item)?;
+                walk.pass(item);
+                if item.opens() {
+                    walk.enter(item);
+                }
+            }
+            Ok(None) => {
+                if !walk.leave() {
+                    return Ok(Ending::Whole);
+                }
+                print!(rt; ". ")?;
+            }
         }
-        print_item(rt, stream, innermost(walk).kind, &item)?;
-        walk = moved(walk, &item);
     }
-    Ok(Ending {
-        refusal: ENDLESS,
+    Ok(Ending::Endless {
         place: walk.position,
     })
 }
 
-fn print_ending(rt: &impl Print, ending: Ending) -> io::Result<()> {
-    if ending.refusal == 0 {
-        return print!(rt; "whole");
-    }
-    print_refusal(rt, ending.refusal)?;
-    print!(rt; "@{}", ending.place)
-}
-
 // How `gm_read_rest` says that a walk ends.
 fn rest(stream: &[u8], position: usize) -> Ending {
-    let mut place = [0u64; 1];
-    let refusal = gm_read_rest(stream, stream.len(), 0, 0, 0, position, &mut place);
-    Ending {
-        refusal,
-        place: place[0] as usize,
+    let mut numbers = [0u64; 1];
+    let answer = answered(gm_read_rest(stream, stream.len(), 0, 0, 0, position, &mut numbers));
+    let [place] = numbers;
+    match answer {
+        Ok(()) => Ending::Whole,
+        Err(refusal) => Ending::Refused {
+            refusal,
+            place: place as usize,
+        },
     }
-}
-
-fn are_same(a: Ending, b: Ending) -> bool {
-    (a.refusal == b.refusal) & ((a.refusal == 0) | (a.place == b.place))
 }
 
 // Prints what the walk from a position shows, and how it ended; behind it the ending by `gm_read_rest`, if that is another.
@@ -275,11 +270,10 @@ pub(crate) fn print_walk(rt: &impl Print, stream: &[u8], position: usize) -> io:
     requires { length stream.now ≤ 8192 }
 {
     let ending = walked(rt, stream, position)?;
-    print_ending(rt, ending)?;
+    print!(rt; "{ending}")?;
     let whole = rest(stream, position);
-    if !are_same(ending, whole) {
-        print!(rt; " but rest ")?;
-        print_ending(rt, whole)?;
+    if ending != whole {
+        print!(rt; " but rest {whole}")?;
     }
     Ok(())
 }

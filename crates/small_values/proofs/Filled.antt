@@ -5,6 +5,7 @@ use native.Mathlib.Omega.{arith}
 use native.Mathlib.Nat.{zero-add}
 use mathlib.Core.Path.{◌≡◌, ◌∙◌, ap}
 use mathlib.Core.List.{List, [], ◌∷◌, ◌++◌, append-nil}
+use Rattle.std.specs.Prelude.{Option}
 use lib.ListN.{length, take, drop, length-append}
 use lib.Seq.{length-take-le, take_at, drop-length}
 use Rattle.encoding.specs.Digits.{low_digits}
@@ -15,8 +16,8 @@ use Rattle.buffer.proofs.Laid.{placed-fits, laid_is}
 laid_all : (b out : List ℕ) → length out ≡ length b → laid b 0 out ≡ out
 laid_all b out e = laid_is b 0 out ∙ rw (zero-add (length out), e, drop-length b) (append-nil out)
 
-pub filled : (b out : List ℕ) (n : ℕ) (l : List ℕ) → length out ≡ length b → ◌≡◌ {A = ℕ × List ℕ} (n, l) (placed b 0 out) → l ≡ out
-filled b out n l e q = ap (λ (x : ℕ × List ℕ). x.1) (q ∙ placed-fits b 0 out (omega arith)) ∙ laid_all b out e
+pub filled : (b out : List ℕ) (n : Option ℕ) (l : List ℕ) → length out ≡ length b → ◌≡◌ {A = Option ℕ × List ℕ} (n, l) (placed b 0 out) → l ≡ out
+filled b out n l e q = ap (λ (x : Option ℕ × List ℕ). x.1) (q ∙ placed-fits b 0 out (omega arith)) ∙ laid_all b out e
 
 -- the array that a string is spelled in
 abbrev pub zeros : List ℕ

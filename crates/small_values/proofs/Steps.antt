@@ -1,17 +1,30 @@
 -- The next small value, from a number on: that number, or the next one from the number behind it; and the limits of the sizes.
 -- Assumes nothing.
-use Prim.Native.Nat.{ℕ, suc, ◌+◌, ◌-◌, ◌<◌, ◌≤◌}
+use Prim.Native.Nat.{ℕ, zero, suc, ◌+◌, ◌-◌, ◌^◌, ◌<◌, ◌≤◌}
 use native.Mathlib.Omega.{arith}
-use mathlib.Core.Path.{◌≡◌, refl}
+use mathlib.Core.Path.{◌≡◌, refl, ap}
 use mathlib.Core.Bool.{true, false}
-use borrow.Author.Tests.{lt-leb}
+use lib.Dec.{ltb}
+use Rattle.std.specs.Prelude.{Some, None}
+use borrow.Author.Tests.{lt-leb, lt-ltb, le-ltb, ltb-true, ltb-false}
+use Rattle.ion.proofs.Tests.{by_cases}
 use Rattle.encoding.specs.Digits.{low_digits}
 use Rattle.unpadded.specs.Rule.{is_one_value}
-use Rattle.small_values.specs.Listing.{limit, first_from, next_of}
+use Rattle.small_values.specs.Listing.{limit, first_from, next_of, next_value}
+
+pub power_fits : (n : ℕ) → n ≤ 3 → 256 ^ n < 4294967296
+power_fits zero h = omega arith
+power_fits (suc zero) h = omega arith
+power_fits (suc (suc zero)) h = omega arith
+power_fits (suc (suc (suc zero))) h = omega arith
+power_fits (suc (suc (suc (suc n)))) h = absurd (omega arith)
 
 pub limit-none : (n : ℕ) → 3 < n → limit n ≡ 0
 unfolding limit
 limit-none n h = rw (lt-leb n 3 h) refl
+
+pub asked : (n x : ℕ) → x < limit n → n ≤ 3
+asked n x h = by_cases (ltb 3 n) (λ e. absurd (omega (arith, h, limit-none n (ltb-true 3 n e)))) (λ e. ltb-false 3 n e)
 
 module _ (n x : ℕ) where
   pub next_here : x < limit n → is_one_value (low_digits 256 n x) ≡ true → next_of n x ≡ x
@@ -25,3 +38,12 @@ module _ (n x : ℕ) where
   pub next_end : limit n ≤ x → next_of n x ≡ x
   unfolding next_of first_from
   next_end h = let k : limit n - x ≡ 0 = omega arith in rw k refl
+
+module _ (n x y : ℕ) (e : next_of n x ≡ y) where
+  pub value_is : y < limit n → next_value n x ≡ Some y
+  unfolding next_value
+  value_is h = let f : ltb (next_of n x) (limit n) ≡ true = rw e (lt-ltb y (limit n) h) in rw f (ap (λ (k : ℕ). Some k) e)
+
+  pub no_value : limit n ≤ y → next_value n x ≡ None
+  unfolding next_value
+  no_value h = let f : ltb (next_of n x) (limit n) ≡ false = rw e (le-ltb y (limit n) h) in rw f refl

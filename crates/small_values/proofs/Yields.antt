@@ -8,6 +8,8 @@ use mathlib.Core.Bool.{Bool, true, false, false≢true}
 use mathlib.Core.List.{List, [], ◌∷◌}
 use lib.Dec.{ltb}
 use lib.ListN.{length}
+use Rattle.std.specs.Prelude.{Some}
+use Rattle.std.proofs.lemmas.Option.{cond_some}
 use borrow.Author.Tests.{le-leb, ltb-true, ltb-false}
 use Rattle.ion.specs.Fields.{uint}
 use Rattle.ion.proofs.Tests.{by_cases}
@@ -16,8 +18,9 @@ use Rattle.encoding.specs.Fields.{AllBelow}
 use Rattle.encoding.proofs.Digits.{length-low_digits, big_endian_fixed}
 use Rattle.unpadded.specs.Rule.{is_one_value}
 use Rattle.small_values.specs.Order.{precedes, ◌∈◌, Lists}
-use Rattle.small_values.specs.Listing.{limit, first_from, next_by, next_of, yields_from}
+use Rattle.small_values.specs.Listing.{limit, first_from, next_by, next_of, next_value, yields_from}
 use Rattle.small_values.proofs.Order.{lists_same}
+use Rattle.small_values.proofs.Steps.{power_fits, limit-none}
 use Rattle.small_values.proofs.Numbers.{precedes-numbers, digits-bytes, number-below, digits_number}
 
 pub limit_is : (n : ℕ) → n ≤ 3 → limit n ≡ 256 ^ n
@@ -51,9 +54,21 @@ first_is t (suc k) n x = by_cases (t (low_digits 256 n x))
     (λ e. rw (e) (first_here t k n x e))
     (λ e. rw (e) (first-later t k n x (first_from t k n (x + 1)) e (first_is t k n (x + 1))))
 
-pub next-from : (n x : ℕ) → x ≤ next_of n x
+next-from : (n x : ℕ) → x ≤ next_of n x
 unfolding next_of
 next-from n x = (first_is is_one_value (limit n - x) n x).from
+
+-- the next value's number lies from x on and below the limit, which 32 bits hold
+pub value_within : (n x y : ℕ) → next_value n x ≡ Some y → (x ≤ y) × (y < limit n)
+unfolding next_value
+value_within n x y h =
+    let q = cond_some (ltb (next_of n x) (limit n)) (next_of n x) y h in
+    (omega (arith, next-from n x, q.1), omega (arith, ltb-true (next_of n x) (limit n) q.0, q.1))
+
+pub limit_fits : (n : ℕ) → limit n < 4294967296
+limit_fits n = by_cases (ltb 3 n)
+    (λ e. omega (arith, limit-none n (ltb-true 3 n e)))
+    (λ e. let h = ltb-false 3 n e in omega (arith, limit_is n h, power_fits n h))
 
 -- ---- those that follow
 

@@ -1,6 +1,6 @@
 -- What asking for the next small value again and again yields.
 -- Assumes nothing.
-use Rattle.std.specs.Prelude.{ℕ, zero, suc, ◌+◌, ◌-◌, ◌^◌, ◌≤◌, ◌≡◌, ◌↔◌, Bool, true, cond, List, [], ◌∷◌, ◌++◌, ltb, leb, length}
+use Rattle.std.specs.Prelude.{ℕ, zero, suc, ◌+◌, ◌-◌, ◌^◌, ◌≤◌, ◌≡◌, ◌↔◌, Bool, true, cond, Option, Some, None, List, [], ◌∷◌, ◌++◌, ltb, leb, length}
 use Rattle.ion.specs.Value.{Value, value}
 use Rattle.ion.specs.Grammar.{Reads}
 use Rattle.encoding.specs.Digits.{low_digits}
@@ -25,6 +25,10 @@ next_by t n x = first_from t (limit n - x) n x
 -- The number of the next small value of n bytes, from x on; where there is none, the limit, or x if that is past it.
 unfoldable pub next_of : ℕ → ℕ → ℕ
 next_of n x = next_by is_one_value n x
+
+-- The same, or none.
+unfoldable pub next_value : ℕ → ℕ → Option ℕ
+next_value n x = cond (ltb (next_of n x) (limit n)) (Some (next_of n x)) None
 
 abbrev pub behind_next : (ℕ → List (List ℕ)) → ℕ → ℕ → List (List ℕ)
 behind_next go n y = cond (ltb y (limit n)) (low_digits 256 n y ∷ go (y + 1)) []

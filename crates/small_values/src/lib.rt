@@ -5,17 +5,16 @@ ghost use Rattle.std.specs.Prelude.{◌≡◌, ◌≤◌, length};
 ghost use Rattle.encoding.specs.Digits.{low_digits};
 ghost use Rattle.unpadded.specs.Rule.{is_one_value};
 ghost use Rattle.small_values.specs.Listing as S;
-ghost use Rattle.small_values.specs.Listing.{next_of};
+ghost use Rattle.small_values.specs.Listing.{next_value};
+
+const LONGEST: usize = 3;
 
 // How many byte strings of a size are asked: all up to three bytes.
 pub fn limit(size: usize) -> u32
     ensures { result ≡ S.limit size }
 {
     match size {
-        0 => 1,
-        1 => 256,
-        2 => 65_536,
-        3 => 16_777_216,
+        0..=LONGEST => 256u32.pow(size as u32),
         _ => 0,
     }
 }
@@ -33,22 +32,19 @@ fn is_value(size: usize, number: u32) -> bool
     requires { size ≤ 3 }
     ensures { result ≡ is_one_value (low_digits 256 size number) }
 {
-    let mut bytes = [0u8; 3];
+    let mut bytes = [0u8; LONGEST];
     spell(&mut bytes[..size], number);
     unpadded::is_one_value(&bytes[..size])
 }
 
-// The number of the next small value of a size, from a number on; where there is none, the limit, or that number if it is past the limit.
-pub fn next(size: usize, from: u32) -> u32
-    ensures { result ≡ next_of size from }
+// The number of the next small value of a size, from a number on, if there is one.
+pub fn next(size: usize, from: u32) -> Option<u32>
+    ensures { result ≡ next_value size from }
 {
-    let end = limit(size);
-    let mut number = from;
-    while number < end {
+    for number in from..limit(size) {
         if is_value(size, number) {
-            return number;
+            return Some(number);
         }
-        number += 1;
     }
-    number
+    None
 }

@@ -1,7 +1,6 @@
 -- What the walk along a line keeps. Assumes nothing.
-use Rattle.std.specs.Prelude.{ℕ, ◌<◌, ◌≤◌}
-use Rattle.trial.specs.declared.walk.Step.{Step}
+use Rattle.std.specs.Prelude.{ℕ, ◌<◌, List, length, Result, IfOk}
 
--- A step that goes on from a place, and whose words stand within a line of n bytes.
-abbrev pub Within : ℕ → ℕ → Step → Type 0
-Within at n s = (at < s.at) × (s.from ≤ s.to) × (s.to ≤ n)
+-- A step that is not refused takes some of what was left of the line.
+abbrev pub GoesOn : {A E : Type 0} → Result A E → List ℕ → List ℕ → Type 0
+GoesOn step before behind = IfOk step (λ _. length behind < length before)

@@ -1,120 +1,277 @@
-// Whether a line has the form of document 01, which is refusal 12 where it has not: words, brackets, and the limits of numbers.
-ghost use Rattle.std.specs.Prelude.{◌≤◌, length};
+// The scalars of a line, read by the form of document 01: their words, and the limits of numbers.
+ghost use Rattle.std.specs.Prelude.{◌≤◌, length, IfOk};
 
-use crate::names::{MOST_U64, are_names, is_name};
-use crate::walk;
-use words::hex::is_hex;
-use words::{count, numbers, word};
+use crate::names::{Name, are_names};
+use crate::refused::Refused;
+use crate::walk::Part;
+use words::{count, hex, numbers, word};
 
 const MOST_I32: u64 = 2147483647;
 
-// What `type_code` answers for a word that names no type.
-const NO_TYPE: usize = 14;
-
-// The code in the Ion document of the type that a word names, which is its index here. `int` is found at 2: 3 is the code of negative ints.
-pub(crate) fn type_code(name: &[u8]) -> usize {
-    words::index(
-        b"null bool int int float decimal timestamp symbol string clob blob list sexp struct",
-        name,
-    )
+// The types of the Ion document, by their codes. 3 is that of negative ints.
+#[derive(Clone, Copy)]
+pub(crate) enum Type {
+    Null,
+    Bool,
+    Int,
+    Float = 4,
+    Decimal,
+    Timestamp,
+    Symbol,
+    String,
+    Clob,
+    Blob,
+    List,
+    Sexp,
+    Struct,
 }
 
-fn is_bool(word: &[u8]) -> bool {
-    words::index(b"0 1", word) < 2
-}
+impl TryFrom<&[u8]> for Type {
+    type Error = Refused;
 
-fn is_hex_of(word: &[u8], digits: usize) -> bool {
-    is_hex(word) & (word.len() == digits)
-}
-
-// Whether a word is a hex number with or without minus.
-fn is_integer(word: &[u8]) -> bool {
-    is_hex(numbers::magnitude(word))
-}
-
-fn is_decimal(text: &[u8]) -> bool {
-    (count(text) == 3) & is_integer(word(text, 1)) & numbers::is_i64(word(text, 2))
-}
-
-fn is_offset(word: &[u8]) -> bool {
-    (word == b"?".as_slice()) | numbers::is_i32(word)
-}
-
-// Whether the words from index `from` to before `to` are numbers of at most `limit`.
-fn are_numbers(text: &[u8], from: usize, to: usize, limit: u64) -> bool {
-    let mut i = from;
-    while i < to {
-        if !numbers::is_natural(word(text, i), limit) {
-            return false;
+    fn try_from(word: &[u8]) -> Result<Type, Refused> {
+        match word {
+            b"null" => Ok(Type::Null),
+            b"bool" => Ok(Type::Bool),
+            b"int" => Ok(Type::Int),
+            b"float" => Ok(Type::Float),
+            b"decimal" => Ok(Type::Decimal),
+            b"timestamp" => Ok(Type::Timestamp),
+            b"symbol" => Ok(Type::Symbol),
+            b"string" => Ok(Type::String),
+            b"clob" => Ok(Type::Clob),
+            b"blob" => Ok(Type::Blob),
+            b"list" => Ok(Type::List),
+            b"sexp" => Ok(Type::Sexp),
+            b"struct" => Ok(Type::Struct),
+            _ => Err(Refused::Form),
         }
-        i += 1;
-    }
-    true
-}
-
-// Behind the name and the offset stand 1, 2, 3, 5 or 6 fields, or six and a fraction's digit count and coefficient.
-fn is_timestamp(text: &[u8]) -> bool {
-    let words = count(text);
-    let is_precision = (3 <= words) & (words != 6) & (words != 9) & (words <= 10);
-    is_precision
-        & is_offset(word(text, 1))
-        & are_numbers(text, 2, words::least(words, 9), MOST_I32)
-        & are_numbers(text, 9, words::least(words, 10), MOST_U64)
-}
-
-// Whether behind a name stand hex pairs, or nothing.
-fn are_pairs(text: &[u8]) -> bool {
-    let words = count(text);
-    let pairs = word(text, 1);
-    (words == 1) | ((words == 2) & is_hex(pairs) & (pairs.len() % 2 == 0))
-}
-
-// Whether a scalar whose name has one word behind it is of the form.
-fn is_right_word(scalar: usize, word: &[u8]) -> bool {
-    match scalar {
-        walk::NULL => type_code(word) != NO_TYPE,
-        walk::BOOL => is_bool(word),
-        walk::I64 => numbers::is_i64(word),
-        walk::INT => is_integer(word),
-        walk::F32 => is_hex_of(word, 8),
-        walk::F64 => is_hex_of(word, 16),
-        walk::SYMBOL => is_name(word),
-        _ => false,
     }
 }
 
-// Whether the words of a part are of the form.
-fn is_right(part: usize, text: &[u8]) -> bool
-    requires { length text.now ≤ 4096 }
+// The last field that a timestamp has.
+#[derive(Clone, Copy)]
+pub(crate) enum Precision {
+    Year,
+    Month,
+    Day,
+    Minute,
+    Second,
+}
+
+impl Precision {
+    // By the words of a timestamp: its name, the offset, 1, 2, 3, 5 or 6 fields, and a fraction's digit count and coefficient.
+    fn of(words: usize) -> Result<Precision, Refused> {
+        match words {
+            3 => Ok(Precision::Year),
+            4 => Ok(Precision::Month),
+            5 => Ok(Precision::Day),
+            7 => Ok(Precision::Minute),
+            8 | 10 => Ok(Precision::Second),
+            _ => Err(Refused::Form),
+        }
+    }
+}
+
+#[derive(Clone, Copy)]
+pub(crate) struct Fraction {
+    pub(crate) digits: u32,
+    pub(crate) coefficient: u64,
+}
+
+// A field that is not there is 0.
+#[derive(Clone, Copy)]
+pub(crate) struct Timestamp {
+    pub(crate) precision: Precision,
+    pub(crate) offset: Option<i32>,
+    pub(crate) year: u32,
+    pub(crate) month: u32,
+    pub(crate) day: u32,
+    pub(crate) hour: u32,
+    pub(crate) minute: u32,
+    pub(crate) second: u32,
+    pub(crate) fraction: Option<Fraction>,
+}
+
+impl TryFrom<&[u8]> for Timestamp {
+    type Error = Refused;
+
+    fn try_from(text: &[u8]) -> Result<Timestamp, Refused> {
+        let words = count(text);
+        Ok(Timestamp {
+            precision: Precision::of(words)?,
+            offset: offset(word(text, 1))?,
+            year: field(text, words, 2)?,
+            month: field(text, words, 3)?,
+            day: field(text, words, 4)?,
+            hour: field(text, words, 5)?,
+            minute: field(text, words, 6)?,
+            second: field(text, words, 7)?,
+            fraction: fraction_of(text, words)?,
+        })
+    }
+}
+
+// A number of at most `most`.
+fn number(word: &[u8], most: u64) -> Result<u64, Refused>
+    ensures { IfOk result (λ n. n ≤ most) }
 {
+    numbers::natural(word, most).ok_or(Refused::Form)
+}
+
+fn signed_number(word: &[u8]) -> Result<i64, Refused> {
+    numbers::i64_of(word).ok_or(Refused::Form)
+}
+
+// An offset, which may be unknown.
+fn offset(word: &[u8]) -> Result<Option<i32>, Refused> {
+    match word {
+        b"?" => Ok(None),
+        _ => Ok(Some(numbers::i32_of(word).ok_or(Refused::Form)?)),
+    }
+}
+
+// The field of a timestamp at a word, or 0 where it has no such word.
+fn field(text: &[u8], words: usize, i: usize) -> Result<u32, Refused> {
+    if words <= i {
+        return Ok(0);
+    }
+    Ok(number(word(text, i), MOST_I32)? as u32)
+}
+
+fn fraction_of(text: &[u8], words: usize) -> Result<Option<Fraction>, Refused> {
+    if words < 10 {
+        return Ok(None);
+    }
+    Ok(Some(Fraction {
+        digits: field(text, words, 8)?,
+        coefficient: number(word(text, 9), u64::MAX)?,
+    }))
+}
+
+// A scalar. Of an int, a coefficient, a string, a clob and a blob it has the word that spells them in hex.
+#[derive(Clone, Copy)]
+pub(crate) enum Scalar<'a> {
+    Null(Type),
+    Bool(bool),
+    I64(i64),
+    Int(&'a [u8]),
+    F32(u32),
+    F64(u64),
+    Decimal(&'a [u8], i64),
+    // As its words.
+    Timestamp(&'a [u8]),
+    Symbol(Name),
+    String(&'a [u8]),
+    Clob(&'a [u8]),
+    Blob(&'a [u8]),
+}
+
+impl<'a> TryFrom<&'a [u8]> for Scalar<'a> {
+    type Error = Refused;
+
+    fn try_from(text: &'a [u8]) -> Result<Scalar<'a>, Refused> {
+        let word = only_word(text);
+        match first_word(text) {
+            b"null" => Ok(Scalar::Null(Type::try_from(word?)?)),
+            b"bool" => Ok(Scalar::Bool(bit(word?)?)),
+            b"i64" => Ok(Scalar::I64(signed_number(word?)?)),
+            b"int" => Ok(Scalar::Int(integer(word?)?)),
+            b"f32" => Ok(Scalar::F32((bits(word?, 8)? % 0x1_0000_0000) as u32)),
+            b"f64" => Ok(Scalar::F64(bits(word?, 16)?)),
+            b"dec" => decimal(text),
+            b"ts" => Ok(Scalar::Timestamp(text)),
+            b"symbol" => Ok(Scalar::Symbol(Name::try_from(word?)?)),
+            b"string" => Ok(Scalar::String(pairs(text)?)),
+            b"clob" => Ok(Scalar::Clob(pairs(text)?)),
+            b"blob" => Ok(Scalar::Blob(pairs(text)?)),
+            _ => Err(Refused::Form),
+        }
+    }
+}
+
+pub(crate) fn first_word(text: &[u8]) -> &[u8]
+    ensures { length result.now ≤ length text.now }
+{
+    match text.iter().position(|byte| *byte == b' ') {
+        Some(end) => &text[..end],
+        None => text,
+    }
+}
+
+// The word behind a name, where there is just one.
+fn only_word(text: &[u8]) -> Result<&[u8], Refused> {
+    let mut words = text.split(|byte| *byte == b' ').skip(1);
+    let word = words.next().ok_or(Refused::Form)?;
+    match words.next() {
+        None => Ok(word),
+        Some(_) => Err(Refused::Form),
+    }
+}
+
+fn bit(word: &[u8]) -> Result<bool, Refused> {
+    match word {
+        b"0" => Ok(false),
+        b"1" => Ok(true),
+        _ => Err(Refused::Form),
+    }
+}
+
+// A hex number of so many digits.
+fn bits(word: &[u8], digits: usize) -> Result<u64, Refused> {
+    if hex::is_hex(word) && word.len() == digits {
+        Ok(hex::bits(word))
+    } else {
+        Err(Refused::Form)
+    }
+}
+
+// A hex number with or without minus.
+fn integer(word: &[u8]) -> Result<&[u8], Refused> {
+    if hex::is_hex(numbers::magnitude(word)) {
+        Ok(word)
+    } else {
+        Err(Refused::Form)
+    }
+}
+
+fn decimal(text: &[u8]) -> Result<Scalar<'_>, Refused> {
+    if count(text) != 3 {
+        return Err(Refused::Form);
+    }
+    Ok(Scalar::Decimal(integer(word(text, 1))?, signed_number(word(text, 2))?))
+}
+
+// The hex pairs behind a name, or nothing.
+fn pairs(text: &[u8]) -> Result<&[u8], Refused> {
+    if count(text) == 1 {
+        return Ok(&[]);
+    }
+    let pairs = only_word(text)?;
+    if hex::is_hex(pairs) && pairs.len() % 2 == 0 {
+        Ok(pairs)
+    } else {
+        Err(Refused::Form)
+    }
+}
+
+// Reads the words of a part.
+pub(crate) fn check(part: Part) -> Result<(), Refused> {
     match part {
-        walk::DECIMAL => is_decimal(text),
-        walk::TIMESTAMP => is_timestamp(text),
-        walk::STRING | walk::CLOB | walk::BLOB => are_pairs(text),
-        walk::ANNOTATIONS => are_names(text),
-        walk::NAME => is_name(text),
-        walk::LIST | walk::SEXP | walk::STRUCT | walk::CLOSE | walk::MARK => true,
-        _ => (count(text) == 2) & is_right_word(part, word(text, 1)),
-    }
-}
-
-// Whether a line is a value and nothing else.
-pub(crate) fn is_value(line: &[u8], stack: &mut [u8; 4097]) -> bool
-    requires { length line.now ≤ 4096 }
-{
-    let mut at: usize = 0;
-    let mut depth: usize = 0;
-    let mut due = walk::VALUE;
-    while at < line.len() {
-        let step = walk::next(line, at, due);
-        let from = step.from;
-        let to = step.to;
-        if !is_right(step.part, &line[from..to]) {
-            return false;
+        Part::Scalar(text) => {
+            if let Scalar::Timestamp(text) = Scalar::try_from(text)? {
+                Timestamp::try_from(text)?;
+            }
         }
-        depth = walk::depth_behind(stack, depth, step);
-        due = walk::due_behind(stack, depth, step);
-        at = step.at;
+        Part::Name(word) => {
+            Name::try_from(word)?;
+        }
+        Part::Annotations(names) => {
+            if !are_names(names) {
+                return Err(Refused::Form);
+            }
+        }
+        Part::Opening(_) | Part::Closing | Part::Mark => (),
     }
-    due == walk::NOTHING
+    Ok(())
 }

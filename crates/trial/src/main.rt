@@ -2,48 +2,28 @@
 // number of the refusal.
 #![tactic(auto)]
 
+mod filled;
 mod form;
 mod names;
+mod refused;
 mod run;
 mod walk;
 
-ghost use Rattle.std.specs.Prelude.{◌≡◌, ◌+◌, ◌≤◌, length, IfOk};
+ghost use Rattle.std.specs.Prelude.{◌+◌, ◌≤◌, length, IfOk};
 
-use goatminute::STATE_SIZE;
+use filled::Filled;
+use run::Writer;
 use std::fmt;
+use std::fmt::Write;
 use std::io::Read;
 use std::process::ExitCode;
-
-const ROOM: usize = 16384;
+use walk::{TOO_LONG, Walk};
 
 // How many bytes are read or printed at once, at most.
 const BLOCK: usize = 65536;
 
-// How many bytes may wait to be printed where an answer, of at most two digits for each byte of `ROOM` and a line feed, is put behind them.
+// How many bytes may wait to be printed where an answer, of at most two digits for each byte of a buffer and a line feed, is put behind them.
 const MOST_WAITING: usize = 32767;
-
-// Puts `!` and the number of a refusal, of one digit or two, and answers how many bytes these are.
-fn put_refusal(out: &mut [u8], at: usize, number: u8) -> usize
-    ensures { result ≤ 3 }
-{
-    let ones = b'0' + number % 10;
-    if number < 10 {
-        return words::least(buffer::copy(out, at, &[b'!', ones]), 3);
-    }
-    words::least(
-        buffer::copy(out, at, &[b'!', b'0' + number / 10 % 10, ones]),
-        3,
-    )
-}
-
-// Puts the finished bytes in hex, and answers how many digits these are.
-fn put_finished(out: &mut [u8], at: usize, state: &[u8; STATE_SIZE], buf: &[u8; 16384]) -> usize
-    ensures { result ≤ 32768 }
-{
-    let bytes: &[u8] = buf;
-    let n = words::least(goatminute::gm_finished(state, bytes), ROOM);
-    words::hex::put(out, at, &bytes[0..n])
-}
 
 // Why the answers are not whole.
 #[derive(Debug, Drop)]
@@ -61,58 +41,47 @@ impl fmt::Display for Failure {
     }
 }
 
-// Puts the answer to a line, and answers how many bytes that is. `buf`, `sids`, `bytes` and `stack` may hold what earlier lines put there: the state
-// is empty, and of each only the part that this line has put is read.
-fn put_answer(
-    line: &[u8],
-    out: &mut [u8],
-    at: usize,
-    buf: &mut [u8; 16384],
-    sids: &mut [u8; 32768],
-    bytes: &mut [u8],
-    stack: &mut [u8; 4097],
-) -> usize
-    ensures { result ≤ 32768 }
-{
-    let mut state = [0u8; STATE_SIZE];
-    let refusal = run::run(line, &mut state, buf, sids, bytes, stack);
-    if refusal != 0 {
-        return put_refusal(out, at, refusal);
-    }
-    put_finished(out, at, &state, buf)
-}
-
-// Puts the answer to a line behind the bytes that wait to be printed. The result is how many wait.
-fn answer(
-    line: &[u8],
-    out: &mut [u8],
-    used: usize,
-    buf: &mut [u8; 16384],
-    sids: &mut [u8; 32768],
-    bytes: &mut [u8],
-    stack: &mut [u8; 4097],
-) -> usize
-    requires { (used ≤ 32767) × (65536 ≤ length out.old) }
-    ensures { result ≤ 65536 }
-{
-    let end = used + put_answer(line, out, used, buf, sids, bytes, stack);
-    out[end] = b'\n';
-    end + 1
-}
-
 fn print(rt: &impl Print, text: &[u8]) -> Result<(), Failure> {
     rt.write_all(text).map_err(|_| Failure::Unwritten)
 }
 
-// Prints the bytes that wait, if they are too many. The result is how many wait then.
-fn print_waiting(rt: &impl Print, waiting: &[u8]) -> Result<usize, Failure>
-    ensures { IfOk result (λ n. n ≤ 32767) }
-{
-    if waiting.len() <= MOST_WAITING {
-        return Ok(waiting.len());
+// The answers that wait to be printed.
+#[derive(Drop)]
+struct Answers {
+    waiting: Filled<BLOCK>,
+}
+
+impl Answers {
+    fn print(&mut self, rt: &impl Print) -> Result<(), Failure>
+        ensures { self.new.waiting.used ≤ 0 }
+    {
+        let printed = print(rt, self.waiting.used());
+        self.waiting.clear();
+        printed
     }
-    print(rt, waiting)?;
-    Ok(0)
+
+    // Prints the answers, if they are too many to put one more behind them.
+    fn make_room(&mut self, rt: &impl Print) -> Result<(), Failure>
+        ensures { IfOk result (λ _. self.new.waiting.used ≤ 32767) }
+    {
+        if MOST_WAITING < self.waiting.used().len() {
+            self.print(rt)?;
+        }
+        Ok(())
+    }
+
+    fn answer<'a>(&mut self, writer: &mut Writer, walk: &mut Walk<'a>, line: &'a [u8])
+        requires { self.old.waiting.used ≤ 32767 }
+    {
+        match writer.bytes_of(walk, line) {
+            Ok(bytes) => self.waiting.put_hex(bytes),
+            Err(refused) => {
+                // There is room.
+                let _ = write!(self.waiting, "{refused}");
+            }
+        }
+        self.waiting.put(b"\n");
+    }
 }
 
 // Prints the answers to the lines that end in a text, or stops where they can't be printed. The result is where the rest starts. The arrays are made
@@ -120,91 +89,75 @@ fn print_waiting(rt: &impl Print, waiting: &[u8]) -> Result<usize, Failure>
 fn answer_lines(rt: &impl Print, text: &[u8]) -> Result<usize, Failure>
     ensures { IfOk result (λ n. n ≤ length text.now) }
 {
-    let mut out = [0u8; BLOCK];
-    let mut buf = [0u8; ROOM];
-    let mut sids = [0u8; 8 * walk::LONGEST_LINE];
-    let mut bytes = [0u8; run::MOST_BYTES];
-    let mut stack = [walk::NOTHING; walk::LONGEST_LINE + 1];
-    let mut used: usize = 0;
-    let mut at: usize = 0;
-    let mut end = words::find(text, 0, b'\n');
-    while end < text.len() {
-        used = print_waiting(rt, &out[0..used])?;
-        used = answer(
-            &text[at..end],
-            &mut out,
-            used,
-            &mut buf,
-            &mut sids,
-            &mut bytes,
-            &mut stack,
-        );
-        at = end + 1;
-        end = words::find(text, at, b'\n');
+    let Some(last) = text.iter().rposition(|byte| *byte == b'\n') else {
+        return Ok(0);
+    };
+    let mut answers = Answers {
+        waiting: Filled::new(),
+    };
+    let mut writer = Writer::new();
+    let mut walk = Walk::new();
+    for line in text[..last].split(|byte| *byte == b'\n') {
+        answers.make_room(rt)?;
+        answers.answer(&mut writer, &mut walk, line);
     }
-    print(rt, &out[0..used])?;
-    Ok(at)
+    answers.print(rt)?;
+    Ok(last + 1)
 }
 
-// Moves `count` bytes from `from` on to the front.
-fn keep(text: &mut [u8], from: usize, count: usize)
-    requires { from + count ≤ length text.old }
-{
-    let mut i: usize = 0;
-    while i < count {
-        text[i] = text[from + i];
-        i += 1;
-    }
+// What is read, of which the first `kept` bytes are behind the last line feed: a line and a byte at most.
+#[derive(Drop)]
+struct Input {
+    text: [u8; BLOCK],
+    kept: usize,
+    ghost short: { kept ≤ 4097 },
 }
 
-// Prints the answers to the lines that end in the first `end` bytes, and moves the rest to the front. The result is the length of the rest, of which
-// one byte more than a line may have is kept.
-fn take_lines(rt: &impl Print, text: &mut [u8], end: usize) -> Result<usize, Failure>
-    requires { end ≤ length text.old }
-    ensures { IfOk result (λ n. n ≤ 4097) }
-{
-    let from = answer_lines(rt, &text[0..end])?;
-    let count = words::least(end - from, walk::LONGEST_LINE + 1);
-    keep(text, from, count);
-    Ok(count)
-}
-
-// Reads on behind the first `kept` bytes. The result is how many bytes there are.
-fn read_on<R: Read>(input: &mut R, text: &mut [u8], kept: usize) -> Result<usize, Failure>
-    requires { kept ≤ length text.old }
-    ensures { IfOk result (λ n. (kept ≤ n) × (n ≤ length text.new)) }
-{
-    match input.read(&mut text[kept..]) {
-        Ok(n) => Ok(kept + n),
-        Err(_) => Err(Failure::Unread),
-    }
-}
-
-// Prints the answers to the lines that end in the input, up to its end or to a read that fails, whose last line is not answered. The result is how many
-// bytes stand behind the last line feed, up to 4,097.
-fn take_input<P: Print, R: Read>(rt: &P, input: &mut R, text: &mut [u8]) -> Result<usize, Failure>
-    requires { 4097 ≤ length text.old }
-    ensures { IfOk result (λ n. n ≤ 4097) }
-{
-    let mut kept: usize = 0;
-    // No input takes so many turns.
-    for _ in 0..u64::MAX {
-        let end = read_on(input, text, kept)?;
-        if end == kept {
-            return Ok(kept);
+impl Input {
+    // Reads on behind what is kept. The result is how many bytes there are.
+    fn read_on<R: Read>(&mut self, input: &mut R) -> Result<usize, Failure>
+        ensures { IfOk result (λ n. (self.old.kept ≤ n) × (n ≤ 65536)) }
+    {
+        match input.read(&mut self.text[self.kept..]) {
+            Ok(n) => Ok(self.kept + n),
+            Err(_) => Err(Failure::Unread),
         }
-        kept = take_lines(rt, text, end)?;
     }
-    Ok(kept)
+
+    // Prints the answers to the lines that end in the first `end` bytes, and keeps the rest, but no more than tells that a line is too long.
+    fn take_lines(&mut self, rt: &impl Print, end: usize) -> Result<(), Failure>
+        requires { end ≤ 65536 }
+    {
+        let from = answer_lines(rt, &self.text[..end])?;
+        self.kept = (end - from).min(TOO_LONG);
+        self.text.copy_within(from..from + self.kept, 0);
+        Ok(())
+    }
+
+    // Prints the answers to the lines that end in the input, up to its end or to a read that fails, whose last line is not answered.
+    fn take_all<P: Print, R: Read>(&mut self, rt: &P, input: &mut R) -> Result<(), Failure> {
+        // No input takes so many turns.
+        for _ in 0..u64::MAX {
+            let end = self.read_on(input)?;
+            if end == self.kept {
+                return Ok(());
+            }
+            self.take_lines(rt, end)?;
+        }
+        Ok(())
+    }
 }
 
 // A last line without line feed is given one.
 fn answer_input<P: Print, R: Read>(rt: &P, input: &mut R) -> Result<(), Failure> {
-    let mut text = [0u8; BLOCK];
-    let kept = take_input(rt, input, &mut text)?;
-    if 0 < kept {
-        text[kept] = b'\n';
-        answer_lines(rt, &text[0..kept + 1])?;
+    let mut read = Input {
+        text: [0; BLOCK],
+        kept: 0,
+    };
+    read.take_all(rt, input)?;
+    if 0 < read.kept {
+        read.text[read.kept] = b'\n';
+        answer_lines(rt, &read.text[..read.kept + 1])?;
     }
     Ok(())
 }

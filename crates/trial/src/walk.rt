@@ -1,282 +1,258 @@
-// The walk along a line: its brackets, and the parts between them. What a bracket has to close is kept on a stack, so a line may be as deep as its
-// bytes allow.
-ghost use Rattle.std.specs.Prelude.{◌≡◌, ◌+◌, ◌<◌, ◌≤◌, length};
-ghost use Rattle.trial.specs.Steps.{Within};
+// The walk along a line: its brackets, and the parts between them. What is due is kept on a stack, so a line may be as deep as its bytes allow.
+ghost use Rattle.std.specs.Prelude.{◌≡◌, ◌+◌, ◌<◌, ◌≤◌, length, MatchOption, MatchResult, IfOk, IfSome};
+ghost use Rattle.trial.specs.Steps.{GoesOn};
 
-use words::{byte_at, find};
+use crate::form::first_word;
+use crate::refused::Refused;
 
-pub(crate) const LONGEST_LINE: usize = 4096;
+const LONGEST_LINE: usize = 4096;
 
-// What is due at a place. Behind the whole value nothing is.
-pub(crate) const NOTHING: u8 = 0;
+// How many bytes tell that a line is too long.
+pub(crate) const TOO_LONG: usize = LONGEST_LINE + 1;
 
-pub(crate) const VALUE: u8 = 1;
-
-// The value of an `ann`, which is no `ann` itself.
-const BARE_VALUE: u8 = 2;
-
-// A space and a member of a list or s-expression, or its bracket.
-const MEMBER: u8 = 3;
-
-// A space and a field of a struct, or its bracket.
-const FIELD: u8 = 4;
-
-// The bracket of a field or an `ann`.
-const BRACKET: u8 = 5;
-
-// The parts of a line, the first of them by the index of their names. A scalar is its words, without its brackets.
-pub(crate) const NULL: usize = 0;
-
-pub(crate) const BOOL: usize = 1;
-
-pub(crate) const I64: usize = 2;
-
-pub(crate) const INT: usize = 3;
-
-pub(crate) const F32: usize = 4;
-
-pub(crate) const F64: usize = 5;
-
-pub(crate) const DECIMAL: usize = 6;
-
-pub(crate) const TIMESTAMP: usize = 7;
-
-pub(crate) const SYMBOL: usize = 8;
-
-pub(crate) const STRING: usize = 9;
-
-pub(crate) const CLOB: usize = 10;
-
-pub(crate) const BLOB: usize = 11;
-
-pub(crate) const LIST: usize = 12;
-
-pub(crate) const SEXP: usize = 13;
-
-pub(crate) const STRUCT: usize = 14;
-
-// The annotations of the value that comes next.
-pub(crate) const ANNOTATIONS: usize = 15;
-
-// A word that is none of these names, and all else that is not of the form.
-pub(crate) const MALFORMED: usize = 16;
-
-// The name of the value that comes next.
-pub(crate) const NAME: usize = 17;
-
-// The bracket of a list, s-expression or struct.
-pub(crate) const CLOSE: usize = 18;
-
-// A space, or the bracket of a field or an `ann`.
-pub(crate) const MARK: usize = 19;
-
-// A part, where its words stand, the place behind it and what is due there, or `NOTHING` where the stack says it. `pushed` is put on the stack, if it
-// is not `NOTHING`; `popped` counts what is taken from it.
 #[derive(Clone, Copy)]
-pub(crate) struct Step {
-    pub(crate) part: usize,
-    pub(crate) from: usize,
-    pub(crate) to: usize,
-    pub(crate) at: usize,
-    pub(crate) due: u8,
-    pub(crate) pushed: u8,
-    pub(crate) popped: usize,
+enum Due {
+    Value,
+    // The value of an `ann`, which is no `ann` itself.
+    BareValue,
+    // A space and a member of a list or s-expression, or its bracket.
+    Member,
+    // A space and a field of a struct, or its bracket.
+    Field,
+    // The bracket of a field or an `ann`.
+    Bracket,
 }
 
-fn malformed(at: usize) -> Step
-    requires { at ≤ 4096 }
-    ensures { Within at 0 result }
-{
-    Step {
-        part: MALFORMED,
-        from: 0,
-        to: 0,
-        at: at + 1,
-        due: NOTHING,
-        pushed: NOTHING,
-        popped: 0,
-    }
+// What is due, the next on top.
+#[derive(Drop)]
+struct Stack {
+    items: [Due; TOO_LONG],
+    depth: usize,
+    ghost within: { depth ≤ 4097 },
 }
 
-// A bracket that ends a list, s-expression or struct, a field or an `ann`.
-fn bracket(line: &[u8], at: usize, part: usize) -> Step
-    requires { (at < length line.now) × (length line.now ≤ 4096) }
-    ensures { Within at (length line.now) result }
-{
-    if line[at] != b')' {
-        return malformed(at);
+impl Stack {
+    fn push(&mut self, due: Due)
+        requires { self.old.depth < 4097 }
+        ensures { self.new.depth ≡ self.old.depth + 1 }
+    {
+        self.items[self.depth] = due;
+        self.depth += 1;
     }
-    Step {
-        part,
-        from: 0,
-        to: 0,
-        at: at + 1,
-        due: NOTHING,
-        pushed: NOTHING,
-        popped: 1,
+
+    fn pop(&mut self) -> Option<Due>
+        ensures { MatchOption result (self.new.depth ≡ self.old.depth) (λ _. self.new.depth + 1 ≡ self.old.depth) }
+    {
+        if self.depth == 0 {
+            return None;
+        }
+        self.depth -= 1;
+        Some(self.items[self.depth])
     }
 }
 
-// A space before a member of a list or s-expression, or its bracket.
-fn member(line: &[u8], at: usize) -> Step
-    requires { (at < length line.now) × (length line.now ≤ 4096) }
-    ensures { Within at (length line.now) result }
-{
-    if line[at] != b' ' {
-        return bracket(line, at, CLOSE);
-    }
-    Step {
-        part: MARK,
-        from: 0,
-        to: 0,
-        at: at + 1,
-        due: VALUE,
-        pushed: NOTHING,
-        popped: 0,
+#[derive(Clone, Copy)]
+pub(crate) enum Container {
+    List,
+    Sexp,
+    Struct,
+}
+
+// Parts, each with its words, without its brackets.
+#[derive(Clone, Copy)]
+pub(crate) enum Part<'a> {
+    Scalar(&'a [u8]),
+    // The bracket and the name of a container.
+    Opening(Container),
+    // The bracket of a container.
+    Closing,
+    // The name of the value that comes next.
+    Name(&'a [u8]),
+    // The annotations of the value that comes next.
+    Annotations(&'a [u8]),
+    // A space, or the bracket of a field or an `ann`.
+    Mark,
+}
+
+// A line that is not too long.
+#[derive(Clone, Copy)]
+pub(crate) struct Line<'a> {
+    bytes: &'a [u8],
+    ghost short: { length bytes.now ≤ 4096 },
+}
+
+impl<'a> Line<'a> {
+    pub(crate) fn of(bytes: &'a [u8]) -> Option<Line<'a>> {
+        if LONGEST_LINE < bytes.len() {
+            None
+        } else {
+            Some(Line { bytes })
+        }
     }
 }
 
-// A field of a struct, which is a space, a bracket, the name and a space, or the bracket of the struct.
-fn field(line: &[u8], at: usize) -> Step
-    requires { (at < length line.now) × (length line.now ≤ 4096) }
-    ensures { Within at (length line.now) result }
-{
-    if line[at] != b' ' {
-        return bracket(line, at, CLOSE);
-    }
-    let from = at + 2;
-    let to = find(line, from, b' ');
-    if line.len() <= to {
-        return malformed(at);
-    }
-    if line[at + 1] != b'(' {
-        return malformed(at);
-    }
-    Step {
-        part: NAME,
-        from,
-        to,
-        at: to + 1,
-        due: VALUE,
-        pushed: BRACKET,
-        popped: 0,
-    }
+// What is left of a line, and what is due there: no more than the bytes passed, and one.
+#[derive(Drop)]
+pub(crate) struct Walk<'a> {
+    rest: &'a [u8],
+    due: Stack,
+    ghost deep: { due.depth + length rest.now ≤ 4097 },
 }
 
-// The annotations of an `ann`, a word that ends at `end`: a space, a bracket, the names up to `to`, the bracket and a space.
-fn annotations(line: &[u8], at: usize, end: usize, to: usize, due: u8) -> Step
-    requires { (at < end) × (end ≤ to) × (to < length line.now) × (length line.now ≤ 4096) }
-    ensures { Within at (length line.now) result }
-{
-    let from = end + 2;
-    if to < from {
-        return malformed(at);
+impl<'a> Walk<'a> {
+    pub(crate) fn new() -> Walk<'a> {
+        Walk {
+            rest: &[],
+            due: Stack {
+                items: [Due::Value; TOO_LONG],
+                depth: 0,
+            },
+        }
     }
-    // The word ends at a space, since it ends before `to`.
-    let is_behind_ann = due == BARE_VALUE;
-    if is_behind_ann | (line[end + 1] != b'(') | (byte_at(line, to + 1) != b' ') {
-        return malformed(at);
-    }
-    Step {
-        part: ANNOTATIONS,
-        from,
-        to,
-        at: to + 2,
-        due: BARE_VALUE,
-        pushed: BRACKET,
-        popped: 0,
-    }
-}
 
-fn opened(part: usize, end: usize, pushed: u8) -> Step
-    ensures { (result.from ≡ 0) × (result.to ≡ 0) × (result.at ≡ end) }
-{
-    Step {
-        part,
-        from: 0,
-        to: 0,
-        at: end,
-        due: NOTHING,
-        pushed,
-        popped: 0,
+    pub(crate) fn start(&mut self, line: Line<'a>) {
+        self.due.depth = 0;
+        self.rest = line.bytes;
+        self.due.push(Due::Value);
     }
-}
 
-// A value, of which a scalar ends at the next bracket that closes.
-fn value(line: &[u8], at: usize, due: u8) -> Step
-    requires { (at < length line.now) × (length line.now ≤ 4096) }
-    ensures { Within at (length line.now) result }
-{
-    if line[at] != b'(' {
-        return malformed(at);
+    fn pass(&mut self, byte: u8) -> Result<(), Refused>
+        ensures depth { self.new.due.depth ≡ self.old.due.depth }
+        ensures rest { MatchResult result (λ _. length self.new.rest.now + 1 ≡ length self.old.rest.now) (λ _. length self.new.rest.now ≡ length self.old.rest.now) }
+    {
+        match self.rest {
+            [first, rest @ ..] if *first == byte => {
+                self.rest = rest;
+                Ok(())
+            }
+            _ => Err(Refused::Form),
+        }
     }
-    let from = at + 1;
-    let to = find(line, from, b')');
-    if line.len() <= to {
-        return malformed(at);
-    }
-    let text = &line[from..to];
-    let name = find(text, 0, b' ');
-    let end = from + name;
-    let part = words::index(
-        b"null bool i64 int f32 f64 dec ts symbol string clob blob list sexp struct ann",
-        &text[0..name],
-    );
-    match part {
-        LIST | SEXP => opened(part, end, MEMBER),
-        STRUCT => opened(part, end, FIELD),
-        ANNOTATIONS => annotations(line, at, end, to, due),
-        _ => Step {
-            part,
-            from,
-            to,
-            at: to + 1,
-            due: NOTHING,
-            pushed: NOTHING,
-            popped: 0,
-        },
-    }
-}
 
-// The step from a place on.
-pub(crate) fn next(line: &[u8], at: usize, due: u8) -> Step
-    requires { (at < length line.now) × (length line.now ≤ 4096) }
-    ensures { Within at (length line.now) result }
-{
-    match due {
-        VALUE | BARE_VALUE => value(line, at, due),
-        MEMBER => member(line, at),
-        FIELD => field(line, at),
-        BRACKET => bracket(line, at, MARK),
-        _ => malformed(at),
+    // The text up to a byte, which has to be there.
+    fn text_to(&self, byte: u8) -> Result<&'a [u8], Refused>
+        ensures { IfOk result (λ text. length text.now < length self.now.rest.now) }
+    {
+        match self.rest.iter().position(|here| *here == byte) {
+            Some(end) => Ok(&self.rest[..end]),
+            None => Err(Refused::Form),
+        }
     }
-}
 
-// How much of the stack is in use behind a step.
-pub(crate) fn depth_behind(stack: &mut [u8; 4097], depth: usize, step: Step) -> usize
-    requires { depth < 4096 }
-    ensures { result ≤ depth + 1 }
-{
-    let pushed = step.pushed;
-    if pushed != NOTHING {
-        stack[depth] = pushed;
-        return depth + 1;
+    // Passes so many bytes.
+    fn skip(&mut self, count: usize)
+        requires { count ≤ length self.old.rest.now }
+        ensures depth { self.new.due.depth ≡ self.old.due.depth }
+        ensures rest { length self.new.rest.now + count ≡ length self.old.rest.now }
+    {
+        self.rest = &self.rest[count..];
     }
-    if depth < step.popped {
-        return 0;
-    }
-    depth - step.popped
-}
 
-// What is due behind a step. Of the stack only what this line put there is read.
-pub(crate) fn due_behind(stack: &[u8; 4097], depth: usize, step: Step) -> u8
-    requires { depth ≤ 4096 }
-{
-    if step.due != NOTHING {
-        return step.due;
+    // A bracket that ends a container, a field or an `ann`.
+    fn bracket(&mut self, part: Part<'a>) -> Result<Part<'a>, Refused>
+        ensures { GoesOn result self.old.rest.now self.new.rest.now }
+    {
+        self.pass(b')')?;
+        Ok(part)
     }
-    if depth == 0 {
-        return NOTHING;
+
+    // A space before a member of a list or s-expression, or its bracket.
+    fn member(&mut self) -> Result<Part<'a>, Refused>
+        requires { self.old.due.depth + length self.old.rest.now ≤ 4096 }
+        ensures { GoesOn result self.old.rest.now self.new.rest.now }
+    {
+        if self.pass(b' ').is_err() {
+            return self.bracket(Part::Closing);
+        }
+        self.due.push(Due::Member);
+        self.due.push(Due::Value);
+        Ok(Part::Mark)
     }
-    stack[depth - 1]
+
+    // A field of a struct, which is a space, a bracket, the name and a space, or the bracket of the struct.
+    fn field(&mut self) -> Result<Part<'a>, Refused>
+        ensures { GoesOn result self.old.rest.now self.new.rest.now }
+    {
+        if self.pass(b' ').is_err() {
+            return self.bracket(Part::Closing);
+        }
+        self.pass(b'(')?;
+        let name = self.text_to(b' ')?;
+        self.skip(name.len() + 1);
+        self.due.push(Due::Field);
+        self.due.push(Due::Bracket);
+        self.due.push(Due::Value);
+        Ok(Part::Name(name))
+    }
+
+    // The annotations of an `ann`: a space, a bracket, the names, the bracket and a space.
+    fn annotations(&mut self) -> Result<Part<'a>, Refused>
+        ensures { GoesOn result self.old.rest.now self.new.rest.now }
+    {
+        self.pass(b' ')?;
+        self.pass(b'(')?;
+        let names = self.text_to(b')')?;
+        self.skip(names.len() + 1);
+        self.pass(b' ')?;
+        self.due.push(Due::Bracket);
+        self.due.push(Due::BareValue);
+        Ok(Part::Annotations(names))
+    }
+
+    // A value, of which a scalar ends at the next bracket that closes. `due` is a value that may be annotated, or a bare one.
+    fn value(&mut self, due: Due) -> Result<Part<'a>, Refused>
+        ensures { GoesOn result self.old.rest.now self.new.rest.now }
+    {
+        self.pass(b'(')?;
+        let text = self.text_to(b')')?;
+        let name = first_word(text);
+        match name {
+            b"list" => {
+                self.skip(name.len());
+                self.due.push(Due::Member);
+                Ok(Part::Opening(Container::List))
+            }
+            b"sexp" => {
+                self.skip(name.len());
+                self.due.push(Due::Member);
+                Ok(Part::Opening(Container::Sexp))
+            }
+            b"struct" => {
+                self.skip(name.len());
+                self.due.push(Due::Field);
+                Ok(Part::Opening(Container::Struct))
+            }
+            b"ann" => {
+                if let Due::BareValue = due {
+                    return Err(Refused::Form);
+                }
+                self.skip(name.len());
+                self.annotations()
+            }
+            _ => {
+                self.skip(text.len() + 1);
+                Ok(Part::Scalar(text))
+            }
+        }
+    }
+
+    // The next part, or none where the line ends and nothing is due.
+    pub(crate) fn next(&mut self) -> Result<Option<Part<'a>>, Refused>
+        ensures { IfOk result (λ part. IfSome part (λ _. length self.new.rest.now < length self.old.rest.now)) }
+    {
+        let Some(due) = self.due.pop() else {
+            return if self.rest.is_empty() {
+                Ok(None)
+            } else {
+                Err(Refused::Form)
+            };
+        };
+        let part = match due {
+            Due::Value | Due::BareValue => self.value(due)?,
+            Due::Member => self.member()?,
+            Due::Field => self.field()?,
+            Due::Bracket => self.bracket(Part::Mark)?,
+        };
+        Ok(Some(part))
+    }
 }

@@ -4,11 +4,13 @@
 #![tactic(auto)]
 
 mod calls;
+mod functions;
 
-ghost use Rattle.std.specs.Prelude.{◌≤◌, length, IfOk};
+ghost use Rattle.std.specs.Prelude.{◌≤◌, length};
 
-use calls::AT;
-use std::io;
+use calls::{AT, Call};
+use functions::NoFunction;
+use std::{fmt, io};
 
 const ROOM: usize = 512;
 
@@ -18,134 +20,115 @@ const MOST_TEXT: usize = 65536;
 // What a buffer holds before a call.
 const FILL: u8 = 0xEE;
 
-fn are_same(a: &[u8; ROOM], b: &[u8; ROOM]) -> bool {
-    a == b
-}
-
-// Whether the call of a vector puts `expected`, and alters no other byte, where the buffer has `room` bytes.
-fn puts(vector: &[u8], room: usize, expected: &[u8]) -> bool
+// Whether a call puts `expected`, and alters no other byte, where the buffer has `room` bytes.
+fn puts(call: Call<'_>, room: usize, expected: &[u8]) -> bool
     requires { room ≤ 512 }
 {
     let mut image = [FILL; ROOM];
     buffer::copy(&mut image, AT, expected);
     let mut buf = [FILL; ROOM];
-    let count = calls::put(vector, &mut buf[0..room]);
-    (count == calls::count(vector, expected.len())) & are_same(&buf, &image)
+    let count = call.put(&mut buf[..room]).unwrap_or(0);
+    count == call.count(expected.len()) && buf == image
 }
 
-// Prints what lies in the buffer after the call: the bytes that it puts, and as many as were expected.
-fn print_put(rt: &impl Print, vector: &[u8], size: usize) -> io::Result<()> {
-    let mut buf = [FILL; ROOM];
-    let mut count = calls::put(vector, &mut buf);
-    if count < size {
-        count = size;
+// Why a vector is wrong.
+#[derive(Clone, Copy)]
+enum Wrong<'a> {
+    NoFunction,
+    // The call, and how many bytes are expected of it.
+    Differs { call: Call<'a>, size: usize },
+    DiffersWithJustRoom,
+    DiffersWithoutRoom,
+}
+
+impl From<NoFunction> for Wrong<'_> {
+    fn from(_none: NoFunction) -> Self {
+        Wrong::NoFunction
     }
-    count = words::least(count, ROOM - AT);
-    let mut text = [0u8; 2 * ROOM];
-    let digits = words::hex::put(&mut text, 0, &buf[AT..AT + count]);
-    rt.write_all(&text[0..digits])
 }
 
-// How a vector comes out.
-const RIGHT: u8 = 0;
-
-const NO_FUNCTION: u8 = 1;
-
-const DIFFERS: u8 = 2;
-
-const DIFFERS_WITH_JUST_ROOM: u8 = 3;
-
-const DIFFERS_WITHOUT_ROOM: u8 = 4;
+// Of a call that differs also what lies in the buffer behind it: the bytes that it puts, and as many as were expected.
+impl fmt::Display for Wrong<'_> {
+    fn fmt<W: fmt::Write>(&self, f: &mut fmt::Formatter<W>) -> fmt::Result {
+        match *self {
+            Wrong::NoFunction => f.write_str("names no function"),
+            Wrong::Differs { call, size } => {
+                f.write_str("differs: got ")?;
+                let mut buf = [FILL; ROOM];
+                let count = call.put(&mut buf).unwrap_or(0).max(size);
+                for byte in buf.iter().skip(AT).take(count) {
+                    write!(f, "{byte:02x}")?;
+                }
+                Ok(())
+            }
+            Wrong::DiffersWithJustRoom => f.write_str("differs where there is just room"),
+            Wrong::DiffersWithoutRoom => f.write_str("differs where a byte of room is missing"),
+        }
+    }
+}
 
 // A vector is right if its bytes come out where there is room to spare and where there is just room, and none where a byte of room is missing.
-fn compared(vector: &[u8], expected: &[u8]) -> u8
+fn compared<'a>(vector: &'a [u8], expected: &[u8]) -> Result<(), Wrong<'a>>
     requires { length expected.now ≤ 256 }
 {
-    if calls::named(vector) == calls::UNKNOWN {
-        return NO_FUNCTION;
-    }
-    if !puts(vector, ROOM, expected) {
-        return DIFFERS;
+    let call = Call::try_from(vector)?;
+    if !puts(call, ROOM, expected) {
+        return Err(Wrong::Differs {
+            call,
+            size: expected.len(),
+        });
     }
     let end = AT + expected.len();
-    if !puts(vector, end, expected) {
-        return DIFFERS_WITH_JUST_ROOM;
+    if !puts(call, end, expected) {
+        return Err(Wrong::DiffersWithJustRoom);
     }
-    if !puts(vector, end - 1, b"") {
-        return DIFFERS_WITHOUT_ROOM;
+    if !puts(call, end - 1, b"") {
+        return Err(Wrong::DiffersWithoutRoom);
     }
-    RIGHT
-}
-
-fn print_differs(rt: &impl Print, vector: &[u8], size: usize) -> io::Result<()> {
-    print!(rt; "differs: got ")?;
-    print_put(rt, vector, size)?;
-    println!(rt)
-}
-
-fn print_compared(rt: &impl Print, vector: &[u8], size: usize, how: u8) -> io::Result<()> {
-    match how {
-        RIGHT => println!(rt; "ok"),
-        NO_FUNCTION => println!(rt; "names no function"),
-        DIFFERS => print_differs(rt, vector, size),
-        DIFFERS_WITH_JUST_ROOM => println!(rt; "differs where there is just room"),
-        _ => println!(rt; "differs where a byte of room is missing"),
-    }
+    Ok(())
 }
 
 // Answers whether a vector is right.
 fn answer(rt: &impl Print, line: &[u8]) -> io::Result<bool> {
-    let vector = words::from_word(line, 1);
     let mut bytes = [0u8; 256];
     let n = words::hex::bytes(words::word(line, 0), &mut bytes);
-    let how = compared(vector, &bytes[0..n]);
-    print_compared(rt, vector, n, how)?;
-    Ok(how == RIGHT)
+    match compared(words::from_word(line, 1), &bytes[..n]) {
+        Ok(()) => {
+            println!(rt; "ok")?;
+            Ok(true)
+        }
+        Err(wrong) => {
+            println!(rt; "{wrong}")?;
+            Ok(false)
+        }
+    }
 }
 
-#[derive(Drop)]
+// A line's words, which stand before its `#`.
+fn words_of(line: &[u8]) -> &[u8] {
+    line.split(|byte| matches!(*byte, b'#' | b'\n'))
+        .next()
+        .unwrap_or(line)
+}
+
+#[derive(Clone, Copy, Default)]
 struct Counts {
     vectors: usize,
     right: usize,
 }
 
-// The counts of one line. A line with nothing before its `#` is no vector.
-fn count_line(rt: &impl Print, line: &[u8]) -> io::Result<Counts>
-    ensures { IfOk result (λ counts. (counts.vectors ≤ 1) × (counts.right ≤ 1)) }
-{
-    let end = words::find(line, 0, b'#');
-    if end == 0 {
-        return Ok(Counts {
-            vectors: 0,
-            right: 0,
-        });
+// A line that has no words is no vector.
+fn count_lines(rt: &HostRuntime, text: &[u8]) -> io::Result<Counts> {
+    let mut counts = Counts::default();
+    for line in text.split_inclusive(|byte| *byte == b'\n') {
+        let vector = words_of(line);
+        if !vector.is_empty() {
+            let is_right = answer(rt, vector)?;
+            counts.vectors += 1;
+            counts.right += is_right as usize;
+        }
     }
-    if answer(rt, &line[0..end])? {
-        return Ok(Counts {
-            vectors: 1,
-            right: 1,
-        });
-    }
-    Ok(Counts {
-        vectors: 1,
-        right: 0,
-    })
-}
-
-fn count_lines(rt: &impl Print, text: &[u8]) -> io::Result<Counts>
-    requires { length text.now ≤ 65536 }
-{
-    let mut vectors: usize = 0;
-    let mut right: usize = 0;
-    let mut at: usize = 0;
-    while at < text.len() {
-        let end = words::find(text, at, b'\n');
-        let counts = count_line(rt, &text[at..end])?;
-        vectors += counts.vectors;
-        right += counts.right;
-        at = end + 1;
-    }
-    Ok(Counts { vectors, right })
+    Ok(counts)
 }
 
 fn main(rt: HostRuntime) -> io::Result<()> {

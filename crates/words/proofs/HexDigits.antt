@@ -2,13 +2,14 @@
 -- Assumes nothing.
 use mathlib.Core.Path.{◌≡◌, refl, sym, ◌∙◌, ap}
 use mathlib.Core.List.{List, [], ◌∷◌, ◌++◌, map, append_assoc}
-use mathlib.Core.Bool.{Bool, true, false, ◌&&◌}
+use mathlib.Core.Bool.{Bool, true, false, ◌&&◌, and-eq-true_iff}
 use Prim.Native.Nat.{ℕ, zero, suc, ◌+◌, ◌-◌, ◌*◌, ◌/◌, ◌%◌, ◌^◌, ◌≤◌, ◌<◌}
 use native.Mathlib.Omega.{arith}
 use native.Mathlib.Numerals.{add-one}
 use native.Mathlib.Nat.{zero-add}
-use lib.Dec.{ltb}
-use borrow.Author.Tests.{le-leb, lt-leb, eq-eqb, ne_eqb}
+use lib.Dec.{leb}
+use borrow.Author.Tests.{le-leb, lt-leb, leb-true, lt-ltb}
+use Rattle.std.specs.Prelude.{Some, None, unwrap_or}
 use lib.ListN.{length, take, drop, get_or, set, replicate, length-replicate, get_or-replicate, length-append, length-map, drop_of_length-le}
 use lib.ListN.{get_or-append, get_or-map}
 use lib.Seq.{drop-cons, length-take-le, get_or-append-add, take-suc, paste, paste-suc}
@@ -20,45 +21,53 @@ use Rattle.words.specs.Hex.{is_hex_letter, hex_digit, are_hex_digits, is_hex, he
 -- ---- one digit
 
 module _ (b : ℕ) where
-  pub none_below : b < 48 → 16 ≡ hex_digit b
+  pub none_below : b < 48 → None ≡ hex_digit b
   unfolding is_digit is_hex_letter hex_digit
   none_below h = rw (hex_digit, is_digit, lt-leb 48 b h, is_hex_letter, lt-leb 97 b (omega arith))
 
-  pub digit_is : 48 ≤ b → b ≤ 57 → b - 48 ≡ hex_digit b
+  pub digit_is : 48 ≤ b → b ≤ 57 → Some (b - 48) ≡ hex_digit b
   unfolding is_digit hex_digit
   digit_is l h = rw (hex_digit, is_digit, le-leb 48 b l, le-leb b 57 h)
 
   module _ (past : 57 < b) where
-    pub none_between : b < 97 → 16 ≡ hex_digit b
+    pub none_between : b < 97 → None ≡ hex_digit b
     unfolding is_digit is_hex_letter hex_digit
     none_between h = rw (hex_digit, is_digit, le-leb 48 b (omega arith), lt-leb b 57 past, is_hex_letter, lt-leb 97 b h)
 
-    pub letter_is : 97 ≤ b → b ≤ 102 → b - 97 + 10 ≡ hex_digit b
+    pub letter_is : 97 ≤ b → b ≤ 102 → Some (b - 97 + 10) ≡ hex_digit b
     unfolding is_digit is_hex_letter hex_digit
     letter_is l h = rw (hex_digit, is_digit, le-leb 48 b (omega arith), lt-leb b 57 past, is_hex_letter, le-leb 97 b l, le-leb b 102 h)
 
-    pub none_above : 102 < b → 16 ≡ hex_digit b
+    pub none_above : 102 < b → None ≡ hex_digit b
     unfolding is_digit is_hex_letter hex_digit
     none_above h = rw (hex_digit, is_digit, le-leb 48 b (omega arith), lt-leb b 57 past, is_hex_letter, le-leb 97 b (omega arith), lt-leb b 102 h)
 
--- ---- whether all are digits, from an index on
+  pub value_within : hex_value b ≤ 15
+  unfolding is_digit is_hex_letter hex_digit
+  value_within = go (is_digit b) refl
+    where
+      letter : (t : Bool) → is_hex_letter b ≡ t → unwrap_or (elim t [ true ↦ Some (b - 97 + 10) | false ↦ None ]) 0 ≤ 15
+      letter true e = let h = leb-true b 102 ((and-eq-true_iff (leb 97 b) (leb b 102)).0 e).1 in omega arith
+      letter false e = omega arith
 
-module _ (s : List ℕ) (i : ℕ) (h : i < length s) where
-  pub not_digits : hex_digit (get_or s i 0) ≡ 16 → are_hex_digits (drop i s) ≡ false
-  unfolding are_hex_digits
-  not_digits e = rw (drop-cons s i 0 h, are_hex_digits, eq-eqb (hex_digit (get_or s i 0)) 16 e)
+      go : (t : Bool) → is_digit b ≡ t → unwrap_or (elim t [ true ↦ Some (b - 48) | false ↦ elim (is_hex_letter b) [ true ↦ Some (b - 97 + 10) | false ↦ None ] ]) 0 ≤ 15
+      go true e = let h = leb-true b 57 ((and-eq-true_iff (leb 48 b) (leb b 57)).0 e).1 in omega arith
+      go false e = letter (is_hex_letter b) refl
 
-  pub digits_further : (hex_digit (get_or s i 0) ≡ 16 → ⊥) → are_hex_digits (drop i s) ≡ are_hex_digits (drop (i + 1) s)
-  unfolding are_hex_digits
-  digits_further ne = rw (add-one, drop-cons s i 0 h, are_hex_digits, ne_eqb (hex_digit (get_or s i 0)) 16 ne)
+-- ---- a word of digits
 
-pub digits_all : (s : List ℕ) (i : ℕ) → length s ≤ i → are_hex_digits (drop i s) ≡ true
-unfolding are_hex_digits
-digits_all s i h = rw (drop_of_length-le s h)
+and_true : (t : Bool) → t ≡ (t && true)
+and_true true = refl
+and_true false = refl
 
-pub is_hex_by : (s : List ℕ) (t : Bool) → are_hex_digits s ≡ t → (t && ltb 0 (length s)) ≡ is_hex s
+pub hex_some : (s : List ℕ) → 0 < length s → are_hex_digits s ≡ is_hex s
 unfolding is_hex
-is_hex_by s t e = rw (is_hex, e)
+hex_some s h = rw (is_hex, lt-ltb 0 (length s) h) (and_true (are_hex_digits s))
+
+pub hex_none : (s : List ℕ) → length s ≡ 0 → false ≡ is_hex s
+unfolding is_hex
+hex_none [] h = refl
+hex_none (b ∷ s) h = absurd (omega arith)
 
 -- ---- a number, of which the lowest 64 bits are kept
 

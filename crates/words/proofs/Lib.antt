@@ -1,6 +1,5 @@
 pub mod Digits
 pub mod HexDigits
 pub mod Negated
-pub mod Place
 pub mod Repeated
 pub mod Words

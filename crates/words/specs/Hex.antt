@@ -1,19 +1,19 @@
 -- Lower-case hex: digits, numbers, bytes.
 -- Assumes nothing.
-use Rattle.std.specs.Prelude.{ℕ, ◌+◌, ◌-◌, ◌*◌, ◌/◌, ◌%◌, Bool, true, false, ◌&&◌, List, [], ◌∷◌, ◌++◌, map, leb, ltb, eqb, length, replicate}
+use Rattle.std.specs.Prelude.{ℕ, ◌+◌, ◌-◌, ◌*◌, ◌/◌, ◌%◌, Bool, true, false, ◌&&◌, List, [], ◌∷◌, ◌++◌, Option, Some, None, is_some, unwrap_or, map, leb, ltb, length, replicate}
+use Rattle.std.specs.List.{list_all}
 use Rattle.words.specs.Numbers.{is_digit}
 
 -- The letters a to f are the bytes 97 to 102.
 unfoldable pub is_hex_letter : ℕ → Bool
 is_hex_letter b = leb 97 b && leb b 102
 
--- The value of a digit, or 16 for a byte that is none.
-unfoldable pub hex_digit : ℕ → ℕ
-hex_digit b = elim (is_digit b) [ true ↦ b - 48 | false ↦ elim (is_hex_letter b) [ true ↦ b - 97 + 10 | false ↦ 16 ] ]
+-- The value of a digit, if a byte is one.
+unfoldable pub hex_digit : ℕ → Option ℕ
+hex_digit b = elim (is_digit b) [ true ↦ Some (b - 48) | false ↦ elim (is_hex_letter b) [ true ↦ Some (b - 97 + 10) | false ↦ None ] ]
 
-unfoldable pub are_hex_digits : List ℕ → Bool
-are_hex_digits [] = true
-are_hex_digits (b ∷ s) = elim (eqb (hex_digit b) 16) [ true ↦ false | false ↦ are_hex_digits s ]
+abbrev pub are_hex_digits : List ℕ → Bool
+are_hex_digits s = list_all (λ b. is_some (hex_digit b)) s
 
 -- One digit or more.
 unfoldable pub is_hex : List ℕ → Bool
@@ -21,7 +21,7 @@ is_hex s = are_hex_digits s && ltb 0 (length s)
 
 -- What a byte counts as in a number: one that is no digit as 0.
 abbrev pub hex_value : ℕ → ℕ
-hex_value b = hex_digit b % 16
+hex_value b = unwrap_or (hex_digit b) 0
 
 -- n with the digits of a list behind it.
 unfoldable pub hex_behind : ℕ → List ℕ → ℕ

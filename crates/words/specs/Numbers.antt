@@ -1,17 +1,6 @@
 -- The numbers that words spell in base ten: one digit or more, within a limit, and a minus before those with a sign.
 -- Assumes nothing.
-use Rattle.std.specs.Prelude.{◌≡◌, ℕ, zero, ◌+◌, ◌-◌, ◌*◌, Bool, true, false, ◌&&◌, List, [], ◌∷◌, leb, eqb, ℤ, pos, neg_ℤ, drop, get_or}
-use Rattle.std.proofs.Math.Option
-use Rattle.std.proofs.Math.Option.{Option, some, none, map}
-use Rattle.words.specs.declared.numbers.Number.{Number}
-
-unfoldable pub is_some : {A : Type 0} → Option A → Bool
-is_some (some n) = true
-is_some none = false
-
--- A number as the code hands it on: its value, 0 where there is none.
-abbrev pub Spelled : Option ℕ → Number → Type 0
-Spelled o r = (r.fits ≡ is_some o) × (r.value ≡ Option.get_or o 0)
+use Rattle.std.specs.Prelude.{ℕ, zero, ◌+◌, ◌-◌, ◌*◌, Bool, true, false, ◌&&◌, List, [], ◌∷◌, Option, Some, None, option_map, leb, eqb, ℤ, pos, neg_ℤ, drop, get_or}
 
 -- A digit is a byte from 48 to 57.
 unfoldable pub is_digit : ℕ → Bool
@@ -19,16 +8,16 @@ is_digit b = leb 48 b && leb b 57
 
 -- n with the digit b at its end, or none where b is no digit or the number passes `most`.
 unfoldable pub digit_behind : ℕ → ℕ → ℕ → Option ℕ
-digit_behind most n b = elim (is_digit b && leb (n * 10 + (b - 48)) most) [ true ↦ some (n * 10 + (b - 48)) | false ↦ none ]
+digit_behind most n b = elim (is_digit b && leb (n * 10 + (b - 48)) most) [ true ↦ Some (n * 10 + (b - 48)) | false ↦ None ]
 
 -- n with the digits of a list behind it, one after the other.
 unfoldable pub digits_behind : ℕ → ℕ → List ℕ → Option ℕ
-digits_behind most n [] = some n
-digits_behind most n (b ∷ s) = elim (digit_behind most n b) [ some m ↦ digits_behind most m s | none ↦ none ]
+digits_behind most n [] = Some n
+digits_behind most n (b ∷ s) = elim (digit_behind most n b) [ Some m ↦ digits_behind most m s | None ↦ None ]
 
 -- A number without sign.
 unfoldable pub natural : ℕ → List ℕ → Option ℕ
-natural most [] = none
+natural most [] = None
 natural most (b ∷ s) = digits_behind most zero (b ∷ s)
 
 -- A minus is byte 45.
@@ -41,4 +30,4 @@ magnitude s = elim (has_minus s) [ true ↦ drop 1 s | false ↦ s ]
 
 -- A number with or without minus. `most` is the largest, and the least is minus one more.
 unfoldable pub signed : ℕ → List ℕ → Option ℤ
-signed most s = elim (has_minus s) [ true ↦ map (λ n. neg_ℤ (pos n)) (natural (most + 1) (magnitude s)) | false ↦ map pos (natural most s) ]
+signed most s = elim (has_minus s) [ true ↦ option_map (λ n. neg_ℤ (pos n)) (natural (most + 1) (magnitude s)) | false ↦ option_map pos (natural most s) ]

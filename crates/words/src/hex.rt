@@ -1,46 +1,35 @@
 // Lower-case hex. A byte that is no digit counts as 0.
-ghost use Rattle.std.specs.Prelude.{◌≡◌, List, ℕ, ◌*◌, ◌%◌, ◌^◌, ◌≤◌, min, length, get_or};
+ghost use Rattle.std.specs.Prelude.{◌≡◌, List, ℕ, Option, ◌*◌, ◌%◌, ◌^◌, ◌≤◌, min, length, get_or, IfSome};
 ghost use Rattle.std.proofs.Math.Seq.{paste};
 ghost use Rattle.buffer.specs.Laid.{placed};
 ghost use Rattle.words.specs.Numbers.{magnitude};
-ghost use Rattle.words.specs.Hex.{is_hex, hex_digit, hex_behind, padded, hex_bytes, hex_glyph, hex_text};
+ghost use Rattle.words.specs.Hex.{is_hex, hex_digit, hex_value, hex_behind, padded, hex_bytes, hex_glyph, hex_text};
 
-use crate::{byte_at, least, numbers};
+use crate::numbers;
 
-// What stands for no digit.
-const NO_DIGIT: u8 = 16;
-
-// The value of a digit.
-fn hex_digit(byte: u8) -> u8
+fn hex_digit(byte: u8) -> Option<u8>
     ensures { result ≡ hex_digit byte }
 {
-    if byte < b'0' {
-        return NO_DIGIT;
+    match byte {
+        b'0'..=b'9' => Some(byte - b'0'),
+        b'a'..=b'f' => Some(byte - b'a' + 10),
+        _ => None,
     }
-    if byte <= b'9' {
-        return byte - b'0';
-    }
-    if byte < b'a' {
-        return NO_DIGIT;
-    }
-    if byte <= b'f' {
-        return byte - b'a' + 10;
-    }
-    NO_DIGIT
+}
+
+// What a byte counts as in a number.
+fn hex_value(byte: u8) -> u8
+    ensures value { result ≡ hex_value byte }
+    ensures within { result ≤ 15 }
+{
+    hex_digit(byte).unwrap_or(0)
 }
 
 // Whether a word is one or more digits.
 pub fn is_hex(word: &[u8]) -> bool
     ensures { result ≡ is_hex word.now }
 {
-    let mut i: usize = 0;
-    while i < word.len() {
-        if hex_digit(word[i]) == NO_DIGIT {
-            return false;
-        }
-        i += 1;
-    }
-    0 < word.len()
+    !word.is_empty() && word.iter().all(|byte| hex_digit(*byte).is_some())
 }
 
 // The lowest 64 bits of a number.
@@ -48,10 +37,8 @@ pub fn bits(word: &[u8]) -> u64
     ensures { result ≡ hex_behind 0 word.now % 2 ^ 64 }
 {
     let mut bits: u64 = 0;
-    let mut i: usize = 0;
-    while i < word.len() {
-        bits = bits % 0x1000_0000_0000_0000 * 16 + (hex_digit(word[i]) % NO_DIGIT) as u64;
-        i += 1;
+    for byte in word {
+        bits = bits % 0x1000_0000_0000_0000 * 16 + u64::from(hex_value(*byte));
     }
     bits
 }
@@ -63,7 +50,10 @@ fn digit_behind(word: &[u8], zeros: usize, i: usize) -> u8
     if i < zeros {
         return 0;
     }
-    hex_digit(byte_at(word, i - zeros)) % NO_DIGIT
+    match word.get(i - zeros) {
+        Some(digit) => hex_value(*digit),
+        None => 0,
+    }
 }
 
 // Puts the bytes of the digits behind a minus, as many as there is room for, and answers their number. An odd first digit is a byte.
@@ -73,11 +63,10 @@ pub fn bytes(word: &[u8], out: &mut [u8]) -> usize
 {
     let digits = numbers::magnitude(word);
     let zeros = digits.len() % 2;
-    let count = least(digits.len() / 2 + zeros, out.len());
-    let mut i: usize = 0;
-    while i < count {
+    let count = (digits.len() / 2 + zeros).min(out.len());
+    // By index: a proof knows nothing of the bytes that an iterator lends to be written.
+    for i in 0..count {
         out[i] = digit_behind(digits, zeros, 2 * i) * 16 + digit_behind(digits, zeros, 2 * i + 1);
-        i += 1;
     }
     count
 }
@@ -93,20 +82,18 @@ fn glyph(bits: u8) -> u8
     b'a' + (digit - 10)
 }
 
-// Puts two digits for each byte, from `at` on, and answers their number: all of them, or none where they do not fit.
-pub fn put(out: &mut [u8], at: usize, bytes: &[u8]) -> usize
-    ensures { (◌≡◌ {A = ℕ × List ℕ} (result, out.new) (placed out.old at (hex_text bytes.now)))
-        × (result ≤ 2 * length bytes.now) }
+// Puts two digits for each byte, from `at` on, and answers their number; none where they do not fit.
+pub fn put(out: &mut [u8], at: usize, bytes: &[u8]) -> Option<usize>
+    ensures { (◌≡◌ {A = Option ℕ × List ℕ} (result, out.new) (placed out.old at (hex_text bytes.now)))
+        × IfSome result (λ n. n ≤ 2 * length bytes.now) }
 {
     if !buffer::has_room(out.len(), at, 2 * bytes.len()) {
-        return 0;
+        return None;
     }
-    let mut i: usize = 0;
-    while i < bytes.len() {
-        let byte = bytes[i];
-        out[at + 2 * i] = glyph(byte / 16);
-        out[at + 2 * i + 1] = glyph(byte);
-        i += 1;
+    // By index, as in `bytes`.
+    for (i, byte) in bytes.iter().enumerate() {
+        out[at + 2 * i] = glyph(*byte / 16);
+        out[at + 2 * i + 1] = glyph(*byte);
     }
-    2 * i
+    Some(2 * bytes.len())
 }

@@ -11,6 +11,7 @@ pub fn read_full<R: Read>(input: &mut R, text: &mut [u8]) -> io::Result<usize>
     ensures bytes { IfOk result (λ n. Consumes (R.remaining input.old) (R.remaining input.new) (take n text.new)) }
     ensures end { IfOk result (λ n. n < length text.new → IsAtEnd (R.remaining input.new)) }
 {
+    // The library reads to the end only into memory that it allocates, and `read_exact` fails where the reader ends before.
     let mut done: usize = 0;
     while done < text.len() {
         let n = input.read(&mut text[done..])?;

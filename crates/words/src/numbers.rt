@@ -1,9 +1,6 @@
-// The numbers that words spell in base ten. Each function that answers a number answers 0 for a word that spells none within its limit.
-ghost use Rattle.std.specs.Prelude.{◌≡◌, ◌≤◌, pos, neg_ℤ, length};
-ghost use Rattle.std.proofs.Math.Option.{get_or};
-ghost use Rattle.words.specs.Numbers.{Spelled, is_some, digit_behind, natural, signed, has_minus, magnitude};
-
-use crate::byte_at;
+// The numbers that words spell in base ten, if they spell any within a limit.
+ghost use Rattle.std.specs.Prelude.{◌≡◌, ◌≤◌, pos, neg_ℤ, IfSome};
+ghost use Rattle.words.specs.Numbers.{digit_behind, natural, signed, has_minus, magnitude};
 
 const MINUS: u8 = b'-';
 
@@ -14,114 +11,57 @@ const MOST_I32: u64 = 2147483647;
 
 const MOST_U32: u64 = 4294967295;
 
-// A number, and whether there is one.
-#[derive(Drop)]
-struct Number {
-    value: u64,
-    fits: bool,
-}
-
-const NO_NUMBER: Number = Number {
-    value: 0,
-    fits: false,
-};
-
 // The number with one digit more at its end.
-fn with_digit(value: u64, byte: u8, most: u64) -> Number
-    ensures { Spelled (digit_behind most value byte) result }
+fn with_digit(value: u64, byte: u8, most: u64) -> Option<u64>
+    ensures { result ≡ digit_behind most value byte }
 {
-    if byte < b'0' {
-        return NO_NUMBER;
-    }
-    if b'9' < byte {
-        return NO_NUMBER;
-    }
-    let digit = (byte - b'0') as u64;
-    if most < digit {
-        return NO_NUMBER;
-    }
-    if (most - digit) / 10 < value {
-        return NO_NUMBER;
-    }
-    Number {
-        value: value * 10 + digit,
-        fits: true,
-    }
-}
-
-fn read(word: &[u8], most: u64) -> Number
-    ensures { Spelled (natural most word.now) result × (result.value ≤ most) }
-{
-    let mut value: u64 = 0;
-    let mut i: usize = 0;
-    while i < word.len() {
-        let next = with_digit(value, word[i], most);
-        if !next.fits {
-            return NO_NUMBER;
+    match byte {
+        b'0'..=b'9' => {
+            let digit = u64::from(byte - b'0');
+            if most < digit || (most - digit) / 10 < value {
+                return None;
+            }
+            Some(value * 10 + digit)
         }
-        value = next.value;
-        i += 1;
+        _ => None,
     }
-    Number {
-        value,
-        fits: 0 < word.len(),
-    }
-}
-
-// Whether a word is a number without sign of at most `most`.
-pub fn is_natural(word: &[u8], most: u64) -> bool
-    ensures { result ≡ is_some (natural most word.now) }
-{
-    let number = read(word, most);
-    number.fits
 }
 
 // A number without sign of at most `most`.
-pub fn natural(word: &[u8], most: u64) -> u64
-    ensures { (result ≡ get_or (natural most word.now) 0) × (result ≤ most) }
+pub fn natural(word: &[u8], most: u64) -> Option<u64>
+    ensures value { result ≡ natural most word.now }
+    ensures within { IfSome result (λ n. n ≤ most) }
 {
-    let number = read(word, most);
-    number.value
+    if word.is_empty() {
+        return None;
+    }
+    let mut value: u64 = 0;
+    for byte in word {
+        value = with_digit(value, *byte, most)?;
+    }
+    Some(value)
 }
 
-pub fn natural_u32(word: &[u8]) -> u32
-    ensures { result ≡ get_or (natural 4294967295 word.now) 0 }
+pub fn natural_u32(word: &[u8]) -> Option<u32>
+    ensures { result ≡ natural 4294967295 word.now }
 {
-    natural(word, MOST_U32) as u32
+    Some(natural(word, MOST_U32)? as u32)
 }
 
 pub fn has_minus(word: &[u8]) -> bool
     ensures { result ≡ has_minus word.now }
 {
-    byte_at(word, 0) == MINUS
+    matches!(word, [MINUS, ..])
 }
 
 // The word behind its minus.
-pub fn magnitude<'a>(word: &'a [u8]) -> &'a [u8]
+pub fn magnitude(word: &[u8]) -> &[u8]
     ensures { result.now ≡ magnitude word.now }
 {
-    let from = has_minus(word) as usize;
-    &word[from..]
-}
-
-// Whether a word is a number of signed bits of which `most` is the largest.
-fn is_signed(word: &[u8], most: u64) -> bool
-    requires { most ≤ 9223372036854775807 }
-    ensures { result ≡ is_some (signed most word.now) }
-{
-    is_natural(magnitude(word), most + has_minus(word) as u64)
-}
-
-pub fn is_i64(word: &[u8]) -> bool
-    ensures { result ≡ is_some (signed 9223372036854775807 word.now) }
-{
-    is_signed(word, MOST_I64)
-}
-
-pub fn is_i32(word: &[u8]) -> bool
-    ensures { result ≡ is_some (signed 2147483647 word.now) }
-{
-    is_signed(word, MOST_I32)
+    match word {
+        [MINUS, digits @ ..] => digits,
+        _ => word,
+    }
 }
 
 // `magnitude` below zero.
@@ -135,24 +75,25 @@ fn negated(magnitude: u64) -> i64
     -1 - (magnitude - 1) as i64
 }
 
-fn signed(word: &[u8], most: u64) -> i64
+// A number of signed bits of which `most` is the largest.
+fn signed(word: &[u8], most: u64) -> Option<i64>
     requires { most ≤ 9223372036854775807 }
-    ensures { result ≡ get_or (signed most word.now) (pos 0) }
+    ensures { result ≡ signed most word.now }
 {
     if has_minus(word) {
-        return negated(natural(magnitude(word), most + 1));
+        return Some(negated(natural(magnitude(word), most + 1)?));
     }
-    natural(word, most) as i64
+    Some(natural(word, most)? as i64)
 }
 
-pub fn i64_of(word: &[u8]) -> i64
-    ensures { result ≡ get_or (signed 9223372036854775807 word.now) (pos 0) }
+pub fn i64_of(word: &[u8]) -> Option<i64>
+    ensures { result ≡ signed 9223372036854775807 word.now }
 {
     signed(word, MOST_I64)
 }
 
-pub fn i32_of(word: &[u8]) -> i32
-    ensures { result ≡ get_or (signed 2147483647 word.now) (pos 0) }
+pub fn i32_of(word: &[u8]) -> Option<i32>
+    ensures { result ≡ signed 2147483647 word.now }
 {
-    signed(word, MOST_I32) as i32
+    Some(signed(word, MOST_I32)? as i32)
 }

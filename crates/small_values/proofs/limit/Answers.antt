@@ -1,26 +1,16 @@
--- `small_values::limit` meets its contract: one case for each size.
+-- `small_values::limit` meets its contract: a power, which 32 bits hold, or none.
 -- Assumes nothing.
 use native.Mathlib.Omega.{arith}
-use mathlib.Core.Path.{refl, sym}
-use Rattle.small_values.specs.Listing as S
-use Rattle.small_values.proofs.Steps.{limit-none}
+use mathlib.Core.Path.{sym, ◌∙◌}
+use Rattle.small_values.proofs.Yields.{limit_is}
+use Rattle.small_values.proofs.Steps.{power_fits, limit-none}
 use Rattle.small_values.proofs.limit.Goals as goal
 
-pub returns-in-0 : goal.returns-in-0
-unfolding S.limit
-returns-in-0 c = rw c.in-0.is refl
+pub pow-requires : goal.pow-requires
+pow-requires c = power_fits c.args.size (omega arith)
 
-pub returns-in-1 : goal.returns-in-1
-unfolding S.limit
-returns-in-1 c = rw c.in-1.is refl
-
-pub returns-in-2 : goal.returns-in-2
-unfolding S.limit
-returns-in-2 c = rw c.in-2.is refl
-
-pub returns-in-3 : goal.returns-in-3
-unfolding S.limit
-returns-in-3 c = rw c.in-3.is refl
+pub returns-in-0-to-3 : goal.returns-in-0-to-3
+returns-in-0-to-3 c = c.pow.ensures ∙ sym (limit_is c.args.size (omega arith))
 
 pub returns-in_default : goal.returns-in_default
-returns-in_default c = sym (limit-none _ (omega arith))
+returns-in_default c = sym (limit-none c.args.size (omega arith))

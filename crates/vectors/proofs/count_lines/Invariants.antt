@@ -1,9 +1,8 @@
--- `count_lines` is safe and ends: each line is passed with its line feed, and counts for one vector at most. Assumes nothing.
-use Rattle.std.proofs.Common.{◌+◌, ◌-◌, ◌≤◌, length}
+-- A line has a byte at least, so there are no more than bytes, and no more vectors. Assumes nothing.
+use Rattle.std.proofs.Common.{◌+◌, ◌≤◌, length}
+use Rattle.std.specs.Slice.Iter.{split_inclusive_rest}
 use Rattle.vectors.proofs.count_lines.Given as goal
 
-abbrev pub invariant-loop-at : goal.invariant-loop-at
-invariant-loop-at g l = (l.vectors ≤ l.at) × (l.right ≤ l.at) × (l.at ≤ length l.text + 1)
-
-abbrev pub decreases-loop-at : goal.decreases-loop-at
-decreases-loop-at g l = length l.text + 1 - l.at
+abbrev pub invariant-loop-line : goal.invariant-loop-line
+invariant-loop-line l =
+    let left = length (split_inclusive_rest l.line-iterator) in (l.counts.vectors + left ≤ length l.text) × (l.counts.right + left ≤ length l.text)

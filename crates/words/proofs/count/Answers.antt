@@ -1,22 +1,9 @@
--- `count` counts the words: with those of the rest, of which the first is counted already, it has them all at each index.
--- The measure is what is left of the text. Assumes nothing.
-use mathlib.Core.Path.{refl}
-use native.Mathlib.Omega.{arith}
-use Rattle.words.proofs.Words.{count_end, count_space, count_letter}
+-- `count` counts the parts between spaces. Assumes nothing.
+use Rattle.std.proofs.Common.{rules, tests, ◌==◌, ℕ}
+use Rattle.std.proofs.lemmas.Iterator.Consumers.{count_from_yields_List}
+use Rattle.std.proofs.lemmas.Iterator.Splits.{YieldsList-from_slice_split}
 use Rattle.words.proofs.count.Goals as goal
-use Rattle.words.proofs.count.Goals.{then-here-eq-SPACE, else-here-eq-SPACE}
-
-pub loop-i-init : goal.loop-i-init
-loop-i-init c = (omega arith, omega arith, refl)
-
-pub loop-i-preserved : goal.loop-i-preserved
-loop-i-preserved c =
-    let t = c.args.text.now in
-    let i = c.loop-i.i in
-    elim c.if-here-eq-SPACE.branch [
-      | then-here-eq-SPACE w ↦ omega (arith, count_space t i (omega arith) w.if-here-eq-SPACE.true)
-      | else-here-eq-SPACE w ↦ omega (arith, count_letter t i (omega arith) w.if-here-eq-SPACE.false)
-    ]
 
 pub returns : goal.returns
-returns c = omega (arith, count_end c.args.text.now c.loop-i.i c.loop-i-test.false)
+returns c = count_from_yields_List c.split.result c.count.result c.count.ensures.ran
+    (YieldsList-from_slice_split _ (λ (b : ℕ). b == 32) c.args.text.now c.split.ensures.rest c.split.ensures.done c.split.ensures.closure (λ x b q k. search (rules, tests)))

@@ -1,13 +1,11 @@
--- `from_word` answers the text from where the word starts, to the end.
+-- `from_word` passes words: those still to pass from the rest on are those to pass from the text's start on.
 -- Assumes nothing.
-use mathlib.Core.Path.{◌∙◌}
-use native.Mathlib.Omega.{arith}
-use Prim.Native.Nat.{◌-◌}
-use lib.ListN.{length, drop, length-drop}
-use lib.Seq.{take_all}
+use Rattle.std.proofs.Common.{arith, ◌∙◌, sym}
+use Rattle.words.proofs.Words.{from_step, from_none}
 use Rattle.words.proofs.from_word.Goals as goal
 
+pub loop-preserved : goal.loop-preserved
+loop-preserved c = from_step _ _ _ _ (omega arith) c.behind_word-rest.ensures ∙ c.loop.invariant
+
 pub returns : goal.returns
-returns c = let w = c.word_start-from in
-    let t = c.args.text.now in
-    take_all (length t - w.result) (drop w.result t) (omega (arith, length-drop w.result t)) ∙ w.ensures.0
+returns c = sym (from_none _ _ (omega arith)) ∙ c.loop.invariant

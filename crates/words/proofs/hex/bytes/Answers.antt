@@ -1,5 +1,5 @@
 -- `hex::bytes` lays a byte of each two digits at the start of the buffer: the invariant says how far it has come.
--- The measure is how many bytes are left. Assumes nothing.
+-- Assumes nothing.
 use mathlib.Core.Path.{◌≡◌, refl, ◌∙◌, ap}
 use native.Mathlib.Omega.{arith}
 use lib.ListN.{length-set}
@@ -9,22 +9,21 @@ use Rattle.words.proofs.HexDigits.{length-bytes, bytes_next}
 use Rattle.words.proofs.hex.bytes.Goals as goal
 
 pub loop-i-init : goal.loop-i-init
-loop-i-init c = (omega arith, refl, paste-zero c.args.out.now 0 (hex_bytes c.magnitude-digits.result.now))
+loop-i-init c = record { keeps = refl; laid = paste-zero c.args.out.now 0 (hex_bytes c.magnitude-digits.result.now) }
 
 pub loop-i-preserved : goal.loop-i-preserved
 loop-i-preserved c = let a = c.args in
     let digits = c.magnitude-digits.result.now in
     let l = c.loop-i in
-    let high = c.digit_behind in (
-      omega arith,
-      simp length-set l.invariant.1,
-      bytes_next a.out.now digits l.out l.i high.result c.digit_behind-in-loop-i.result l.invariant.2 (omega arith) (omega arith)
-          high.ensures.0 c.digit_behind-in-loop-i.ensures.0,
-    )
+    let high = c.digit_behind in record {
+      keeps = simp length-set l.invariant.keeps;
+      laid = bytes_next a.out.now digits l.out l.i high.result c.digit_behind-in-loop-i.result l.invariant.laid (omega arith) (omega arith)
+          high.ensures.0 c.digit_behind-in-loop-i.ensures.0;
+    }
 
 pub returns : goal.returns
 returns c = let a = c.args in
     let m = c.magnitude-digits in
     let l = c.loop-i in
-    let e : l.i ≡ c.least-count.result = omega arith in
-    rw (← m.ensures) (omega (arith, length-bytes m.result.now), l.invariant.2 ∙ ap (paste a.out.now 0 (hex_bytes m.result.now)) e)
+    let e : l.i ≡ c.min-count.result = omega arith in
+    rw (← m.ensures) (omega (arith, c.min-count.ensures, length-bytes m.result.now), l.invariant.laid ∙ ap (paste a.out.now 0 (hex_bytes m.result.now)) e)

@@ -1,25 +1,21 @@
--- `hex::is_hex` is yes of one digit or more: from each index passed on, all are digits where all of the word are.
--- The measure is what is left of the word. Assumes nothing.
-use mathlib.Core.Path.{refl, sym, ◌∙◌}
-use mathlib.Core.Bool.{true, false}
-use native.Mathlib.Omega.{arith}
-use Rattle.words.proofs.HexDigits.{not_digits, digits_further, digits_all, is_hex_by}
+-- `hex::is_hex` is yes of one digit or more, all of them digits.
+-- Assumes nothing.
+use Rattle.std.proofs.Common.{rules, tests, ℕ, ◌≡◌, ◌<◌, ◌∙◌, ap, length}
+use Rattle.std.specs.Prelude.{is_some, not}
+use Rattle.std.proofs.lemmas.Iterator.{YieldsList-from_slice}
+use Rattle.std.proofs.lemmas.Iterator.Search.{all_from_yields_List}
+use Rattle.words.specs.Hex.{hex_digit}
+use Rattle.words.proofs.HexDigits.{hex_some, hex_none}
 use Rattle.words.proofs.hex.is_hex.Goals as goal
 
-pub loop-i-init : goal.loop-i-init
-loop-i-init c = (omega arith, refl)
+pub returns-then-not-is_empty : goal.returns-then-not-is_empty
+returns-then-not-is_empty c =
+    let s = c.args.word.now in
+    let h : 0 < length s = search rules in
+    all_from_yields_List (λ (b : ℕ). is_some (hex_digit b)) _ _ c.all.result c.all.ensures.ran (YieldsList-from_slice s cc) (λ x b q k. search (rules, tests))
+    ∙ hex_some s h
 
-pub returns-then-hex_digit-eq-NO_DIGIT : goal.returns-then-hex_digit-eq-NO_DIGIT
-returns-then-hex_digit-eq-NO_DIGIT c = let t = c.args.word.now in
-    let l = c.loop-i in
-    is_hex_by t false (sym l.invariant.1 ∙ not_digits t l.i (omega arith) (sym c.hex_digit.ensures ∙ c.if-hex_digit-eq-NO_DIGIT.true))
-
-pub loop-i-preserved : goal.loop-i-preserved
-loop-i-preserved c = let t = c.args.word.now in
-    let l = c.loop-i in
-    (omega arith, sym (digits_further t l.i (omega arith) (λ e. c.if-hex_digit-eq-NO_DIGIT.false (c.hex_digit.ensures ∙ e))) ∙ l.invariant.1)
-
-pub returns : goal.returns
-returns c = let t = c.args.word.now in
-    let l = c.loop-i in
-    is_hex_by t true (sym l.invariant.1 ∙ digits_all t l.i c.loop-i-test.false)
+pub returns-else-not-is_empty : goal.returns-else-not-is_empty
+returns-else-not-is_empty c =
+    let h : length c.args.word.now ≡ 0 = search rules in
+    ap not c.if-not-is_empty.false ∙ hex_none c.args.word.now h

@@ -1,8 +1,0 @@
--- `byte_at` answers the byte at an index: behind the end there is none, and 0 stands for it.
--- Assumes nothing.
-use mathlib.Core.Path.{sym}
-use lib.ListN.{get_or-eq_default}
-use Rattle.words.proofs.byte_at.Goals as goal
-
-pub returns-then-text-at : goal.returns-then-text-at
-returns-then-text-at c = sym (get_or-eq_default c.args.text.now 0 c.if-text-at.true)
