@@ -19,13 +19,14 @@ use Rattle.ion.specs.Fields.{VarUInt, uint}
 use Rattle.ion.specs.Scalars.{scalar_of, float_of}
 use Rattle.ion.specs.Grammar.{sorted, padding, bare, members, fields, ◌⟶◌, pad, is-null, is_false, is_true, is_zero, is_float32, is_float64}
 use Rattle.ion.specs.Grammar.{is_scalar, is-sequence, is_struct, is_sorted}
+use Rattle.std.proofs.lemmas.Bool.{or_parts}
 use Rattle.ion.proofs.Tests.{by_cases, both}
 use Rattle.ion.proofs.Bytes.{none_nil}
 use Rattle.ion.proofs.Exact.{bind_some}
 use Rattle.reading.specs.Headers.{impossible, alone}
 use Rattle.reading.specs.Scalars.{code_from, code_of, float_in, bool_of, body_of, scalar_in}
 use Rattle.reading.specs.Items.{is_pad, opens, is_sorted_struct}
-use Rattle.reading_grammar.proofs.Tests.{neither, contrary, or_left}
+use Rattle.reading_grammar.proofs.Tests.{contrary, or_left}
 use Rattle.reading_grammar.proofs.Framing.{Framing, by_itself, by_low_bits, by_field, framing_header, halves}
 
 -- ---- pads
@@ -186,7 +187,7 @@ module _ (an : List ℕ) (k : ℕ) (tail body : List ℕ) (f : Framing k (length
   sorted-frame e (by_low_bits a m z) = contrary m (rw e)
   sorted-frame e (by_field a m n v) =
       let w : (eqb (length body) 1 || eqb (length body) 0) ≡ false = rw e at n in
-      let z : length body ≢ 0 = eqb-false (length body) 0 (neither {a = eqb (length body) 1} w).1 in
+      let z : length body ≢ 0 = eqb-false (length body) 0 (or_parts (eqb (length body) 1) _ w).1 in
       (v, omega arith)
 
   pub struct_reading : 0xD0 ≤ k → (fs : Fields Scalar) → body ⟶ fields fs → (is_sorted_struct k ≡ true → sorted 0 fs ≡ true)

@@ -15,13 +15,14 @@ use borrow.Author.Tests.{ltb-true, leb-true, eqb-true, eqb-false}
 use Rattle.ion.specs.Value.{TypeCode, high_bits}
 use Rattle.ion.specs.Fields.{VarUInt}
 use Rattle.ion.specs.Grammar.{Header, short, long}
+use Rattle.std.proofs.lemmas.Bool.{or_parts}
 use Rattle.ion.proofs.Tests.{by_cases}
 use Rattle.reading.specs.declared.Refusal.{Refusal}
 use Rattle.reading.specs.declared.Number.{Number}
 use Rattle.reading.specs.declared.Header.{Header as Head}
 use Rattle.reading.specs.Headers as S
 use Rattle.reading.specs.Headers.{var_uint_at, impossible, alone, measured, never, header_at}
-use Rattle.reading_grammar.proofs.Tests.{neither, contrary, or_left}
+use Rattle.reading_grammar.proofs.Tests.{contrary, or_left}
 use Rattle.reading_grammar.proofs.Places.{Rest, rest-length, rest-tail}
 use Rattle.reading_grammar.proofs.Numbers.{found_number}
 
@@ -127,8 +128,8 @@ pub framing_header : (c : TypeCode) {k n : ℕ} {l : List ℕ} → Framing k n l
     → (eqb (high_bits c) 13 && eqb (k % 16) 1) ≡ false → Header c n (k ∷ l)
 framing_header c (by_itself a z) h p q = contrary p a
 framing_header c {k} {n} (by_low_bits a m e) h p q =
-    let u : k % 16 ≢ 15 = eqb-false (k % 16) 15 (neither a).0 in
-    let v : k % 16 ≢ 14 = eqb-false (k % 16) 14 (neither m).0 in
+    let u : k % 16 ≢ 15 = eqb-false (k % 16) 15 (or_parts _ _ a).0 in
+    let v : k % 16 ≢ 14 = eqb-false (k % 16) 14 (or_parts _ _ m).0 in
     let w : k % 16 < 16 = omega arith in
     let f : n < 14 = omega arith in
     let g : high_bits c * 16 + n ≡ k = omega (arith, halves k) in

@@ -30,8 +30,8 @@ module _ (out : Refusal) (s : List ℕ) (at b t l : ℕ) (first : get_or s at 0 
   unfolding header_at
   short_header a m n stop e h = rw (lt-ltb at (length s) inside, first, hi, lo, can, a, m, n, ← e, le-leb stop (length s) h)
 
-  long_header : alone t l ≡ false → measured t l ≡ true → (n next : ℕ) → var_uint_at out s (at + 1) ≡ Ok (record { value = n; next = next }) → never t l n ≡ false
-      → (stop : ℕ) → stop ≡ next + n → stop ≤ length s → header_at out s at ≡ Ok (record { kind = b; start = next; stop = stop })
+  long_header : alone t l ≡ false → measured t l ≡ true → (n next : ℕ)
+      → var_uint_at out s (at + 1) ≡ Ok (record { value = n; next = next }) → never t l n ≡ false → (stop : ℕ) → stop ≡ next + n → stop ≤ length s → header_at out s at ≡ Ok (record { kind = b; start = next; stop = stop })
   unfolding header_at
   long_header a m n next v k stop e h = rw (lt-ltb at (length s) inside, first, hi, lo, can, a, m, v, hi, lo, k, ← e, le-leb stop (length s) h)
 

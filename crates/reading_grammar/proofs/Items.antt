@@ -11,6 +11,7 @@ use lib.Dec.{ltb, leb, eqb}
 use lib.ListN.{length}
 use lib.Seq.{slice}
 use borrow.Author.Tests.{ltb-false, eqb-true, eqb-false, not-false}
+use Rattle.std.proofs.lemmas.Bool.{or_parts}
 use Rattle.ion.proofs.Tests.{by_cases}
 use Rattle.reading.specs.declared.Refusal.{Refusal}
 use Rattle.reading.specs.declared.Number.{Number}
@@ -20,7 +21,6 @@ use Rattle.reading.specs.declared.Item.{Item}
 use Rattle.reading.specs.Headers.{marked}
 use Rattle.reading.specs.Items as S
 use Rattle.reading.specs.Items.{has_names, opens, falls, reads, name_at, head_in, unwrapped, judged, item_at}
-use Rattle.reading_grammar.proofs.Tests.{neither}
 
 -- ---- the tests of an item
 
@@ -48,7 +48,7 @@ module _ (s : List ℕ) (parent least depth at : ℕ) (i : Item) (inside : at < 
       (λ y. cc)
       (λ y.
       let c : record { name = n.value; sids = w.sids; sids_end = w.sids_end; kind = w.kind; start = w.start; stop = w.stop } ≡ i = cc in
-      let z = neither {a = falls parent least w.kind n.value} p in
+      let z = or_parts (falls parent least w.kind n.value) _ p in
       subst (λ (j : Item). Judged s parent least depth at j) c
       (record { next = n.next; inside = inside; named = q; unwraps = u; rises = z.0; good = not-false (reads w.kind (slice w.start w.stop s)) z.1; shallow = y })))
 

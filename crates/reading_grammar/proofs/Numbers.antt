@@ -46,7 +46,8 @@ groups-found out (b ∷ bs) acc at n r e h =
     (λ p.
     let f : groups (acc * 128 + b) bs ≡ some (n, []) = rw (p, groups) at e in
     let k : acc * 128 + b < 2 ^ 64 = omega (arith, groups_grows bs (acc * 128 + b) n [] f) in
-    rw (low_group b p, p, var_uint_from, lt-ltb _ _ k) (groups-found out bs (acc * 128 + b) (at + 1) n r f h ∙ ap (λ (x : ℕ). Ok (record { value = n; next = x })) (omega arith)))
+    rw (low_group b p, p, var_uint_from, lt-ltb _ _ k)
+    (groups-found out bs (acc * 128 + b) (at + 1) n r f h ∙ ap (λ (x : ℕ). Ok (record { value = n; next = x })) (omega arith)))
     (λ p.
     let f : ◌≡◌ {A = Option (ℕ × List ℕ)} (some (acc * 128 + b % 128, bs)) (some (n, [])) = rw (p, groups) at e in
     let g : acc * 128 + b % 128 ≡ n = ap (λ (x : ℕ × List ℕ). x.0) (some-injective _ _ f) in

@@ -62,7 +62,8 @@ module _ (s : List ℕ) (parent least depth at name next : ℕ) (b : List ℕ) (
   first_byte = ne_eqb (get_or s next 0) 0xE0 (λ e. w.byte (sym (front_byte w.x (w.names ++ (w.y ++ (w.body ++ r))) w.pos apart) ∙ e))
 
   -- the item, where one more container may be open
-  pub item_placed : (opens w.kind && leb 32 depth) ≡ false → item_at s parent least depth at ≡ Ok (Some (record { name = name; sids = from; sids_end = to; kind = w.kind; start = start; stop = stop }))
+  pub item_placed : (opens w.kind && leb 32 depth) ≡ false
+      → item_at s parent least depth at ≡ Ok (Some (record { name = name; sids = from; sids_end = to; kind = w.kind; start = start; stop = stop }))
   unfolding item_at
   item_placed low =
       rw (
@@ -134,7 +135,8 @@ module _ (s : List ℕ) (parent least depth at name next : ℕ) (b r : List ℕ)
       ne_eqb (get_or s next 0) 0xE0
       (λ e. let h : w.kind < 15 = ltb-true w.kind 15 w.is.pad in omega (arith, front_byte b r w.pos x, w.byte, h))
 
-  pub pad_item : item_at s parent least depth at ≡ Ok (Some (record { name = name; sids = next + w.size; sids_end = next + w.size; kind = w.kind; start = next + w.size; stop = stop }))
+  pub pad_item : item_at s parent least depth at
+      ≡ Ok (Some (record { name = name; sids = next + w.size; sids_end = next + w.size; kind = w.kind; start = next + w.size; stop = stop }))
   unfolding item_at
   pad_item =
       rw (
@@ -156,7 +158,14 @@ module _ (s : List ℕ) (parent least depth at name next : ℕ) (b r : List ℕ)
 -- ---- a version marker, which only a stream has
 
 pub marker_item : {s : List ℕ} {at : ℕ} (least depth : ℕ) (b : List ℕ) → Rest s at (0xE0 ∷ 0x01 ∷ 0x00 ∷ 0xEA ∷ b)
-    → item_at s 0 least depth at ≡ Ok (Some (record { name = 0; sids = at + 1 + 1 + 1 + 1; sids_end = at + 1 + 1 + 1 + 1; kind = 0xE0; start = at + 1 + 1 + 1 + 1; stop = at + 1 + 1 + 1 + 1 }))
+    → item_at s 0 least depth at ≡ Ok (Some (record {
+      name = 0;
+      sids = at + 1 + 1 + 1 + 1;
+      sids_end = at + 1 + 1 + 1 + 1;
+      kind = 0xE0;
+      start = at + 1 + 1 + 1 + 1;
+      stop = at + 1 + 1 + 1 + 1;
+    }))
 unfolding item_at top_header_at marker_at marked
 marker_item {s} {at} least depth b x =
     rw (le-ltb (length s) at (omega (arith, rest-length x)), ne_eqb at (length s) (λ e. omega (arith, rest-length x)), rest_head x, x.is)

@@ -5,10 +5,6 @@ use mathlib.Core.Bool.{Bool, true, false, false≢true, ◌||◌}
 use mathlib.Core.Option.{Option, none, some}
 use Rattle.reading.specs.Scalars.{is_some}
 
-pub neither : {a b : Bool} → (a || b) ≡ false → (a ≡ false) × (b ≡ false)
-neither {a = true} e = absurd (false≢true (sym e))
-neither {a = false} e = (refl, e)
-
 pub contrary : {X : Type 0} {b : Bool} → b ≡ false → b ≡ true → X
 contrary p q = absurd (false≢true (sym p ∙ q))
 

@@ -15,6 +15,7 @@ use borrow.Author.Tests.{ltb-true, leb-true, eqb-true, ne_eqb, not-false}
 use Rattle.ion.specs.Value.{annotation_code, Value}
 use Rattle.ion.specs.Fields.{VarUInt, var_uints}
 use Rattle.ion.specs.Grammar.{Header, sids, bare, one, ◌⟶◌, sids_end, sids_next, is_bare, is_annotated}
+use Rattle.std.proofs.lemmas.Bool.{or_parts}
 use Rattle.ion.proofs.Tests.{by_cases, both}
 use Rattle.reading.specs.declared.Refusal.{Refusal}
 use Rattle.reading.specs.declared.Refusal.TheVariants.{NotIon}
@@ -25,7 +26,7 @@ use Rattle.reading.specs.Headers.{impossible, var_uint_at, header_at}
 use Rattle.reading.specs.Scalars.{is_some, sids_of}
 use Rattle.reading.specs.Items.{is_pad, is_wrapper, filled, annotated, wrapped_at, unwrapped}
 use Rattle.reading.specs.Walk.{annotations}
-use Rattle.reading_grammar.proofs.Tests.{neither, contrary, some_of}
+use Rattle.reading_grammar.proofs.Tests.{contrary, some_of}
 use Rattle.reading_grammar.proofs.Places.{Rest, rest-length, rest-next, rest-slice, rest_within}
 use Rattle.reading_grammar.proofs.Numbers.{found_number, found_sids}
 use Rattle.reading_grammar.proofs.Framing.{Framing, Framed, header_framed, framing_header}
@@ -66,8 +67,8 @@ module _ (t : List ℕ) (at : ℕ) (w : Wrapped) where
       by_cases (is_pad h.kind || (is_wrapper h.kind || not (eqb h.stop (length t))))
       (λ m. cc)
       (λ m.
-      let d = neither {a = is_pad h.kind} m in
-      let g = neither {a = is_wrapper h.kind} d.1 in
+      let d = or_parts (is_pad h.kind) _ m in
+      let g = or_parts (is_wrapper h.kind) _ d.1 in
       let c : record { sids = i; sids_end = j; kind = h.kind; start = h.start; stop = h.stop } ≡ w = cc in
       subst (λ (x : Wrapped). Wrapping t at x) c
       (record {

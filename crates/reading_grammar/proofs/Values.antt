@@ -223,9 +223,8 @@ unfolding marker_at
 marker-found s next w (Err r) q e = cc
 marker-found s next w (Ok h) q e =
     let m = marked-bytes (0xE0 ∷ 0x01 ∷ 0x00 ∷ 0xEA ∷ []) next (drop next s) h q in
-    let z : ◌≡◌ {A = Result Wrapped Refusal} (Ok (record { sids = h.start; sids_end = h.start; kind = 0xE0; start = h.start; stop = h.stop })) (Ok w) = rw m.2 at e in
-    let k : 0xE0 ≡ w.kind = cc z in
-    let p : h.stop ≡ w.stop = cc z in
+    let k : 0xE0 ≡ w.kind = cc (m.2) in
+    let p : h.stop ≡ w.stop = cc (m.2) in
     record { rest = m.0; bytes = m.1; kind = sym k; ends = omega (arith, m.3) }
 
 stream_marker_head : (s : List ℕ) (parent next : ℕ) → (is_stream parent && eqb (get_or s next 0) 0xE0) ≡ true → head_in s parent next ≡ marker_at s next
