@@ -51,10 +51,10 @@ fn body(s: &[u8], holder: Holder, at: usize) -> Result<(), Stopped>
     ensures { (f : ℕ) → length s.now - at + 1 ≤ f → result ≡ (walk_from f s.now holder.kind holder.least holder.depth at).1 }
 {
     let mut i = at;
-    let mut least = holder.least;
-    while let Some(passed) = value(s, Holder { least, ..holder }, i)? {
+    let mut holder = holder;
+    while let Some(passed) = value(s, holder, i)? {
         i = passed.next;
-        least = passed.least;
+        holder.least = passed.least;
     }
     Ok(())
 }

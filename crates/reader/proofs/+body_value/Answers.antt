@@ -18,14 +18,14 @@ body-returns-in_err-passed t c =
     let a = c.args in
     let stopped : c.from_residual.result ≡ Err c.in_err-passed.field-0.0 = search rules in
     c.loop-passed.invariant.1 c.from_residual.result
-    (λ g k. stopped ∙ walk_behind g (omega arith) a.s.now a.holder.kind c.loop-passed.least a.holder.depth c.loop-passed.i (Err c.in_err-passed.field-0.0)
+    (λ g k. stopped ∙ walk_behind g (omega arith) a.s.now c.loop-passed.holder.kind c.loop-passed.holder.least c.loop-passed.holder.depth c.loop-passed.i (Err c.in_err-passed.field-0.0)
     (c.in_err-passed.ensures (g - 1) (omega arith)))
 
 pub body-loop-passed-smaller : goal.body-loop-passed-smaller
 body-loop-passed-smaller t c =
     let a = c.args in
     let f = length a.s.now - c.loop-passed.i in
-    let w = value_goes_on f a.s.now a.holder.kind c.loop-passed.least a.holder.depth c.loop-passed.i c.in-Some.passed
+    let w = value_goes_on f a.s.now c.loop-passed.holder.kind c.loop-passed.holder.least c.loop-passed.holder.depth c.loop-passed.i c.in-Some.passed
     (sym (ap Ok (sym c.in-Some.is) ∙ c.in_ok-passed.ensures f (omega arith))) in
     omega (arith, w.0, w.1)
 
@@ -33,12 +33,12 @@ pub body-loop-passed-preserved : goal.body-loop-passed-preserved
 body-loop-passed-preserved t c =
     let a = c.args in
     let f = length a.s.now - c.loop-passed.i in
-    let w = value_goes_on f a.s.now a.holder.kind c.loop-passed.least a.holder.depth c.loop-passed.i c.in-Some.passed
+    let w = value_goes_on f a.s.now c.loop-passed.holder.kind c.loop-passed.holder.least c.loop-passed.holder.depth c.loop-passed.i c.in-Some.passed
     (sym (ap Ok (sym c.in-Some.is) ∙ c.in_ok-passed.ensures f (omega arith))) in (
       omega (arith, w.0),
       λ r k. c.loop-passed.invariant.1 r
           (λ g h. k (g - 1) (omega (arith, w.0, w.1))
-          ∙ walk_behind g (omega arith) a.s.now a.holder.kind c.loop-passed.least a.holder.depth c.loop-passed.i (Ok (Some c.in-Some.passed))
+          ∙ walk_behind g (omega arith) a.s.now c.loop-passed.holder.kind c.loop-passed.holder.least c.loop-passed.holder.depth c.loop-passed.i (Ok (Some c.in-Some.passed))
           (ap Ok (sym c.in-Some.is) ∙ c.in_ok-passed.ensures (g - 1) (omega arith))),
     )
 
@@ -46,7 +46,7 @@ pub body-returns : goal.body-returns
 body-returns t c =
     let a = c.args in
     c.loop-passed.invariant.1 (Ok tt)
-    (λ g k. walk_behind g (omega arith) a.s.now a.holder.kind c.loop-passed.least a.holder.depth c.loop-passed.i (Ok None)
+    (λ g k. walk_behind g (omega arith) a.s.now c.loop-passed.holder.kind c.loop-passed.holder.least c.loop-passed.holder.depth c.loop-passed.i (Ok None)
     (ap Ok (sym c.in_default.is) ∙ c.in_ok-passed.ensures (g - 1) (omega arith)))
 
 -- ---- the value

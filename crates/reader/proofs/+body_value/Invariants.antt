@@ -17,8 +17,8 @@ decreases-any_value l = 3 * (length l.s.now - l.at)
 abbrev pub invariant-body-loop-passed : goal.invariant-body-loop-passed
 invariant-body-loop-passed l =
     (l.at ≤ l.i)
-    × ((r : Ending) → ((g : ℕ) → length l.s - l.i + 1 ≤ g → r ≡ (walk_from g l.s l.holder.kind l.least l.holder.depth l.i).1)
-    → (f : ℕ) → length l.s - l.at + 1 ≤ f → r ≡ (walk_from f l.s l.holder.kind l.holder.least l.holder.depth l.at).1)
+    × ((r : Ending) → ((g : ℕ) → length l.s - l.i + 1 ≤ g → r ≡ (walk_from g l.s l.holder.kind l.holder.least l.holder.depth l.i).1)
+    → (f : ℕ) → length l.s - l.at + 1 ≤ f → r ≡ (walk_from f l.s l.fn.holder.kind l.fn.holder.least l.fn.holder.depth l.at).1)
 
 abbrev pub decreases-body-loop-passed : goal.decreases-body-loop-passed
 decreases-body-loop-passed l = length l.s - l.i
