@@ -4,7 +4,7 @@ ghost use Rattle.std.specs.Prelude.{◌≡◌, ◌≤◌, length};
 
 use machine::{Closed, Refused, State};
 use scalars::IonType;
-use timestamp::{Fraction, Offset, Precision, Timestamp};
+use timestamp::{Precision, Timestamp};
 use words::{hex, numbers, word};
 use writer::ContainerType;
 
@@ -134,8 +134,8 @@ fn local_time(call: &[u8]) -> Timestamp {
         hour: numbers::natural_u32(word(call, 4)),
         minute: numbers::natural_u32(word(call, 5)),
         second: numbers::natural_u32(word(call, 6)),
-        offset: Offset::Unknown,
-        fraction: Fraction::None,
+        offset: None,
+        fraction: None,
     }
 }
 
