@@ -1,12 +1,10 @@
 -- Openings, closings and abandonments by how far they get.
 -- Assumes nothing.
-use Rattle.std.proofs.Common.{◌≡◌, ℕ, zero, suc, ◌+◌, ◌-◌, ◌<◌, ◌≤◌, Bool, true, false, not, ◌||◌, eqb, ltb, leb, List, [], ◌∷◌, ◌++◌, length, get_or, take, drop, set, sym, refl, ap, ◌∙◌, ap₂, arith, length-append, le-ltb, lt-ltb, le-leb, leb-false, leb-true}
+use Rattle.std.proofs.Common.{◌≡◌, ℕ, zero, suc, ◌+◌, ◌-◌, ◌<◌, ◌≤◌, Bool, true, false, not, ◌||◌, ltb, leb, List, [], ◌∷◌, ◌++◌, length, get_or, take, set, Option, Some, None, sym, refl, ap, ◌∙◌, ap₂, arith, length-append, le-ltb, lt-ltb, le-leb, leb-false, leb-true}
 use mathlib.Core.Bool.{false≢true}
-use lib.Seq.{slice}
 use borrow.Author.Tests.{lt-leb}
 use Rattle.ion.proofs.Tests.{by_cases, both}
-use Rattle.ion.specs.Value.{annotation_code}
-use Rattle.encoding.specs.Headers.{type_byte, framed_bytes, annotation_bytes}
+use Rattle.encoding.specs.Headers.{annotation_bytes}
 use Rattle.machine.specs.declared.State.{State}
 use Rattle.machine.specs.declared.Container.{Container}
 use Rattle.machine.specs.Call.{ContainerType, opening, closing, abandonment}
@@ -19,8 +17,8 @@ use Rattle.containers.proofs.Closed.{closed_on-fits, abandoned_on-fits}
 use Rattle.containers.specs.declared.Closing.{Closing}
 use Rattle.containers.specs.Containers.{spliced, closed_on, abandoned_on}
 use Rattle.steps.proofs.Members.{fits_chain, start-before}
-use Rattle.steps.proofs.Run.{outcome, accepted_with, run_refused, run_accepted, past-place, placed-some, end_refused, end_accepted}
-use Rattle.encoding.proofs.Least.{framed-some}
+use Rattle.buffer.proofs.Laid.{placed-some}
+use Rattle.steps.proofs.Run.{outcome, accepted_with, run_refused, run_accepted, past-place, end_refused, end_accepted}
 
 -- ---- what a place that is accepted says
 
@@ -95,19 +93,19 @@ opened_state s n code = record {
   containers = set s.containers s.depth (record { start = s.used; header = s.used + (n - 2); code = code; members = 0 });
 }
 
-module _ (an : List ℕ) (k : ContainerType) (s : State) (b : List ℕ) (n : ℕ) (l : List ℕ)
-    (e : ◌≡◌ {A = ℕ × List ℕ} (n, l) (placed b s.used (reserve an)))
+module _ (an : List ℕ) (k : ContainerType) (s : State) (b l : List ℕ)
     (past : first_failing (checks (opening an k) (config s b)) ≡ first_failing (opening_lines an s b))
     (d : s.depth < most_open) where
   shallow : first_failing (checks (opening an k) (config s b)) ≡ first_failing ((ltb (length b) (s.used + length (reserve an)), 10) ∷ [])
   shallow = past ∙ rw (lt-leb most_open s.depth d)
 
-  pub opening_refused : n ≡ 0 → outcome (refused 10) s l ≡ run (opening an k) (config s b)
-  opening_refused z = end_refused (opening an k) s b (reserve an) n l e shallow z (omega (arith, reserve_least an))
+  pub opening_refused : ◌≡◌ {A = Option ℕ × List ℕ} (None, l) (placed b s.used (reserve an)) → outcome (refused 10) s l ≡ run (opening an k) (config s b)
+  opening_refused e = end_refused (opening an k) s b (reserve an) l shallow e
 
-  pub opening_accepted : (n ≡ 0 → ⊥) → outcome accepted (opened_state s n (container_code k)) l ≡ run (opening an k) (config s b)
-  opening_accepted h =
-      let w = placed-some b s.used (reserve an) n l e h in
+  pub opening_accepted : (n : ℕ) → ◌≡◌ {A = Option ℕ × List ℕ} (Some n, l) (placed b s.used (reserve an))
+      → outcome accepted (opened_state s n (container_code k)) l ≡ run (opening an k) (config s b)
+  opening_accepted n e =
+      let w = placed-some b s.used (reserve an) n l e in
       let q : s.used + (n - 2) ≡ header_place s.used an = ap (λ (x : ℕ). s.used + (x - 2)) w.1 ∙ sym (header_last s.used an) in
       ap (λ (x : ℕ). outcome accepted (record {
         used = s.used + n;
@@ -116,7 +114,7 @@ module _ (an : List ℕ) (k : ContainerType) (s : State) (b : List ℕ) (n : ℕ
         containers = set s.containers s.depth (record { start = s.used; header = x; code = container_code k; members = 0 });
       })
       l) q
-      ∙ end_accepted (opening an k) s b (reserve an) n l e shallow (s.depth + 1) false _ refl refl h
+      ∙ end_accepted (opening an k) s b (reserve an) l shallow (s.depth + 1) false _ refl refl n e
 
 pub opening_deep : (an : List ℕ) (k : ContainerType) (s : State) (b : List ℕ)
     → first_failing (checks (opening an k) (config s b)) ≡ first_failing (opening_lines an s b)
@@ -125,16 +123,8 @@ opening_deep an k s b past d = sym (run_refused (opening an k) s b 4 (past ∙ r
 
 -- ---- a closing
 
-closed_least : (start header code : ℕ) (live : List ℕ) → 0 < length (closed_bytes start header code live)
-unfolding closed_bytes
-closed_least start header code live =
-    by_cases (eqb header start)
-    (λ p. rw (p, closed_bytes) (framed-some code (drop (header + 2) live)))
-    (λ p. rw (p, closed_bytes) (framed-some (type_byte annotation_code) (slice (start + 2) header live ++ framed_bytes code (drop (header + 2) live))))
-
-module _ (s : State) (b : List ℕ) (r : Closing) (l : List ℕ)
-    (place : place_verdict s (length b) (not (is_open (open_containers s)) || s.waiting) ≡ accepted)
-    (e : ◌≡◌ {A = Closing × List ℕ} (r, l) (closed_on (innermost s) s.used b)) where
+module _ (s : State) (b l : List ℕ)
+    (place : place_verdict s (length b) (not (is_open (open_containers s)) || s.waiting) ≡ accepted) where
   closing-fits : fits s (length b) ≡ true
   closing-fits = accepted_fits s (length b) _ place
 
@@ -162,27 +152,25 @@ module _ (s : State) (b : List ℕ) (r : Closing) (l : List ℕ)
       })
   closing-effect = rw (open_first s (length b) closing-fits closing_open)
 
-  closing-spliced : ◌≡◌ {A = Closing × List ℕ} (r, l) (spliced s.used (innermost s).start out moved b)
-  closing-spliced =
+  closing-spliced : (r : Option Closing) → ◌≡◌ {A = Option Closing × List ℕ} (r, l) (closed_on (innermost s) s.used b)
+      → ◌≡◌ {A = Option Closing × List ℕ} (r, l) (spliced s.used (innermost s).start out moved b)
+  closing-spliced r e =
       e
       ∙ closed_on-fits (innermost s) s.used b
       (rw (innermost-fits s (length b) closing-fits closing_open, le-leb s.used (length b) (fits_used s (length b) closing-fits)))
 
-  pub closing_refused : r.used ≡ 0 → outcome (refused 10) s l ≡ run closing (config s b)
+  pub closing_refused : ◌≡◌ {A = Option Closing × List ℕ} (None, l) (closed_on (innermost s) s.used b) → outcome (refused 10) s l ≡ run closing (config s b)
   unfolding spliced
-  closing_refused z =
+  closing_refused e =
       by_cases (leb ((innermost s).start + length out) (length b))
       (λ p.
-      let q : r.used ≡ (innermost s).start + length out =
-      ap (λ (x : Closing × List ℕ). x.0.used) (rw (p, spliced) at closing-spliced) in
-      absurd (never q))
-      (λ p. let q : l ≡ b = ap (λ (x : Closing × List ℕ). x.1) (rw (p, spliced) at closing-spliced) in
+      let q : ◌≡◌ {A = Option Closing} None (Some (record { used = (innermost s).start + length out; moved = moved })) =
+      ap (λ (x : Option Closing × List ℕ). x.0) (rw (p, spliced) at (closing-spliced None e)) in
+      cc)
+      (λ p. let q : l ≡ b = ap (λ (x : Option Closing × List ℕ). x.1) (rw (p, spliced) at (closing-spliced None e)) in
       ap (outcome (refused 10) s) q
       ∙ sym (run_refused closing s b 10 (closing-checks
       ∙ rw (lt-ltb (length b) ((innermost s).start + length out) (leb-false ((innermost s).start + length out) (length b) p)))))
-    where
-      never : r.used ≡ (innermost s).start + length out → ⊥
-      never q = let w = closed_least (innermost s).start (innermost s).header (innermost s).code (take s.used b) in omega (arith, q, z, w)
 
   closing-figures : (rule_of closing (config s b)).figures ≡ record { size = length out; members = (innermost s).members; moved = moved }
   closing-figures = rw (open_first s (length b) closing-fits closing_open)
@@ -191,28 +179,32 @@ module _ (s : State) (b : List ℕ) (r : Closing) (l : List ℕ)
   abbrev grown : Closing
   grown = record { used = (innermost s).start + length out; moved = moved }
 
-  closing-grown : (r.used ≡ 0 → ⊥) → ((innermost s).start + length out ≤ length b) × (r ≡ grown) × (l ≡ splice s.used (innermost s).start out b)
-  unfolding spliced
-  closing-grown h =
-      by_cases (leb ((innermost s).start + length out) (length b))
-      (λ p.
-      let q : ◌≡◌ {A = Closing × List ℕ} (r, l) (grown, splice s.used (innermost s).start out b) = rw (p, spliced) at closing-spliced in
-      (leb-true ((innermost s).start + length out) (length b) p, ap (λ (x : Closing × List ℕ). x.0) q, ap (λ (x : Closing × List ℕ). x.1) q))
-      (λ p. absurd (h (ap (λ (x : Closing × List ℕ). x.0.used) (rw (p, spliced) at closing-spliced))))
+  module _ (r : Closing) (e : ◌≡◌ {A = Option Closing × List ℕ} (Some r, l) (closed_on (innermost s) s.used b)) where
+    closing-grown : ((innermost s).start + length out ≤ length b) × (r ≡ grown) × (l ≡ splice s.used (innermost s).start out b)
+    unfolding spliced
+    closing-grown =
+        by_cases (leb ((innermost s).start + length out) (length b))
+        (λ p.
+        let q : ◌≡◌ {A = Option Closing × List ℕ} (Some r, l) (Some grown, splice s.used (innermost s).start out b) =
+        rw (p, spliced) at (closing-spliced (Some r) e) in
+        let o : ◌≡◌ {A = Option Closing} (Some r) (Some grown) = ap (λ (x : Option Closing × List ℕ). x.0) q in
+        (leb-true ((innermost s).start + length out) (length b) p, cc, ap (λ (x : Option Closing × List ℕ). x.1) q))
+        (λ p.
+        let q : ◌≡◌ {A = Option Closing} (Some r) None = ap (λ (x : Option Closing × List ℕ). x.0) (rw (p, spliced) at (closing-spliced (Some r) e)) in
+        cc)
 
-  pub closing-start : (r.used ≡ 0 → ⊥) → (innermost s).start ≤ r.used
-  closing-start h = omega (arith, ap (λ (x : Closing). x.used) (closing-grown h).1)
+    pub closing-start : (innermost s).start ≤ r.used
+    closing-start = omega (arith, ap (λ (x : Closing). x.used) closing-grown.1)
 
-  pub closing_accepted : (r.used ≡ 0 → ⊥)
-      → accepted_with (config (record { used = r.used; depth = s.depth - 1; waiting = false; containers = counted s.containers (s.depth - 1) }) l)
-      (record { size = r.used - (innermost s).start; members = (innermost s).members; moved = r.moved })
-      ≡ run closing (config s b)
-  closing_accepted h =
-      let g = closing-grown h in
-      let z : (innermost s).start + length out - (innermost s).start ≡ length out = omega arith in
-      rw (g.1, g.2, z)
-      (sym (run_accepted closing s b (closing-checks ∙ rw (le-ltb (length b) ((innermost s).start + length out) g.0))
-      ∙ ap₂ accepted_with closing-effect closing-figures))
+    pub closing_accepted : accepted_with (config (record { used = r.used; depth = s.depth - 1; waiting = false; containers = counted s.containers (s.depth - 1) }) l)
+        (record { size = r.used - (innermost s).start; members = (innermost s).members; moved = r.moved })
+        ≡ run closing (config s b)
+    closing_accepted =
+        let g = closing-grown in
+        let z : (innermost s).start + length out - (innermost s).start ≡ length out = omega arith in
+        rw (g.1, g.2, z)
+        (sym (run_accepted closing s b (closing-checks ∙ rw (le-ltb (length b) ((innermost s).start + length out) g.0))
+        ∙ ap₂ accepted_with closing-effect closing-figures))
 
 -- ---- an abandonment
 

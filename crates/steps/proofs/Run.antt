@@ -1,23 +1,21 @@
 -- What the machine answers and leaves, by how far a call gets: refused by place, refused by its own lines, or accepted.
 -- Assumes nothing.
-use Rattle.std.proofs.Common.{◌≡◌, ℕ, zero, suc, ◌+◌, ◌^◌, ◌<◌, ◌≤◌, Bool, true, false, ltb, List, [], ◌∷◌, ◌++◌, length, sym, refl, ap, ◌∙◌, ap₂, ⊎_elim, mod-eq_of_lt, arith, le-ltb, lt-ltb, Err}
+use Rattle.std.proofs.Common.{◌≡◌, ℕ, ◌+◌, ◌%◌, ◌^◌, ◌<◌, arith, mod-eq_of_lt, Bool, true, false, ltb, List, [], ◌∷◌, ◌++◌, length, Option, Some, None, Err, sym, refl, ap, ◌∙◌, ap₂, le-ltb, lt-ltb}
 use mathlib.Core.Bool.{false≢true}
 use Rattle.ion.proofs.Tests.{by_cases}
 use Rattle.encoding.specs.Argument.{Argument, argument_checks, any_holds}
-use Rattle.buffer.specs.Laid.{laid, placed}
-use Rattle.buffer.proofs.Laid.{placed_or}
+use Rattle.buffer.specs.Laid.{placed}
+use Rattle.buffer.proofs.Laid.{placed-some, placed-none}
 use Rattle.containers.proofs.Splice.{splice_end}
 use Rattle.machine.specs.declared.State.{State}
 use Rattle.machine.specs.declared.Container.{Container}
 use Rattle.machine.specs.Call.{Call}
 use Rattle.machine.specs.Machine.{Config, config, put, at_end, Figures, no_figures, rule_of, effect, place_lines, checks, Verdict, accepted, refused}
 use Rattle.machine.specs.Machine.{first_failing, place_verdict, is_accepted, verdict, Outcome, run}
-use Rattle.machine.specs.declared.Refusal.{Refusal}
-use Rattle.machine.specs.declared.Refusal.TheVariants.{NoRoom}
 use Rattle.machine.specs.declared.Refused.{Refused}
-use Rattle.machine.specs.Numbers.{number, refused_outcome, outcome_of}
-use Rattle.steps.specs.Ended.{checked_as, ended_as}
-use Rattle.steps.specs.Refused.{own_refusal}
+use Rattle.machine.specs.Numbers.{number, refused_outcome}
+use Rattle.steps.specs.Checked.{checked_as}
+use Rattle.scalars.specs.Refused.{own_refusal}
 
 -- ---- the first failing line of two lists
 
@@ -101,77 +99,28 @@ module _ (c : Call) (s : State) (b : List ℕ) (m : Bool) (rest : List (Bool × 
 
 -- ---- a call that puts bytes at the end of the used ones
 
--- all of them fit, or none was put
-pub placed-some : (b : List ℕ) (at : ℕ) (out : List ℕ) (n : ℕ) (l : List ℕ) → ◌≡◌ {A = ℕ × List ℕ} (n, l) (placed b at out) → (n ≡ 0 → ⊥)
-    → (at + length out ≤ length b) × (n ≡ length out) × (l ≡ laid b at out)
-placed-some b at out n l e h =
-    ⊎_elim
-    (λ w.
-    let q : ◌≡◌ {A = ℕ × List ℕ} (n, l) (length out, laid b at out) = e ∙ w.1 in
-    (w.0, ap (λ (x : ℕ × List ℕ). x.0) q, ap (λ (x : ℕ × List ℕ). x.1) q))
-    (λ w. let q : ◌≡◌ {A = ℕ × List ℕ} (n, l) (0, b) = e ∙ w.1 in absurd (h (ap (λ (x : ℕ × List ℕ). x.0) q)))
-    (placed_or b at out)
-
-pub placed-none : (b : List ℕ) (at : ℕ) (out : List ℕ) (n : ℕ) (l : List ℕ) → ◌≡◌ {A = ℕ × List ℕ} (n, l) (placed b at out) → n ≡ 0
-    → 0 < length out → (length b < at + length out) × (l ≡ b)
-placed-none b at out n l e z pos =
-    ⊎_elim
-    (λ w. let q : n ≡ length out = ap (λ (x : ℕ × List ℕ). x.0) (e ∙ w.1) in absurd (never q))
-    (λ w. (w.0, ap (λ (x : ℕ × List ℕ). x.1) (e ∙ w.1)))
-    (placed_or b at out)
-  where
-    never : n ≡ length out → ⊥
-    never q = omega arith
-
--- no sum of a used length and what was put wraps
-pub put_fits : (b : List ℕ) (at : ℕ) (out : List ℕ) (n : ℕ) (l : List ℕ) → ◌≡◌ {A = ℕ × List ℕ} (n, l) (placed b at out) → (n ≡ 0 → ⊥) → at + n ≤ length b
-put_fits b at out n l e h = let w = placed-some b at out n l e h in omega (arith, w.0, w.1)
-
-module _ (c : Call) (s : State) (b out : List ℕ) (n : ℕ) (l : List ℕ) (e : ◌≡◌ {A = ℕ × List ℕ} (n, l) (placed b s.used out))
+-- bytes at the end of the used ones, which are put or not
+module _ (c : Call) (s : State) (b out : List ℕ) (l : List ℕ)
     (past : first_failing (checks c (config s b)) ≡ first_failing ((ltb (length b) (s.used + length out), 10) ∷ [])) where
-  pub end_refused : n ≡ 0 → 0 < length out → outcome (refused 10) s l ≡ run c (config s b)
-  end_refused z pos =
-      let w = placed-none b s.used out n l e z pos in
+  pub end_refused : ◌≡◌ {A = Option ℕ × List ℕ} (None, l) (placed b s.used out) → outcome (refused 10) s l ≡ run c (config s b)
+  end_refused e =
+      let w = placed-none b s.used out l e in
       ap (λ (x : List ℕ). outcome (refused 10) s x) w.1 ∙ sym (run_refused c s b 10 (past ∙ rw (lt-ltb (length b) (s.used + length out) w.0)))
 
   pub end_accepted : (d : ℕ) (waits : Bool) (cs : List Container)
       → effect c (config s b) ≡ put (config s b) (record { place = s.used; out = out; depth = d; waiting = waits; containers = cs })
-      → (rule_of c (config s b)).figures ≡ no_figures → (n ≡ 0 → ⊥)
+      → (rule_of c (config s b)).figures ≡ no_figures → (n : ℕ) → ◌≡◌ {A = Option ℕ × List ℕ} (Some n, l) (placed b s.used out)
       → outcome accepted (record { used = s.used + n; depth = d; waiting = waits; containers = cs }) l ≡ run c (config s b)
-  end_accepted d waits cs f g h =
-      let w = placed-some b s.used out n l e h in
+  end_accepted d waits cs f g n e =
+      let w = placed-some b s.used out n l e in
       rw (w.1, w.2, ← (splice_end s.used out b))
       (sym (run_accepted c s b (past ∙ rw (le-ltb (length b) (s.used + length out) w.0)) ∙ ap₂ accepted_with f g))
 
--- ---- a call that could put n bytes at the end of the used ones, or none
-
--- the state with n bytes more, and the records cs
-abbrev pub grown : State → ℕ → Bool → List Container → State
-grown s n waits cs = record { used = s.used + n; depth = s.depth; waiting = waits; containers = cs }
-
--- what it leaves, l being the buffer after it: `why` is why it could put none
-pub record Ends (c : Call) (s : State) (b : List ℕ) (n : ℕ) (l : List ℕ) (waits : Bool) (cs : List Container) (why : Refusal) : Type 0 where
-  pub none : n ≡ 0 → outcome (refused (number why)) s l ≡ run c (config s b)
-  pub some : (n ≡ 0 → ⊥) → outcome accepted (grown s n waits cs) l ≡ run c (config s b)
-
--- bytes that are never none, with no check of their own but 10
-pub end_run : (c : Call) (s : State) (b out : List ℕ) (n : ℕ) (l : List ℕ) (waits : Bool) (cs : List Container)
-    → ◌≡◌ {A = ℕ × List ℕ} (n, l) (placed b s.used out)
-    → first_failing (checks c (config s b)) ≡ first_failing ((ltb (length b) (s.used + length out), 10) ∷ [])
-    → 0 < length out → effect c (config s b) ≡ put (config s b) (at_end s out waits cs) → (rule_of c (config s b)).figures ≡ no_figures
-    → Ends c s b n l waits cs NoRoom
-end_run c s b out n l waits cs e past pos f g = record {
-  none = λ z. end_refused c s b out n l e past z pos;
-  some = λ h. end_accepted c s b out n l e past s.depth waits cs f g h;
-}
-
--- what `ended` and `scalar_ended` answer
-pub ended_run : (c : Call) (s : State) (b : List ℕ) (n : ℕ) (l : List ℕ) (waits : Bool) (cs : List Container) (why : Refusal)
-    → ((n ≡ 0 → ⊥) → s.used + n < 2 ^ 64) → Ends c s b n l waits cs why → outcome_of (ended_as s n waits cs why) l ≡ run c (config s b)
-ended_run c s b zero l waits cs why small h = h.none refl
-ended_run c s b (suc n) l waits cs why small h =
-    ap (λ (u : ℕ). outcome accepted (record { used = u; depth = s.depth; waiting = waits; containers = cs }) l) (mod-eq_of_lt (small (nonzero n)))
-    ∙ h.some (nonzero n)
-  where
-    nonzero : (n : ℕ) → suc n ≡ 0 → ⊥
-    nonzero n q = omega arith
+  -- of a buffer that a machine can have, the used length is not cut to 64 bits
+  pub end_grown : length b < 2 ^ 64 → (waits : Bool) → effect c (config s b) ≡ put (config s b) (at_end s out waits s.containers)
+      → (rule_of c (config s b)).figures ≡ no_figures → (n : ℕ) → ◌≡◌ {A = Option ℕ × List ℕ} (Some n, l) (placed b s.used out)
+      → outcome accepted (record { used = (s.used + n) % 2 ^ 64; depth = s.depth; waiting = waits; containers = s.containers }) l ≡ run c (config s b)
+  end_grown short waits f g n e =
+      let w = placed-some b s.used out n l e in
+      let u : (s.used + n) % 2 ^ 64 ≡ s.used + n = mod-eq_of_lt (omega (arith, w.0, w.1)) in
+      rw u (end_accepted s.depth waits s.containers f g n e)

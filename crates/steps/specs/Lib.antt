@@ -1,5 +1,4 @@
+pub mod Checked
 pub mod Counted
-pub mod Ended
 pub mod Kinds
-pub mod Refused
 pub mod Start

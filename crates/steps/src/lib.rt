@@ -1,22 +1,16 @@
-// What the calls share: the kinds of containers, the check by place of a state by value, why a value that may stand where it stands was not put,
-// and the answer of a call that puts bytes. The laws in proofs/ say what the machine answers and leaves, by how far a call gets.
+// What the calls share: the kinds of containers, the check by place of a state by value, and the state behind a call that puts bytes.
+// The laws in proofs/ say what the machine answers and leaves, by how far a call gets.
 #![tactic(auto)]
 
-ghost use Rattle.std.specs.Prelude.{◌≡◌, false};
-ghost use Rattle.encoding.specs.Argument.{write_int, write_decimal, write_string};
-ghost use Rattle.machine.specs.Machine.{container_code, refused, place_verdict};
-ghost use Rattle.machine.specs.Numbers.{number};
+ghost use Rattle.std.specs.Prelude.{◌≡◌, ◌+◌, ◌%◌, ◌^◌};
+ghost use Rattle.machine.specs.Machine.{container_code, place_verdict};
 ghost use Rattle.place.specs.Misplaced.{misplaced};
-ghost use Rattle.timestamp.specs.Arguments.{argument_of};
+ghost use Rattle.steps.specs.Checked.{checked_as};
 ghost use Rattle.steps.specs.Counted.{counted_cut};
-ghost use Rattle.steps.specs.Ended.{checked_as, ended_as};
 ghost use Rattle.steps.specs.Kinds.{kind_of};
-ghost use Rattle.steps.specs.Refused.{own_refusal};
 
-use decimal::MAX_BODY;
-use machine::{Container, LIST, MOST_OPEN, Refusal, Refused, SEXP, STRUCT, State};
+use machine::{Container, LIST, MOST_OPEN, Refused, SEXP, STRUCT, State};
 use place::CallKind;
-use timestamp::Timestamp;
 
 #[derive(Clone, Copy, Debug, PartialEq, Eq)]
 pub enum ContainerType {
@@ -45,58 +39,15 @@ pub fn check(s: State, room: usize, call: CallKind) -> Result<(), Refused>
     place::check(&s, room, call).map_err(|why| Refused { why, state: s })
 }
 
-// Why an int that may stand where it stands was not put: the first of its own checks that fails, or 10.
-pub fn int_refusal(negative: bool, magnitude: &[u8]) -> Refusal
-    ensures { refused (number result) ≡ own_refusal (write_int negative magnitude.now) }
+// The state behind a call that has put `put` bytes at the end of the used ones.
+pub fn grown(s: State, put: usize, waiting: bool) -> State
+    ensures { result ≡ record { used = (s.used + put) % 2 ^ 64; depth = s.depth; waiting = waiting; containers = s.containers } }
 {
-    if scalars::is_negative_zero(negative, magnitude) {
-        return Refusal::NegativeZero;
-    }
-    Refusal::NoRoom
-}
-
-// The same of a decimal.
-pub fn decimal_refusal(negative: bool, coefficient: &[u8], exponent: i64) -> Refusal
-    ensures { refused (number result) ≡ own_refusal (write_decimal negative coefficient.now exponent) }
-{
-    if MAX_BODY < decimal::body_size(negative, coefficient, exponent) {
-        return Refusal::DecimalTooLong;
-    }
-    Refusal::NoRoom
-}
-
-// The same of a timestamp.
-pub fn timestamp_refusal(value: Timestamp) -> Refusal
-    ensures { refused (number result) ≡ own_refusal (argument_of value) }
-{
-    if value.is_valid() {
-        return Refusal::NoRoom;
-    }
-    Refusal::BadTimestamp
-}
-
-// The same of a string.
-pub fn string_refusal(bytes: &[u8]) -> Refusal
-    ensures { refused (number result) ≡ own_refusal (write_string bytes.now) }
-{
-    if text::is_utf8(bytes) {
-        return Refusal::NoRoom;
-    }
-    Refusal::NotUtf8
-}
-
-// The answer of a call that has put `put` bytes at the end of the used ones, or none for the reason `why`.
-pub fn ended(s: State, put: usize, waiting: bool, why: Refusal) -> Result<State, Refused>
-    ensures { result ≡ ended_as s put waiting s.containers why }
-{
-    if put == 0 {
-        return Err(Refused { why, state: s });
-    }
-    Ok(State {
+    State {
         used: s.used.wrapping_add(put),
         waiting,
         ..s
-    })
+    }
 }
 
 // The innermost container with one member more; with none open the state is as it was.
@@ -117,11 +68,4 @@ pub fn counted(s: State) -> State
         ..c
     };
     next
-}
-
-// The answer of a call that has put a scalar of `put` bytes, which is a member of the innermost container, or none for the reason `why`.
-pub fn scalar_ended(s: State, put: usize, why: Refusal) -> Result<State, Refused>
-    ensures { result ≡ ended_as s put false (counted_cut s.containers s.depth) why }
-{
-    ended(s, put, false, why).map(counted)
 }
