@@ -199,6 +199,17 @@ impl<'a> Walk<'a> {
         Ok(Part::Annotations(names))
     }
 
+    // A container, up to its name, behind which `due` is due.
+    fn opening(&mut self, name: &[u8], container: Container, due: Due) -> Part<'a>
+        requires name { length name.now ≤ length self.old.rest.now }
+        requires room { self.old.due.depth + length self.old.rest.now ≤ 4096 }
+        ensures { length self.new.rest.now ≤ length self.old.rest.now }
+    {
+        self.skip(name.len());
+        self.due.push(due);
+        Part::Opening(container)
+    }
+
     // A value, of which a scalar ends at the next bracket that closes. `due` is a value that may be annotated, or a bare one.
     fn value(&mut self, due: Due) -> Result<Part<'a>, Refused>
         ensures { GoesOn result self.old.rest.now self.new.rest.now }
@@ -207,21 +218,9 @@ impl<'a> Walk<'a> {
         let text = self.text_to(b')')?;
         let name = first_word(text);
         match name {
-            b"list" => {
-                self.skip(name.len());
-                self.due.push(Due::Member);
-                Ok(Part::Opening(Container::List))
-            }
-            b"sexp" => {
-                self.skip(name.len());
-                self.due.push(Due::Member);
-                Ok(Part::Opening(Container::Sexp))
-            }
-            b"struct" => {
-                self.skip(name.len());
-                self.due.push(Due::Field);
-                Ok(Part::Opening(Container::Struct))
-            }
+            b"list" => Ok(self.opening(name, Container::List, Due::Member)),
+            b"sexp" => Ok(self.opening(name, Container::Sexp, Due::Member)),
+            b"struct" => Ok(self.opening(name, Container::Struct, Due::Field)),
             b"ann" => {
                 if let Due::BareValue = due {
                     return Err(Refused::Form);
