@@ -6,6 +6,7 @@ ghost use Rattle.std.specs.Float.{binary32, binary64};
 ghost use Rattle.std.specs.Float.Ieee.{to_bits};
 ghost use Rattle.ion.specs.Value.{high_bits};
 ghost use Rattle.ion.specs.Fields.{uint};
+ghost use Rattle.ion.specs.Text.{utf8};
 ghost use Rattle.encoding.specs.Headers.{type_byte, framed_bytes};
 ghost use Rattle.encoding.specs.Argument.{Argument, code_of_null, code_of_sign, checked_bytes, write_null, write_bool, write_i64, write_int, write_f32, write_f64, write_decimal, write_symbol, write_string, write_clob, write_blob};
 ghost use Rattle.machine.specs.Machine.{refused};
@@ -374,25 +375,34 @@ impl WriteAsIon for Timestamp {
 #[derive(Clone, Copy)]
 pub struct Text<'a>(pub &'a [u8]);
 
+impl<'a> Text<'a> {
+    // Check 6 of document 01's table lets it pass.
+    pub fn is_utf8(self) -> bool
+        ensures { result ≡ utf8 self.entry.0.now }
+    {
+        text::is_utf8(self.0)
+    }
+}
+
 impl<'a> WriteAsIon for Text<'a> {
     ghost argument = { λ s. write_string s.0.now };
 
     fn size(self) -> Option<usize> {
-        if !text::is_utf8(self.0) {
+        if !self.is_utf8() {
             return None;
         }
         Some(framed_size(self.0.len()))
     }
 
     fn write(self, buf: &mut [u8], at: usize) -> Option<usize> {
-        if !text::is_utf8(self.0) {
+        if !self.is_utf8() {
             return None;
         }
         write_bytes(buf, at, STRING, self.0)
     }
 
     fn refusal(self) -> Refusal {
-        if text::is_utf8(self.0) {
+        if self.is_utf8() {
             return Refusal::NoRoom;
         }
         Refusal::NotUtf8
