@@ -16,10 +16,11 @@ pub const WRAPPER: u8 = 0xE0;
 fn sid_count(annotations: &[u8]) -> usize
     ensures { result ≡ sid_count annotations.now }
 {
-    annotations.len().div_ceil(SID_BYTES)
+    (annotations.len() + 7) / SID_BYTES
 }
 
-// The sid of fewer than eight bytes.
+// The sid of fewer than eight bytes. Out of line, which keeps its loop out of that over the sids.
+#[inline(never)]
 fn short_sid(bytes: &[u8]) -> u64
     requires { length bytes.now < 8 }
     ensures { result ≡ least_first bytes.now 0 8 }

@@ -16,7 +16,7 @@ mod writes;
 
 ghost use Rattle.std.specs.Prelude.{◌≡◌, ◌≤◌, length};
 
-use machine::{Answer, Closed, Container, Refusal, State};
+use machine::{Closed, Container, Refused, State};
 use std::io;
 use words::{least, word};
 
@@ -63,17 +63,7 @@ fn fresh(buf: &mut [u8]) -> State {
         buf[i] = FILL;
         i += 1;
     }
-    State {
-        used: 0,
-        depth: 0,
-        waiting: false,
-        containers: [Container {
-            start: 0,
-            header: 0,
-            code: 0,
-            members: 0,
-        }; 32],
-    }
+    State::empty(0)
 }
 
 fn set(n: Numbers, state: State) -> State {
@@ -133,36 +123,23 @@ fn has_bytes(at: usize, word: &[u8], buf: &[u8]) -> bool {
     &bytes[0..count] == &buf[from..to]
 }
 
-// The numbers of document 01, and 0 for what is accepted.
-fn number(answer: Answer) -> usize {
+// The number of document 01, or 0 for what is accepted, and what the call left; a refused one has no numbers of a container.
+fn parts(answer: Result<Closed, Refused>) -> (usize, Closed) {
     match answer {
-        Answer::Accepted => 0,
-        Answer::Refused(why) => match why {
-            Refusal::BufferTooLong => 1,
-            Refusal::StateUnfit => 2,
-            Refusal::Misplaced => 3,
-            Refusal::TooDeep => 4,
-            Refusal::NegativeZero => 5,
-            Refusal::NotUtf8 => 6,
-            Refusal::BadTimestamp => 7,
-            Refusal::DecimalTooLong => 8,
-            Refusal::NoRoom => 10,
-        },
+        Ok(closed) => (0, closed),
+        Err(refused) => (
+            u8::from(refused.why) as usize,
+            writes::without_numbers(refused.state),
+        ),
     }
 }
 
 // What a call answered and left, and what it answered of a container.
-fn print_got(rt: &impl Print, got: Closed) -> io::Result<()> {
+fn print_got(rt: &impl Print, number: usize, got: Closed) -> io::Result<()> {
     let state = got.state;
     print!(rt;
         "got {} {} {} {} {} {} {} ",
-        number(got.answer),
-        state.used,
-        state.depth,
-        state.waiting as usize,
-        got.size,
-        got.members,
-        got.moved
+        number, state.used, state.depth, state.waiting as usize, got.size, got.members, got.moved
     )
 }
 
@@ -183,17 +160,16 @@ fn has_numbers(call: &[u8], got: Closed) -> bool {
         & (got.moved == size(word(call, 3)))
 }
 
-fn compare_call(rt: &impl Print, line: &[u8], got: Closed) -> io::Result<()> {
+fn compare_call(rt: &impl Print, line: &[u8], number: usize, got: Closed) -> io::Result<()> {
     let n = read(line);
-    let answer = got.answer;
     let state = got.state;
-    let is_right = (number(answer) == n.first)
+    let is_right = (number == n.first)
         & (state.used == n.second)
         & (state.depth == n.third)
         & (state.waiting == (n.fourth == 1))
         & has_numbers(words::from_word(line, 5), got);
     if !is_right {
-        print_got(rt, got)?;
+        print_got(rt, number, got)?;
     }
     report(rt, is_right)
 }
@@ -205,8 +181,8 @@ fn call(rt: &impl Print, line: &[u8], state: State, buf: &mut [u8]) -> io::Resul
         return Ok(state);
     }
     let room = least(size(word(line, 0)), buf.len());
-    let got = writes::write(named, state, &mut buf[0..room]);
-    compare_call(rt, line, got)?;
+    let (number, got) = parts(writes::write(named, state, &mut buf[0..room]));
+    compare_call(rt, line, number, got)?;
     Ok(got.state)
 }
 

@@ -2,9 +2,9 @@
 // A float is named by its bits: `f32` and `f64` hand those on, `f32_value` and `f64_value` the float itself.
 ghost use Rattle.std.specs.Prelude.{◌≡◌, ◌≤◌, length};
 
-use machine::{Closed, State, Written};
+use machine::{Closed, Refused, State};
 use scalars::IonType;
-use timestamp::{Fraction, Offset, Precision, Timestamp};
+use timestamp::{Precision, Timestamp};
 use words::{hex, numbers, word};
 use writer::ContainerType;
 
@@ -134,8 +134,8 @@ fn local_time(call: &[u8]) -> Timestamp {
         hour: numbers::natural_u32(word(call, 4)),
         minute: numbers::natural_u32(word(call, 5)),
         second: numbers::natural_u32(word(call, 6)),
-        offset: Offset::Unknown,
-        fraction: Fraction::None,
+        offset: None,
+        fraction: None,
     }
 }
 
@@ -179,7 +179,12 @@ fn read(call: &[u8]) -> Arguments {
 }
 
 // An emptying is the one that is left.
-fn write_plain(function: usize, number: u64, state: State, buf: &mut [u8]) -> Written {
+fn write_plain(
+    function: usize,
+    number: u64,
+    state: State,
+    buf: &mut [u8],
+) -> Result<State, Refused> {
     match function {
         START => writer::start(buf),
         NAME => writer::field_name(state, buf, number),
@@ -196,7 +201,7 @@ fn write_value(
     bytes: &[u8],
     state: State,
     buf: &mut [u8],
-) -> Written {
+) -> Result<State, Refused> {
     let a = read(call);
     match function {
         LIST => writer::open(state, buf, annotations, ContainerType::List),
@@ -220,12 +225,9 @@ fn write_value(
     }
 }
 
-// What a call answers that closes no container, and so has no numbers of one.
-fn without_numbers(written: Written) -> Closed {
-    let answer = written.answer;
-    let state = written.state;
+// What a call leaves that closes no container, and so has no numbers of one.
+pub(crate) fn without_numbers(state: State) -> Closed {
     Closed {
-        answer,
         state,
         size: 0,
         members: 0,
@@ -234,7 +236,7 @@ fn without_numbers(written: Written) -> Closed {
 }
 
 // Makes the call.
-pub(crate) fn write(call: &[u8], state: State, buf: &mut [u8]) -> Closed {
+pub(crate) fn write(call: &[u8], state: State, buf: &mut [u8]) -> Result<Closed, Refused> {
     let mut annotations = [0u8; 256];
     let n = sids(call, &mut annotations);
     let plain = behind_sids(call);
@@ -244,12 +246,13 @@ pub(crate) fn write(call: &[u8], state: State, buf: &mut [u8]) -> Closed {
     }
     let mut bytes = longest_body();
     let m = bytes_of(function, plain, &mut bytes);
-    without_numbers(write_value(
+    let left = write_value(
         function,
         plain,
         &annotations[0..n],
         &bytes[0..m],
         state,
         buf,
-    ))
+    )?;
+    Ok(without_numbers(left))
 }

@@ -24,6 +24,7 @@ pub const MARKER: [u8; 4] = [0xE0, 0x01, 0x00, 0xEA];
 // An open container: where it starts, where the reserve of its header lies, its type code (B0 for a list, C0 for an s-expression, D0 for a struct),
 // and how many direct members it has; a struct counts its name and value pairs.
 // Without annotations the header lies at the start; with them it lies behind the wrapper's reserve and the annotations.
+// The code is a number and no enum: a state that is handed in may hold any, and check 2 refuses the others.
 #[derive(Clone, Copy)]
 pub struct Container {
     pub start: usize,
@@ -43,7 +44,7 @@ impl Container {
 }
 
 // The used length of the lent buffer, how many containers are open, whether a field name waits for its value, and the containers, outermost first.
-// The records from `depth` on mean nothing.
+// The records from `depth` on mean nothing. It is an array with its count: the state goes by value in fixed memory, and there is no heap.
 #[derive(Clone, Copy)]
 pub struct State {
     pub used: usize,

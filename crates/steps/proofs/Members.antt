@@ -1,6 +1,6 @@
 -- Of a state that fits no count is cut to 64 bits: each open container has fewer members than the buffer has bytes.
 -- By induction over the open containers. Assumes nothing.
-use Rattle.std.proofs.Common.{◌≡◌, ℕ, zero, suc, ◌+◌, ◌-◌, ◌^◌, ◌<◌, ◌≤◌, true, eqb, leb, List, get_or, set, refl, ap, ⊎_elim, mod-eq_of_lt, sub-one, arith, eqb-true}
+use Rattle.std.proofs.Common.{◌≡◌, ℕ, zero, suc, ◌+◌, ◌^◌, ◌<◌, ◌≤◌, true, eqb, leb, List, get_or, set, refl, ap, ⊎_elim, mod-eq_of_lt, arith, eqb-true}
 use borrow.Author.Tests.{eqb-false}
 use Rattle.ion.proofs.Tests.{by_cases, both}
 use Rattle.machine.specs.declared.State.{State}
@@ -8,7 +8,7 @@ use Rattle.machine.specs.declared.Container.{Container}
 use Rattle.machine.specs.Machine.{most_open, no_container, innermost_first, open_containers, counted, container_fits, containers_fit, fits}
 use Rattle.place.proofs.Laws.{fits_used}
 use Rattle.machine.proofs.Fit.{fit}
-use Rattle.steps.specs.Counted.{member_cut, counted_cut}
+use Rattle.steps.specs.Counted.{counted_cut}
 
 -- ---- the containers of a state that fits
 
@@ -38,14 +38,6 @@ pub members_few : (s : State) (room : ℕ) → fits s room ≡ true → (j : ℕ
 members_few s room f j h = omega (arith, members-before s.containers s.depth s.used (fits_chain s room f) j h, fits_used s room f)
 
 -- ---- one member more
-
--- the record below n
-pub counted_cut_step : (l : List Container) (n : ℕ) → 0 < n → counted_cut l n ≡ set l (n - 1) (member_cut (get_or l (n - 1) no_container))
-counted_cut_step l zero h = absurd (omega arith)
-counted_cut_step l (suc n) h = rw (sub-one (suc n))
-
-pub counted_cut-none : (l : List Container) (n : ℕ) → n ≡ 0 → counted_cut l n ≡ l
-counted_cut-none l n z = ap (counted_cut l) z
 
 uncut : (l : List Container) (n : ℕ) → ((j : ℕ) → j < n → (get_or l j no_container).members + 1 < 2 ^ 64) → counted_cut l n ≡ counted l n
 uncut l zero h = refl

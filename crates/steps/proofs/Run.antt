@@ -1,6 +1,6 @@
 -- What the machine answers and leaves, by how far a call gets: refused by place, refused by its own lines, or accepted.
 -- Assumes nothing.
-use Rattle.std.proofs.Common.{◌≡◌, ℕ, ◌+◌, ◌<◌, Bool, true, false, ltb, List, [], ◌∷◌, ◌++◌, length, Option, Some, None, Err, sym, refl, ap, ◌∙◌, ap₂, le-ltb, lt-ltb}
+use Rattle.std.proofs.Common.{◌≡◌, ℕ, ◌+◌, ◌%◌, ◌^◌, ◌<◌, arith, mod-eq_of_lt, Bool, true, false, ltb, List, [], ◌∷◌, ◌++◌, length, Option, Some, None, Err, sym, refl, ap, ◌∙◌, ap₂, le-ltb, lt-ltb}
 use mathlib.Core.Bool.{false≢true}
 use Rattle.ion.proofs.Tests.{by_cases}
 use Rattle.encoding.specs.Argument.{Argument, argument_checks, any_holds}
@@ -10,7 +10,7 @@ use Rattle.containers.proofs.Splice.{splice_end}
 use Rattle.machine.specs.declared.State.{State}
 use Rattle.machine.specs.declared.Container.{Container}
 use Rattle.machine.specs.Call.{Call}
-use Rattle.machine.specs.Machine.{Config, config, put, Figures, no_figures, rule_of, effect, place_lines, checks, Verdict, accepted, refused}
+use Rattle.machine.specs.Machine.{Config, config, put, at_end, Figures, no_figures, rule_of, effect, place_lines, checks, Verdict, accepted, refused}
 use Rattle.machine.specs.Machine.{first_failing, place_verdict, is_accepted, verdict, Outcome, run}
 use Rattle.machine.specs.declared.Refused.{Refused}
 use Rattle.machine.specs.Numbers.{number, refused_outcome}
@@ -86,7 +86,6 @@ own-refusal a used room h =
 pub own_only : (a : Argument) (rest : List (Bool × ℕ)) → any_holds (argument_checks a) ≡ false → first_failing (argument_checks a ++ rest) ≡ first_failing rest
 own_only a rest p = first_of_right (argument_checks a) rest (no_check (argument_checks a) p)
 
-
 -- ---- the answer of a check by place
 
 -- the first four parameters of each law below: what line 3 says, and the lines behind it
@@ -116,3 +115,12 @@ module _ (c : Call) (s : State) (b out : List ℕ) (l : List ℕ)
       let w = placed-some b s.used out n l e in
       rw (w.1, w.2, ← (splice_end s.used out b))
       (sym (run_accepted c s b (past ∙ rw (le-ltb (length b) (s.used + length out) w.0)) ∙ ap₂ accepted_with f g))
+
+  -- of a buffer that a machine can have, the used length is not cut to 64 bits
+  pub end_grown : length b < 2 ^ 64 → (waits : Bool) → effect c (config s b) ≡ put (config s b) (at_end s out waits s.containers)
+      → (rule_of c (config s b)).figures ≡ no_figures → (n : ℕ) → ◌≡◌ {A = Option ℕ × List ℕ} (Some n, l) (placed b s.used out)
+      → outcome accepted (record { used = (s.used + n) % 2 ^ 64; depth = s.depth; waiting = waits; containers = s.containers }) l ≡ run c (config s b)
+  end_grown short waits f g n e =
+      let w = placed-some b s.used out n l e in
+      let u : (s.used + n) % 2 ^ 64 ≡ s.used + n = mod-eq_of_lt (omega (arith, w.0, w.1)) in
+      rw u (end_accepted s.depth waits s.containers f g n e)

@@ -47,6 +47,7 @@ module _ (an : List ℕ) (a : Argument) (s : State) (b : List ℕ) (l : List ℕ
     where
       contrary : {x : Bool} → x ≡ true → x ≡ false → ⊥
       contrary p q = cc
+
       as_it_was : l ≡ b → (any_holds (argument_checks a) ≡ false → length b < s.used + length out) → outcome (refused (number why)) s l ≡ run (write an a) (config s b)
       as_it_was q h =
           ap (outcome (refused (number why)) s) q

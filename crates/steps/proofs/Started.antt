@@ -25,12 +25,12 @@ module _ (b : List ℕ) (h : length b ≤ longest_buffer) (l : List ℕ) where
       let g : length b < 4 = omega (arith, w.0) in
       rw (w.1, le-ltb longest_buffer (length b) h, lt-ltb (length b) 4 g, start_run)
 
-  pub start_put : (n : ℕ) → ◌≡◌ {A = Option ℕ × List ℕ} (Some n, l) (placed b 0 marker_bytes) → outcome accepted (empty_state 4) l ≡ start_run b
+  pub start_put : (n : ℕ) → ◌≡◌ {A = Option ℕ × List ℕ} (Some n, l) (placed b 0 marker_bytes) → outcome accepted (empty_state n) l ≡ start_run b
   unfolding start_run start_verdict
   start_put n e =
       let w = placed-some b 0 marker_bytes n l e in
       let g : 4 ≤ length b = omega (arith, w.0) in
-      rw (w.2, ← (splice_end 0 marker_bytes b), le-ltb longest_buffer (length b) h, le-ltb (length b) 4 g, start_run)
+      rw (w.1, w.2, ← (splice_end 0 marker_bytes b), le-ltb longest_buffer (length b) h, le-ltb (length b) 4 g, start_run)
 
 -- what is finished lies in the buffer
 pub finished_within : (s : State) (room : ℕ) → finished_length s room ≤ room

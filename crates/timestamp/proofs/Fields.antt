@@ -5,7 +5,7 @@ use native.Mathlib.Omega.{arith}
 use mathlib.Core.Path.{◌≡◌, refl, ◌∙◌}
 use mathlib.Core.List.{List, [], ◌∷◌, append-nil}
 use lib.ListN.{length, take, get_or}
-use lib.Seq.{length-take-le, take_all}
+use lib.Seq.{length-take-le, take-take, get_or-take}
 use Rattle.std.proofs.lemmas.List.{take_more}
 use Rattle.encoding.specs.Fields.{var_uint_bytes, var_uints_bytes, AllBelow}
 use Rattle.std.specs.Prelude.{Option, Some, None}
@@ -34,6 +34,13 @@ length-below Month m d h i s = refl
 length-below Day m d h i s = refl
 length-below Minute m d h i s = refl
 length-below Second m d h i s = refl
+
+field_count_most : (p : Precision) → field_count p ≤ 6
+field_count_most Year = omega arith
+field_count_most Month = omega arith
+field_count_most Day = omega arith
+field_count_most Minute = omega arith
+field_count_most Second = omega arith
 
 all_below-at : (limit : ℕ) (ns : List ℕ) (i : ℕ) → AllBelow limit ns → i < length ns → get_or ns i 0 < limit
 all_below-at limit [] i k h = absurd (omega arith)
@@ -72,34 +79,41 @@ unfolding var_uints_bytes
 year_put b at y ns n m l q e = rw (q, append-nil (var_uint_bytes y)) e
 
 module _ (b : List ℕ) (at : ℕ) (t : Timestamp) (k : ℕ) (e : k ≡ field_count t.precision) where
+  -- the fields below the year, whether they count or not
   abbrev below : List ℕ
-  below = take (k - 1) (t.month ∷ t.day ∷ t.hour ∷ t.minute ∷ t.second ∷ [])
+  below = t.month ∷ t.day ∷ t.hour ∷ t.minute ∷ t.second ∷ []
 
-  fields-are : fields_of t ≡ t.year ∷ below
+  fields-are : fields_of t ≡ t.year ∷ take (k - 1) below
   fields-are = rw e (fields_by-below t.precision t.year t.month t.day t.hour t.minute t.second)
 
-  pub below-length : length below ≡ k - 1
-  below-length = rw e (length-below t.precision t.month t.day t.hour t.minute t.second)
-
-  pub all_put : (i n m : ℕ) (l : List ℕ) → k - 1 ≤ i → m ≡ n → Put b at t.year below i n l
+  pub all_put : (i n m : ℕ) (l : List ℕ) → i ≡ k - 1 → m ≡ n → Put b at t.year below i n l
       → ◌≡◌ {A = Option ℕ × List ℕ} (Some m, l) (placed b at (var_uints_bytes (fields_of t)))
-  all_put i n m l h q f =
-      let all = rw (take_all i below (rw below-length h)) at f in
-      rw (q, fields-are) all
+  all_put i n m l h q f = rw (q, fields-are) (rw h at f)
+
+  pub at_most_five : k - 1 ≤ 5
+  at_most_five = let c = field_count_most t.precision in omega (arith, c, e)
 
   module _ (small : SmallFields (fields_of t)) (room : at + length (var_uints_bytes (fields_of t)) ≤ length b) where
-    low : AllBelow 128 below
+    low : AllBelow 128 (take (k - 1) below)
     low = (rw fields-are at small).1
 
-    all_room : at + (length (var_uint_bytes t.year) + (k - 1)) ≤ length b
-    all_room = let q = length_fields t.year below low in let r = rw fields-are at room in omega (arith, q, r, below-length)
+    length-upto : (i : ℕ) → i ≤ k - 1 → length (take i below) ≡ i
+    length-upto i h = length-take-le i below (omega (arith, at_most_five))
 
-    pub put_room : (i n : ℕ) (l : List ℕ) → i ≤ k - 1 → Put b at t.year below i n l →
-        (at + n + (k - 1) ≤ length b + i) × (length l ≡ length b)
+    low-upto : (i : ℕ) → i ≤ k - 1 → AllBelow 128 (take i below)
+    low-upto i h = rw (take-take i (k - 1) below h) at (all_below-take 128 (take (k - 1) below) i low)
+
+    all_room : at + (length (var_uint_bytes t.year) + (k - 1)) ≤ length b
+    all_room =
+        let q = length_fields t.year (take (k - 1) below) low in
+        let r = rw fields-are at room in
+        omega (arith, q, r, length-upto (k - 1) (omega arith))
+
+    pub put_room : (i n : ℕ) (l : List ℕ) → i ≤ k - 1 → Put b at t.year below i n l → (at + n + (k - 1) ≤ length b + i) × (length l ≡ length b)
     put_room i n l h f =
         let xs = var_uints_bytes (t.year ∷ take i below) in
-        let q = length_fields t.year (take i below) (all_below-take 128 below i low) in
-        let r = length-take-le i below (rw below-length h) in
+        let q = length_fields t.year (take i below) (low-upto i h) in
+        let r = length-upto i h in
         let p = placed-some b at xs n l f in
         (omega (arith, all_room, q, r, p.1), placed-length b at xs (Some n) l f)
 
@@ -114,7 +128,9 @@ module _ (b : List ℕ) (at : ℕ) (t : Timestamp) (k : ℕ) (e : k ≡ field_co
 
       next-small : next < 128
       unfolding next
-      next-small = all_below-at 128 below i low (rw below-length h)
+      next-small =
+          rw (get_or-take (k - 1) below i 0 h) at
+          (all_below-at 128 (take (k - 1) below) i low (rw (length-upto (k - 1) (omega arith)) h))
 
       next-is : next % 128 ≡ next
       next-is = omega (arith, next-small)
@@ -135,5 +151,5 @@ module _ (b : List ℕ) (at : ℕ) (t : Timestamp) (k : ℕ) (e : k ≡ field_co
           let xs = var_uints_bytes (t.year ∷ take i below) in
           let g = rw (next-is, q) at f' in
           let w : m ≡ n + r = omega (arith, v, (placed-some l (at + n) (var_uint_bytes next) r l' g).1, next-length) in
-          rw (w, take_more below i 0 (rw below-length h), var_uints_snoc (t.year ∷ take i below) next)
+          rw (w, take_more below i 0 (omega (arith, at_most_five)), var_uints_snoc (t.year ∷ take i below) next)
           (placed_then b at xs n l f (var_uint_bytes next) r l' g)

@@ -139,6 +139,8 @@ impl Timestamp {
     }
 
     // Check 7: the local rules, then the UTC year, which is 1 to 9999 too. None where it is not passed, else the UTC fields in the place of the local ones.
+    // Each caller has its own copy, with this inline, since most of them do not use all of the fields.
+    #[inline(always)]
     fn checked(self) -> Option<Utc>
         ensures { MatchOption result
             (is_timestamp (offset_minutes self.offset) (fields_of self) (fraction_digits self.fraction) ≡ false)
@@ -271,6 +273,7 @@ impl Local {
     }
 
     // The day of the minute that is so many minutes behind the start of the day before.
+    #[inline(always)]
     fn utc_day(self, minutes: u32) -> Date
         ensures { date_of result ≡ utc_day minutes self.t.year self.t.month self.t.day }
     {
@@ -288,6 +291,7 @@ impl Local {
     }
 
     // The fields of that minute.
+    #[inline(always)]
     #[tactic(auto, unfolding(crate::specs::Utc::with_fields))]
     fn at_minute(self, minutes: u32) -> Timestamp
         ensures { result ≡ with_fields self.t (utc_fields minutes self.t.year self.t.month self.t.day []) }
@@ -305,6 +309,7 @@ impl Local {
     }
 
     // With no offset known the fields stay.
+    #[inline(always)]
     fn in_utc(self) -> Timestamp
         ensures { result ≡ in_utc self.t }
     {
@@ -365,7 +370,10 @@ impl Utc {
         ];
         let count = self.t.precision.field_count() as usize - 1;
         let year = var_uint::write(buf, at, self.year())?;
-        for (i, field) in below[..count].iter().enumerate() {
+        for (i, field) in below.iter().enumerate() {
+            if i == count {
+                break;
+            }
             put_small(buf, at + year + i, *field)?;
         }
         Some(year + count)

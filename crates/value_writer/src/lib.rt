@@ -1,5 +1,4 @@
 // The calls that write a scalar: document 01's module value_writer, over a state by value and a lent buffer.
-// Each call checks its place, hands the work on numbers to a leaf, and answers with the next state.
 #![tactic(auto)]
 
 ghost use Rattle.std.specs.Prelude.{◌≡◌};
@@ -11,26 +10,31 @@ ghost use Rattle.machine.specs.Machine.{config, run};
 ghost use Rattle.machine.specs.Numbers.{outcome_of};
 ghost use Rattle.machine.specs.Call.{write};
 ghost use Rattle.annotations.specs.Sids.{sids_of};
-ghost use Rattle.scalars.specs.Types.{type_of, scalar_argument};
+ghost use Rattle.scalars.specs.Types.{type_of};
 ghost use Rattle.timestamp.specs.Arguments.{argument_of};
 
-use machine::{Refusal, Refused, State};
+use machine::{Refused, State};
 use place::CallKind;
-use scalars::{IonType, Scalar};
 use timestamp::Timestamp;
+use values::{Blob, Clob, Decimal, F32Bits, F64Bits, Int, IonType, Symbol, Text, WriteAsIon};
 
-// A scalar that no check of its own refuses.
-fn write_scalar(
+// A scalar of any type: its place is checked, it is put at the end of the used bytes, and the innermost container has a member more.
+pub fn write<V: WriteAsIon>(
     s: State,
     buf: &mut [u8],
     annotations: &[u8],
-    value: Scalar,
+    value: V,
 ) -> Result<State, Refused>
-    ensures { outcome_of result buf.new ≡ run (write (sids_of annotations.now) (scalar_argument value)) (config s buf.old) }
+    ensures { outcome_of result buf.new ≡ run (write (sids_of annotations.now) (V.argument value)) (config s buf.old) }
 {
     steps::check(s, buf.len(), CallKind::Value)?;
-    let put = values::write_scalar(buf, s.used, annotations, value);
-    steps::scalar_ended(s, put, Refusal::NoRoom)
+    let Some(put) = values::write(buf, s.used, annotations, value) else {
+        return Err(Refused {
+            why: value.refusal(),
+            state: s,
+        });
+    };
+    Ok(steps::counted(steps::grown(s, put, false)))
 }
 
 // A null of each type.
@@ -42,7 +46,7 @@ pub fn write_null(
 ) -> Result<State, Refused>
     ensures { outcome_of result buf.new ≡ run (write (sids_of annotations.now) (write_null (type_of t))) (config s buf.old) }
 {
-    write_scalar(s, buf, annotations, Scalar::Null(t))
+    write(s, buf, annotations, t)
 }
 
 // 10 or 11.
@@ -54,14 +58,14 @@ pub fn write_bool(
 ) -> Result<State, Refused>
     ensures { outcome_of result buf.new ≡ run (write (sids_of annotations.now) (write_bool value)) (config s buf.old) }
 {
-    write_scalar(s, buf, annotations, Scalar::Bool(value))
+    write(s, buf, annotations, value)
 }
 
 // An int of 64 bits with its sign.
 pub fn write_i64(s: State, buf: &mut [u8], annotations: &[u8], value: i64) -> Result<State, Refused>
     ensures { outcome_of result buf.new ≡ run (write (sids_of annotations.now) (write_i64 value)) (config s buf.old) }
 {
-    write_scalar(s, buf, annotations, Scalar::I64(value))
+    write(s, buf, annotations, value)
 }
 
 // An int of any size: its sign, and its magnitude from the highest byte on.
@@ -72,18 +76,17 @@ pub fn write_int(
     negative: bool,
     magnitude: &[u8],
 ) -> Result<State, Refused>
-    ensures { outcome_of result buf.new
-        ≡ run (write (sids_of annotations.now) (write_int negative magnitude.now)) (config s buf.old) }
+    ensures { outcome_of result buf.new ≡ run (write (sids_of annotations.now) (write_int negative magnitude.now)) (config s buf.old) }
 {
-    steps::check(s, buf.len(), CallKind::Value)?;
-    let put = values::write_int(buf, s.used, annotations, negative, magnitude);
-    if put == 0 {
-        return Err(Refused {
-            why: steps::int_refusal(negative, magnitude),
-            state: s,
-        });
-    }
-    steps::scalar_ended(s, put, Refusal::NoRoom)
+    write(
+        s,
+        buf,
+        annotations,
+        Int {
+            negative,
+            magnitude,
+        },
+    )
 }
 
 // A float by the bits of binary32; a NaN keeps its own.
@@ -95,7 +98,7 @@ pub fn write_f32_bits(
 ) -> Result<State, Refused>
     ensures { outcome_of result buf.new ≡ run (write (sids_of annotations.now) (write_f32 bits)) (config s buf.old) }
 {
-    write_scalar(s, buf, annotations, Scalar::F32Bits(bits))
+    write(s, buf, annotations, F32Bits(bits))
 }
 
 // A float by the bits of binary64, in four bytes where binary32 holds it; a NaN keeps its own.
@@ -107,23 +110,21 @@ pub fn write_f64_bits(
 ) -> Result<State, Refused>
     ensures { outcome_of result buf.new ≡ run (write (sids_of annotations.now) (write_f64 bits)) (config s buf.old) }
 {
-    write_scalar(s, buf, annotations, Scalar::F64Bits(bits))
+    write(s, buf, annotations, F64Bits(bits))
 }
 
 // A float by its value; a NaN has the bits 7FC00000.
 pub fn write_f32(s: State, buf: &mut [u8], annotations: &[u8], value: f32) -> Result<State, Refused>
-    ensures { outcome_of result buf.new
-        ≡ run (write (sids_of annotations.now) (write_f32 (to_bits binary32 value))) (config s buf.old) }
+    ensures { outcome_of result buf.new ≡ run (write (sids_of annotations.now) (write_f32 (to_bits binary32 value))) (config s buf.old) }
 {
-    write_scalar(s, buf, annotations, Scalar::F32(value))
+    write(s, buf, annotations, value)
 }
 
 // A float by its value; a NaN has the bits 7FF8000000000000.
 pub fn write_f64(s: State, buf: &mut [u8], annotations: &[u8], value: f64) -> Result<State, Refused>
-    ensures { outcome_of result buf.new
-        ≡ run (write (sids_of annotations.now) (write_f64 (to_bits binary64 value))) (config s buf.old) }
+    ensures { outcome_of result buf.new ≡ run (write (sids_of annotations.now) (write_f64 (to_bits binary64 value))) (config s buf.old) }
 {
-    write_scalar(s, buf, annotations, Scalar::F64(value))
+    write(s, buf, annotations, value)
 }
 
 // A decimal: sign, coefficient from the highest byte on, exponent.
@@ -135,18 +136,18 @@ pub fn write_decimal(
     coefficient: &[u8],
     exponent: i64,
 ) -> Result<State, Refused>
-    ensures { outcome_of result buf.new
-        ≡ run (write (sids_of annotations.now) (write_decimal negative coefficient.now exponent)) (config s buf.old) }
+    ensures { outcome_of result buf.new ≡ run (write (sids_of annotations.now) (write_decimal negative coefficient.now exponent)) (config s buf.old) }
 {
-    steps::check(s, buf.len(), CallKind::Value)?;
-    let put = values::write_decimal(buf, s.used, annotations, negative, coefficient, exponent);
-    if put == 0 {
-        return Err(Refused {
-            why: steps::decimal_refusal(negative, coefficient, exponent),
-            state: s,
-        });
-    }
-    steps::scalar_ended(s, put, Refusal::NoRoom)
+    write(
+        s,
+        buf,
+        annotations,
+        Decimal {
+            negative,
+            magnitude: coefficient,
+            exponent,
+        },
+    )
 }
 
 // A timestamp by its local fields and its offset.
@@ -158,15 +159,7 @@ pub fn write_timestamp(
 ) -> Result<State, Refused>
     ensures { outcome_of result buf.new ≡ run (write (sids_of annotations.now) (argument_of value)) (config s buf.old) }
 {
-    steps::check(s, buf.len(), CallKind::Value)?;
-    let put = values::write_timestamp(buf, s.used, annotations, value);
-    if put == 0 {
-        return Err(Refused {
-            why: steps::timestamp_refusal(value),
-            state: s,
-        });
-    }
-    steps::scalar_ended(s, put, Refusal::NoRoom)
+    write(s, buf, annotations, value)
 }
 
 // A symbol by its sid.
@@ -178,7 +171,7 @@ pub fn write_symbol(
 ) -> Result<State, Refused>
     ensures { outcome_of result buf.new ≡ run (write (sids_of annotations.now) (write_symbol sid)) (config s buf.old) }
 {
-    write_scalar(s, buf, annotations, Scalar::Symbol(sid))
+    write(s, buf, annotations, Symbol(sid))
 }
 
 // A string, in UTF-8.
@@ -188,18 +181,9 @@ pub fn write_string(
     annotations: &[u8],
     bytes: &[u8],
 ) -> Result<State, Refused>
-    ensures { outcome_of result buf.new
-        ≡ run (write (sids_of annotations.now) (write_string bytes.now)) (config s buf.old) }
+    ensures { outcome_of result buf.new ≡ run (write (sids_of annotations.now) (write_string bytes.now)) (config s buf.old) }
 {
-    steps::check(s, buf.len(), CallKind::Value)?;
-    let put = values::write_string(buf, s.used, annotations, bytes);
-    if put == 0 {
-        return Err(Refused {
-            why: steps::string_refusal(bytes),
-            state: s,
-        });
-    }
-    steps::scalar_ended(s, put, Refusal::NoRoom)
+    write(s, buf, annotations, Text(bytes))
 }
 
 // A clob.
@@ -209,12 +193,9 @@ pub fn write_clob(
     annotations: &[u8],
     bytes: &[u8],
 ) -> Result<State, Refused>
-    ensures { outcome_of result buf.new
-        ≡ run (write (sids_of annotations.now) (write_clob bytes.now)) (config s buf.old) }
+    ensures { outcome_of result buf.new ≡ run (write (sids_of annotations.now) (write_clob bytes.now)) (config s buf.old) }
 {
-    steps::check(s, buf.len(), CallKind::Value)?;
-    let put = values::write_clob(buf, s.used, annotations, bytes);
-    steps::scalar_ended(s, put, Refusal::NoRoom)
+    write(s, buf, annotations, Clob(bytes))
 }
 
 // A blob.
@@ -224,10 +205,7 @@ pub fn write_blob(
     annotations: &[u8],
     bytes: &[u8],
 ) -> Result<State, Refused>
-    ensures { outcome_of result buf.new
-        ≡ run (write (sids_of annotations.now) (write_blob bytes.now)) (config s buf.old) }
+    ensures { outcome_of result buf.new ≡ run (write (sids_of annotations.now) (write_blob bytes.now)) (config s buf.old) }
 {
-    steps::check(s, buf.len(), CallKind::Value)?;
-    let put = values::write_blob(buf, s.used, annotations, bytes);
-    steps::scalar_ended(s, put, Refusal::NoRoom)
+    write(s, buf, annotations, Blob(bytes))
 }

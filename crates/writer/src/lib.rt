@@ -14,7 +14,7 @@ use machine::{Closed, Container, LONGEST_BUFFER, MARKER, MOST_OPEN, Refusal, Ref
 use place::{CallKind, Standing};
 pub use steps::ContainerType;
 pub use value_writer::{
-    write_blob, write_bool, write_clob, write_decimal, write_f32, write_f32_bits, write_f64,
+    write, write_blob, write_bool, write_clob, write_decimal, write_f32, write_f32_bits, write_f64,
     write_f64_bits, write_i64, write_int, write_null, write_string, write_symbol, write_timestamp,
 };
 
@@ -28,14 +28,13 @@ pub fn start(buf: &mut [u8]) -> Result<State, Refused>
             state: State::empty(0),
         });
     }
-    let put = buffer::copy(buf, 0, &MARKER);
-    if put == 0 {
+    let Some(put) = buffer::copy(buf, 0, &MARKER) else {
         return Err(Refused {
             why: Refusal::NoRoom,
             state: State::empty(0),
         });
-    }
-    Ok(State::empty(4))
+    };
+    Ok(State::empty(put))
 }
 
 // A field name: its sid as a VarUInt.
@@ -43,8 +42,13 @@ pub fn field_name(s: State, buf: &mut [u8], sid: u64) -> Result<State, Refused>
     ensures { outcome_of result buf.new ≡ run (name sid) (config s buf.old) }
 {
     steps::check(s, buf.len(), CallKind::Name)?;
-    let put = var_uint::write(buf, s.used, sid);
-    steps::ended(s, put, true, Refusal::NoRoom)
+    let Some(put) = var_uint::write(buf, s.used, sid) else {
+        return Err(Refused {
+            why: Refusal::NoRoom,
+            state: s,
+        });
+    };
+    Ok(steps::grown(s, put, true))
 }
 
 // The state behind an opening that has put `put` bytes, its header's reserve last.
@@ -88,13 +92,12 @@ pub fn open(
             state: s,
         });
     }
-    let put = containers::open(buf, s.used, annotations);
-    if put == 0 {
+    let Some(put) = containers::open(buf, s.used, annotations) else {
         return Err(Refused {
             why: Refusal::NoRoom,
             state: s,
         });
-    }
+    };
     Ok(opened(s, put, kind.into()))
 }
 
@@ -105,13 +108,12 @@ pub fn close(s: State, buf: &mut [u8]) -> Result<Closed, Refused>
     steps::check(s, buf.len(), CallKind::Closing)?;
     let outer = s.depth - 1;
     let c = s.container(outer);
-    let closing = containers::close(buf, s.used, c);
-    if closing.used == 0 {
+    let Some(closing) = containers::close(buf, s.used, c) else {
         return Err(Refused {
             why: Refusal::NoRoom,
             state: s,
         });
-    }
+    };
     let left = State {
         used: closing.used,
         depth: outer,
@@ -147,8 +149,13 @@ pub fn version_marker(s: State, buf: &mut [u8]) -> Result<State, Refused>
     ensures { outcome_of result buf.new ≡ run version_marker (config s buf.old) }
 {
     steps::check(s, buf.len(), CallKind::Top)?;
-    let put = buffer::copy(buf, s.used, &MARKER);
-    steps::ended(s, put, s.waiting, Refusal::NoRoom)
+    let Some(put) = buffer::copy(buf, s.used, &MARKER) else {
+        return Err(Refused {
+            why: Refusal::NoRoom,
+            state: s,
+        });
+    };
+    Ok(steps::grown(s, put, s.waiting))
 }
 
 // An emptying: the used length becomes zero, and no byte alters.

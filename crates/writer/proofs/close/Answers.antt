@@ -25,26 +25,24 @@ returns-in_err-check c =
 pub overflow_sub-outer : goal.overflow_sub-outer
 overflow_sub-outer c = (in_container c.args.s c.args.buf.now (misplaced Closing c.args.s) c.in_ok-check.ensures (either_not _ _)).some
 
-pub returns-then-closing-eq0 : goal.returns-then-closing-eq0
-returns-then-closing-eq0 c =
-    closing_refused c.args.s c.args.buf.now c.close-closing.result c.close-closing.new.buf c.in_ok-check.ensures
-    (rw c.container-c.ensures at c.close-closing.ensures) c.if-closing-eq0.true
+pub returns-in_default : goal.returns-in_default
+returns-in_default c =
+    closing_refused c.args.s c.args.buf.now c.close.new.buf c.in_ok-check.ensures (rw c.container-c.ensures at c.in_default.ensures)
 
 pub overflow_sub-result : goal.overflow_sub-result
 overflow_sub-result c =
     rw c.container-c.ensures
-    (closing-start c.args.s c.args.buf.now c.close-closing.result c.close-closing.new.buf c.in_ok-check.ensures
-    (rw c.container-c.ensures at c.close-closing.ensures) c.if-closing-eq0.false)
+    (closing-start c.args.s c.args.buf.now c.close.new.buf c.in_ok-check.ensures c.in-Some.closing (rw c.container-c.ensures at c.in-Some.ensures))
 
 pub returns : goal.returns
 returns c =
     let s = c.args.s in
     let b = c.args.buf.now in
-    let r = c.close-closing.result in
-    let l = c.close-closing.new.buf in
+    let r = c.in-Some.closing in
+    let l = c.close.new.buf in
     let f = accepted_fits s (length b) _ c.in_ok-check.ensures in
     let q = counted_uncut s (length b) f (omega arith) (s.depth - 1) (omega arith) in
     rw c.container-c.ensures
     (ap (λ (x : State). accepted_with (config x l) (record { size = r.used - (innermost s).start; members = (innermost s).members; moved = r.moved }))
     (c.counted.ensures ∙ ap (λ (cs : List Container). record { used = r.used; depth = s.depth - 1; waiting = false; containers = cs }) q)
-    ∙ closing_accepted s b r l c.in_ok-check.ensures (rw c.container-c.ensures at c.close-closing.ensures) c.if-closing-eq0.false)
+    ∙ closing_accepted s b l c.in_ok-check.ensures r (rw c.container-c.ensures at c.in-Some.ensures))

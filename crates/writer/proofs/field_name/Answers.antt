@@ -3,12 +3,10 @@
 use Rattle.std.proofs.Common.{refl, true, arith}
 use Rattle.std.proofs.lemmas.Result.{err_from_is_err_and}
 use Rattle.encoding.specs.Fields.{var_uint_bytes}
-use Rattle.encoding.proofs.Sizes.{var_uint_least}
 use Rattle.machine.specs.Call.{name}
-use Rattle.machine.specs.declared.Refusal.TheVariants.{NoRoom}
 use Rattle.place.specs.declared.CallKind.TheVariants.{Name}
 use Rattle.place.specs.Misplaced.{misplaced}
-use Rattle.steps.proofs.Run.{room_line, refused_place, passed-place, put_fits, end_run, ended_run}
+use Rattle.steps.proofs.Run.{room_line, refused_place, passed-place, end_refused, end_grown}
 use Rattle.writer.proofs.field_name.Goals as goal
 
 pub returns-in_err-check : goal.returns-in_err-check
@@ -20,15 +18,19 @@ returns-in_err-check c =
     rw (p.1, p.2)
     (refused_place (name a.sid) s b (misplaced Name s) (room_line (name a.sid) s b) refl c.in_err-check.field-0.0 c.in_err-check.ensures)
 
+pub returns-in_default : goal.returns-in_default
+returns-in_default c =
+    let a = c.args in
+    let s = a.s in
+    let b = a.buf.now in
+    let past = passed-place (name a.sid) s b (misplaced Name s) (room_line (name a.sid) s b) refl c.in_ok-check.ensures in
+    end_refused (name a.sid) s b (var_uint_bytes a.sid) c.write.new.buf past c.in_default.ensures
+
 pub returns : goal.returns
 returns c =
     let a = c.args in
     let s = a.s in
     let b = a.buf.now in
-    let n = c.write-put.result in
-    let l = c.write-put.new.buf in
-    let e = c.write-put.ensures in
     let past = passed-place (name a.sid) s b (misplaced Name s) (room_line (name a.sid) s b) refl c.in_ok-check.ensures in
-    rw c.ended.ensures
-    (ended_run (name a.sid) s b n l true s.containers NoRoom (λ h. omega (arith, put_fits b s.used (var_uint_bytes a.sid) n l e h))
-    (end_run (name a.sid) s b (var_uint_bytes a.sid) n l true s.containers e past (var_uint_least a.sid) refl refl))
+    rw c.grown.ensures
+    (end_grown (name a.sid) s b (var_uint_bytes a.sid) c.write.new.buf past (omega arith) true refl refl c.in-Some.put c.in-Some.ensures)

@@ -9,7 +9,8 @@ use Rattle.machine.specs.declared.State.{State}
 use Rattle.place.specs.declared.CallKind.TheVariants.{Value}
 use Rattle.place.specs.Misplaced.{misplaced}
 use Rattle.steps.specs.Kinds.{kind_of}
-use Rattle.steps.proofs.Run.{outcome, refused_place, passed-place, placed-some}
+use Rattle.buffer.proofs.Laid.{placed-some}
+use Rattle.steps.proofs.Run.{outcome, refused_place, passed-place}
 use Rattle.steps.proofs.Containers.{opening_lines, opened_state, reserve_least, opening_refused, opening_accepted, opening_deep}
 use Rattle.writer.proofs.open.Goals as goal
 
@@ -32,20 +33,20 @@ returns-then-s-ge-MOST_OPEN c =
     let past = passed-place (opening an (kind_of a.kind)) s b (misplaced Value s) (opening_lines an s b) refl c.in_ok-check.ensures in
     opening_deep an (kind_of a.kind) s b past c.if-s-ge-MOST_OPEN.true
 
-pub returns-then-put-eq0 : goal.returns-then-put-eq0
-returns-then-put-eq0 c =
+pub returns-in_default : goal.returns-in_default
+returns-in_default c =
     let a = c.args in
     let s = a.s in
     let b = a.buf.now in
     let an = sids_of a.annotations.now in
     let past = passed-place (opening an (kind_of a.kind)) s b (misplaced Value s) (opening_lines an s b) refl c.in_ok-check.ensures in
-    opening_refused an (kind_of a.kind) s b c.open-put.result c.open-put.new.buf c.open-put.ensures past c.if-s-ge-MOST_OPEN.false c.if-put-eq0.true
+    opening_refused an (kind_of a.kind) s b c.open.new.buf past c.if-s-ge-MOST_OPEN.false c.in_default.ensures
 
 pub opened-requires : goal.opened-requires
 opened-requires c =
     let a = c.args in
     let an = sids_of a.annotations.now in
-    let w = placed-some a.buf.now a.s.used (reserve an) c.open-put.result c.open-put.new.buf c.open-put.ensures c.if-put-eq0.false in
+    let w = placed-some a.buf.now a.s.used (reserve an) c.in-Some.put c.open.new.buf c.in-Some.ensures in
     (c.if-s-ge-MOST_OPEN.false, omega (arith, w.1, reserve_least an), omega (arith, w.0, w.1))
 
 pub returns : goal.returns
@@ -53,9 +54,9 @@ returns c =
     let a = c.args in
     let s = a.s in
     let b = a.buf.now in
-    let n = c.open-put.result in
-    let l = c.open-put.new.buf in
+    let n = c.in-Some.put in
+    let l = c.open.new.buf in
     let an = sids_of a.annotations.now in
     let past = passed-place (opening an (kind_of a.kind)) s b (misplaced Value s) (opening_lines an s b) refl c.in_ok-check.ensures in
     ap (λ (x : State). outcome accepted x l) (c.opened.ensures ∙ ap (opened_state s n) c.into.ensures)
-    ∙ opening_accepted an (kind_of a.kind) s b n l c.open-put.ensures past c.if-s-ge-MOST_OPEN.false c.if-put-eq0.false
+    ∙ opening_accepted an (kind_of a.kind) s b l past c.if-s-ge-MOST_OPEN.false n c.in-Some.ensures

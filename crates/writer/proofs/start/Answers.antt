@@ -12,14 +12,14 @@ returns-then-buf-gt-LONGEST_BUFFER c =
     let b = c.args.buf.now in
     ap (λ (x : State). outcome (refused 1) x b) c.empty.ensures ∙ start_long b c.if-buf-gt-LONGEST_BUFFER.true
 
-pub returns-then-put-eq0 : goal.returns-then-put-eq0
-returns-then-put-eq0 c =
-    let l = c.copy-put.new.buf in
-    ap (λ (x : State). outcome (refused 10) x l) c.empty-then-put-eq0.ensures
-    ∙ start_full c.args.buf.now c.if-buf-gt-LONGEST_BUFFER.false c.copy-put.result l c.copy-put.ensures c.if-put-eq0.true
+pub returns-in_default : goal.returns-in_default
+returns-in_default c =
+    let l = c.copy.new.buf in
+    ap (λ (x : State). outcome (refused 10) x l) c.empty-in_default.ensures
+    ∙ start_full c.args.buf.now c.if-buf-gt-LONGEST_BUFFER.false l c.in_default.ensures
 
 pub returns : goal.returns
 returns c =
-    let l = c.copy-put.new.buf in
+    let l = c.copy.new.buf in
     ap (λ (x : State). outcome accepted x l) c.empty-2.ensures
-    ∙ start_put c.args.buf.now c.if-buf-gt-LONGEST_BUFFER.false c.copy-put.result l c.copy-put.ensures c.if-put-eq0.false
+    ∙ start_put c.args.buf.now c.if-buf-gt-LONGEST_BUFFER.false l c.in-Some.put c.in-Some.ensures
