@@ -378,7 +378,7 @@ pub extern "C" fn gm_read_decimal(body: &[u8], decimal: &mut [u64]) -> u8
 // the fraction has, and where its coefficient starts, an Int; whether it is marked as out of the calendar.
 #[unsafe(no_mangle)]
 pub extern "C" fn gm_read_timestamp(body: &[u8], timestamp: &mut [u64]) -> u8
-    ensures { ◌≡◌ {A = Answered} (result, timestamp.new) (timestamp_answer (shown_in body.now) timestamp.old) }
+    ensures { ◌≡◌ {A = Answered} (result, timestamp.new) (timestamp_answer (length body.now) (shown_in body.now) timestamp.old) }
 {
     entry_reading::gm_read_timestamp(body, timestamp)
 }

@@ -4,24 +4,23 @@ use Prim.Native.Nat.{ℕ, suc, ◌+◌, ◌-◌, ◌*◌, ◌%◌, ◌^◌, ◌�
 use native.Mathlib.Omega.{arith}
 use native.Mathlib.Numerals.{add-one}
 use mathlib.Core.Path.{◌≡◌, refl, sym, ◌∙◌, ap, subst}
-use mathlib.Core.Bool.{Bool, true, false, cond, ◌&&◌, not, false≢true}
+use mathlib.Core.Bool.{Bool, true, false}
 use mathlib.Core.List.{List, [], ◌∷◌}
 use mathlib.Core.Option.{Option, none, some, some-injective, none-ne-some}
-use lib.Dec.{ltb, leb, eqb}
+use lib.Dec.{ltb, leb}
+use Rattle.std.specs.Prelude.{Result, Ok, Err}
 use lib.ListN.{length, get_or, drop, length-drop, drop_of_length-le}
 use lib.Seq.{drop-cons, drop-drop}
-use borrow.Author.Tests.{lt-ltb, le-ltb, le-leb, lt-leb, ltb-true, ltb-false, leb-true, leb-false, eqb-true, eqb-false}
+use borrow.Author.Tests.{lt-ltb, le-ltb, le-leb, lt-leb, ltb-true, ltb-false, leb-true, leb-false}
 use Rattle.ion.specs.Value.{Signed, signed}
 use Rattle.ion.specs.Chain.{check}
 use Rattle.ion.specs.Fields.{groups, in_u64, is_i64, var_uint, give_sign, is_negative, var_int}
-use Rattle.ion.proofs.Tests.{by_cases, both}
+use Rattle.ion.proofs.Tests.{by_cases}
 use Rattle.reading.specs.declared.Number.{Number}
 use Rattle.reading.specs.declared.Refusal.{Refusal}
 use Rattle.reading.specs.declared.Refusal.TheVariants.{NotIon}
-use Rattle.reading.specs.declared.Number.TheVariants as N
 use Rattle.reading.specs.Headers.{var_uint_from}
-use Rattle.reading.specs.Bodies as B
-use Rattle.read_bodies.specs.declared.VarInt.TheVariants as I
+use Rattle.read_bodies.specs.declared.VarInt.{VarInt}
 use Rattle.read_bodies.specs.Places.{number_in, groups_at, var_uint_at, signed_in, var_int_at, with_sign}
 
 -- ---- the number is at least what its groups so far make
@@ -66,7 +65,7 @@ from-groups acc at (b ∷ bs) =
     rw (p, groups, q, m) (from-groups (acc * 128 + b) (at + 1) bs ∙ ap (λ (size : ℕ). number_in size (in_u64 (groups (acc * 128 + b) bs))) n))
     (λ q.
     let n : at + 1 ≡ at + suc (length bs) - length bs = omega arith in
-    rw (p, groups, q, p) (ap (λ (next : ℕ). N.Is (acc * 128 + b % 128) next) n)))
+    rw (p, groups, q, p) (ap (λ (next : ℕ). Ok (record { value = acc * 128 + b % 128; next = next })) n)))
     (λ p. by_cases (ltb b 0x80)
     (λ q.
     let m : b % 128 ≡ b = let h = ltb-true b 0x80 q in omega arith in
@@ -92,65 +91,39 @@ small_i64 : (s : Bool) (n : ℕ) → n < 2 ^ 63 → is_i64 (signed s n) ≡ true
 small_i64 false n h = lt-ltb n (2 ^ 63) (omega arith)
 small_i64 true n h = le-leb n (2 ^ 63) (omega arith)
 
+-- the magnitude that its groups make, with its sign
+abbrev pub signed_groups : Bool → Result Number Refusal → Result VarInt Refusal
+signed_groups s (Ok n) = with_sign s n
+signed_groups s (Err r) = Err r
+
 -- signed 64 bits are within 64 bits
-pub signed-groups : (s : Bool) (size : ℕ) (o : Option (ℕ × List ℕ)) → with_sign s (number_in size (in_u64 o)) ≡ signed_in size (give_sign s o)
+signed-groups : (s : Bool) (size : ℕ) (o : Option (ℕ × List ℕ)) → signed_groups s (number_in size (in_u64 o)) ≡ signed_in size (give_sign s o)
 signed-groups s size none = refl
-signed-groups s size (some x) = go (ltb x.0 (2 ^ 64)) refl
-  where
-    tested : (t : Bool) → cond t (I.Is s x.0 (size - length x.1)) I.No ≡ signed_in size (check t (some (signed s x.0, x.1)))
-    tested true = refl
-    tested false = refl
+signed-groups s size (some x) =
+    by_cases (ltb x.0 (2 ^ 64))
+    (λ p. by_cases (is_i64 (signed s x.0)) (λ q. rw (p, q) refl) (λ q. rw (p, q) refl))
+    (λ p. rw (p, not_i64 s x.0 (ltb-false x.0 (2 ^ 64) p)) refl)
 
-    go : (t : Bool) → ltb x.0 (2 ^ 64) ≡ t → with_sign s (number_in size (in_u64 (some x))) ≡ signed_in size (give_sign s (some x))
-    go true e = rw (e) (tested (is_i64 (signed s x.0)))
-    go false e = rw (e, not_i64 s x.0 (ltb-false x.0 (2 ^ 64) e)) refl
-
-module _ (s : List ℕ) (at b : ℕ) where
-  pub var_int_out : length s ≤ at → var_int_at s at ≡ I.No
+module _ (s : List ℕ) (at : ℕ) where
+  pub var_int_out : length s ≤ at → var_int_at s at ≡ Err NotIon
   unfolding var_int_at var_int
   var_int_out h = rw (drop_of_length-le s {i = at} h) refl
 
-  module _ (inside : at < length s) (is : b ≡ get_or s at 0) where
-    pub var_int_short : 0x7F < b → var_int_at s at ≡ I.Is (is_negative b) (b % 64) (at + 1)
+  module _ (inside : at < length s) where
+    abbrev b : ℕ
+    b = get_or s at 0
+
+    pub var_int_short : 0x7F < b → var_int_at s at ≡ Ok (record { negative = is_negative b; magnitude = b % 64; next = at + 1 })
     unfolding var_int_at var_int
     var_int_short h =
-        rw (front s at b inside is, var_int, le-ltb b 0x80 (omega arith), small_i64 (is_negative b) (b % 64) (omega arith), behind s (at + 1) (omega arith)) refl
+        rw (front s at b inside refl, var_int, le-ltb b 0x80 (omega arith), small_i64 (is_negative b) (b % 64) (omega arith), behind s (at + 1) (omega arith)) refl
 
-    pub var_int_long : b ≤ 0x7F → var_int_at s at ≡ with_sign (is_negative b) (groups_at s (at + 1) (b % 64))
+    pub var_int_long : b ≤ 0x7F → var_int_at s at ≡ signed_groups (is_negative b) (groups_at s (at + 1) (b % 64))
     unfolding var_int_at var_int groups_at
     var_int_long h =
-        rw (front s at b inside is, var_int, lt-ltb b 0x80 (omega arith)) (sym (signed-groups (is_negative b) (length s) (groups (b % 64) (drop (at + 1) s))))
+        rw (front s at b inside refl, var_int, lt-ltb b 0x80 (omega arith)) (sym (signed-groups (is_negative b) (length s) (groups (b % 64) (drop (at + 1) s))))
 
--- ---- the sign of a magnitude
-
-module _ (s : Bool) (v n : ℕ) (m : Number) (is : m ≡ N.Is v n) where
-  pub sign_past : 2 ^ 63 < v → I.No ≡ with_sign s m
-  sign_past h = rw (is) (go s)
-    where
-      go : (t : Bool) → I.No ≡ with_sign t (N.Is v n)
-      go false = rw (le-ltb v (2 ^ 63) (omega arith)) refl
-      go true = rw (lt-leb v (2 ^ 63) (omega arith)) refl
-
-  pub sign_edge : (eqb v (2 ^ 63) && not s) ≡ true → I.No ≡ with_sign s m
-  sign_edge h = rw (is) (go s (both {a = eqb v (2 ^ 63)} h))
-    where
-      go : (t : Bool) → (eqb v (2 ^ 63) ≡ true) × (not t ≡ true) → I.No ≡ with_sign t (N.Is v n)
-      go false e = rw (le-ltb v (2 ^ 63) (omega (arith, eqb-true v (2 ^ 63) e.0))) refl
-      go true e = absurd (false≢true e.1)
-
-  pub sign_held : v ≤ 2 ^ 63 → (eqb v (2 ^ 63) && not s) ≡ false → I.Is s v n ≡ with_sign s m
-  sign_held h e = rw (is) (go s e)
-    where
-      go : (t : Bool) → (eqb v (2 ^ 63) && not t) ≡ false → I.Is t v n ≡ with_sign t (N.Is v n)
-      go true e = rw (le-leb v (2 ^ 63) h) refl
-      go false e = edge (eqb v (2 ^ 63)) refl e
-        where
-          edge : (q : Bool) → eqb v (2 ^ 63) ≡ q → (q && true) ≡ false → I.Is false v n ≡ with_sign false (N.Is v n)
-          edge true k e = absurd (false≢true (sym e))
-          edge false k e = rw (lt-ltb v (2 ^ 63) (below k)) refl
-            where
-              below : eqb v (2 ^ 63) ≡ false → v < 2 ^ 63
-              below k = let d : v ≡ 2 ^ 63 → ⊥ = eqb-false v (2 ^ 63) k in omega (arith, h)
+pub ruleset first_byte = (var_int_out, var_int_short, var_int_long)
 
 -- ---- what a place told of a field says of the bytes
 
@@ -202,31 +175,28 @@ in_u64-some (some y) x e = go (ltb y.0 (2 ^ 64)) e
     go true e = e
     go false e = absurd (none-ne-some x e)
 
-pub absurdly : {X : Type 0} → ◌≡◌ {A = ℕ} 0 1 → X
-absurdly z = absurd (omega arith)
-
 pair : {A : Type 0} {y v : A} {k l : List ℕ} → y ≡ v → k ≡ l → ◌≡◌ {A = A × List ℕ} (y, k) (v, l)
 pair f g = cc
 
-pub var_uint_is : (s : List ℕ) (at v next : ℕ) → var_uint_at s at ≡ N.Is v next → FieldAt s at (var_uint (drop at s)) v next
+pub var_uint_is : (s : List ℕ) (at : ℕ) (n : Number) → var_uint_at s at ≡ Ok n → FieldAt s at (var_uint (drop at s)) n.value n.next
 unfolding var_uint_at var_uint
-var_uint_is s at v next e = go (in_u64 (groups 0 (drop at s))) refl e
+var_uint_is s at n e = go (in_u64 (groups 0 (drop at s))) refl e
   where
-    go : (o : Option (ℕ × List ℕ)) → in_u64 (groups 0 (drop at s)) ≡ o → number_in (length s) o ≡ N.Is v next → FieldAt s at (in_u64 (groups 0 (drop at s))) v next
-    go none q e = absurdly cc
+    go : (o : Option (ℕ × List ℕ)) → in_u64 (groups 0 (drop at s)) ≡ o → number_in (length s) o ≡ Ok n → FieldAt s at (in_u64 (groups 0 (drop at s))) n.value n.next
+    go none q e = absurd (cc)
     go (some x) q e =
         let p = behind-place s at x.1 (groups-behind 0 (drop at s) x (in_u64-some (groups 0 (drop at s)) x q)) in
-        let n : length s - length x.1 ≡ next = cc in
-        let m : x.0 ≡ v = cc in
-        record { after = omega (arith, p.0, n); within = omega (arith, p.1, n); is = q ∙ ap some (pair m (p.2 ∙ ap (λ (i : ℕ). drop i s) n)) }
+        let k : length s - length x.1 ≡ n.next = cc in
+        let m : x.0 ≡ n.value = cc in
+        record { after = omega (arith, p.0, k); within = omega (arith, p.1, k); is = q ∙ ap some (pair m (p.2 ∙ ap (λ (i : ℕ). drop i s) k)) }
 
-pub var_uint-none : (s : List ℕ) (at : ℕ) (r : Refusal) → var_uint_at s at ≡ N.No r → var_uint (drop at s) ≡ none
+pub var_uint_no : (s : List ℕ) (at : ℕ) (r : Refusal) → var_uint_at s at ≡ Err r → (r ≡ NotIon) × (var_uint (drop at s) ≡ none)
 unfolding var_uint_at
-var_uint-none s at r e = go (var_uint (drop at s)) refl e
+var_uint_no s at r e = go (var_uint (drop at s)) refl e
   where
-    go : (o : Option (ℕ × List ℕ)) → var_uint (drop at s) ≡ o → number_in (length s) o ≡ N.No r → var_uint (drop at s) ≡ none
-    go none q e = q
-    go (some x) q e = absurdly cc
+    go : (o : Option (ℕ × List ℕ)) → var_uint (drop at s) ≡ o → number_in (length s) o ≡ Err r → (r ≡ NotIon) × (var_uint (drop at s) ≡ none)
+    go none q e = (cc, q)
+    go (some x) q e = absurd (cc)
 
 sign_behind : (s : Bool) (l : List ℕ) (o : Option (ℕ × List ℕ)) (x : Signed × List ℕ) → ((y : ℕ × List ℕ) → o ≡ some y → Behind l y.1)
     → give_sign s o ≡ some x → Behind l x.1
@@ -250,30 +220,19 @@ var_int-behind (b ∷ bs) x e = go (ltb b 0x80) e
         sign_behind (is_negative b) (b ∷ bs) (some (b % 64, bs)) x
         (λ y q. subst (λ (z : ℕ × List ℕ). Behind (b ∷ bs) z.1) (some-injective (b % 64, bs) y q) (one_behind b bs)) e
 
-sign_and_size : (z : Signed) (s : Bool) (m : ℕ) → B.is_negative z ≡ s → B.magnitude z ≡ m → z ≡ signed s m
-sign_and_size (signed t n) s m e f = rw (e, f) refl
-
-pub var_int_is : (s : List ℕ) (at : ℕ) (t : Bool) (m next : ℕ) → var_int_at s at ≡ I.Is t m next → FieldAt s at (var_int (drop at s)) (signed t m) next
+pub var_int_is : (s : List ℕ) (at : ℕ) (v : VarInt) → var_int_at s at ≡ Ok v → FieldAt s at (var_int (drop at s)) (signed v.negative v.magnitude) v.next
 unfolding var_int_at
-var_int_is s at t m next e = go (var_int (drop at s)) refl e
+var_int_is s at v e = go (var_int (drop at s)) refl e
   where
-    go : (o : Option (Signed × List ℕ)) → var_int (drop at s) ≡ o → signed_in (length s) o ≡ I.Is t m next → FieldAt s at (var_int (drop at s)) (signed t m) next
-    go none q e = absurdly cc
-    go (some x) q e =
-        let p = behind-place s at x.1 (var_int-behind (drop at s) x q) in
-        let n : length s - length x.1 ≡ next = cc in
-        let f : B.is_negative x.0 ≡ t = cc in
-        let g : B.magnitude x.0 ≡ m = cc in
+    go : (o : Option (Signed × List ℕ)) → var_int (drop at s) ≡ o → signed_in (length s) o ≡ Ok v → FieldAt s at (var_int (drop at s)) (signed v.negative v.magnitude) v.next
+    go none q e = absurd (cc)
+    go (some (signed t m, rest)) q e =
+        let p = behind-place s at rest (var_int-behind (drop at s) (signed t m, rest) q) in
+        let n : length s - length rest ≡ v.next = cc in
+        let f : t ≡ v.negative = cc in
+        let g : m ≡ v.magnitude = cc in
         record {
           after = omega (arith, p.0, n);
           within = omega (arith, p.1, n);
-          is = q ∙ ap some (pair (sign_and_size x.0 t m f g) (p.2 ∙ ap (λ (i : ℕ). drop i s) n));
+          is = q ∙ ap some (pair (cc (f, g)) (p.2 ∙ ap (λ (i : ℕ). drop i s) n));
         }
-
-pub var_int_none : (s : List ℕ) (at : ℕ) → var_int_at s at ≡ I.No → var_int (drop at s) ≡ none
-unfolding var_int_at
-var_int_none s at e = go (var_int (drop at s)) refl e
-  where
-    go : (o : Option (Signed × List ℕ)) → var_int (drop at s) ≡ o → signed_in (length s) o ≡ I.No → var_int (drop at s) ≡ none
-    go none q e = q
-    go (some x) q e = absurdly cc

@@ -3,7 +3,6 @@
 
 ghost use Rattle.std.specs.Prelude.{◌≡◌, drop};
 ghost use Rattle.reading.specs.Headers.{var_uint_from, var_uint_at};
-ghost use Rattle.read_fields.specs.Refused.{number_refusal};
 
 use reading::{Number, Refusal};
 
@@ -13,52 +12,37 @@ const END_FLAG: u8 = 0x80;
 const MAX_BEFORE_GROUP: u64 = 0x1FF_FFFF_FFFF_FFFF;
 
 // The VarUInt whose groups before `at` make `acc`, group by group of seven bits. How many they are is not limited, since leading groups may be zero.
-pub fn var_uint_from(s: &[u8], at: usize, acc: u64, out: Refusal) -> Number
+#[tactic(auto, using(crate::proofs::VarUInts::a_byte))]
+pub fn var_uint_from(s: &[u8], at: usize, acc: u64, out: Refusal) -> Result<Number, Refusal>
     ensures { result ≡ var_uint_from out acc at (drop at s.now) }
 {
-    let mut i = at;
     let mut value = acc;
-    while i < s.len() {
+    for i in at..s.len() {
         let b = s[i];
         if MAX_BEFORE_GROUP < value {
-            return Number::No(Refusal::NotIon);
+            return Err(Refusal::NotIon);
         }
-        let more = value * 128 + (b % 128) as u64;
-        i += 1;
+        value = value * 128 + u64::from(b % 128);
         if END_FLAG <= b {
-            return Number::Is {
-                value: more,
-                next: i,
-            };
+            return Ok(Number { value, next: i + 1 });
         }
-        value = more;
     }
-    Number::No(out)
+    Err(out)
 }
 
 // The VarUInt at `at`; `out` where the bytes end before it does. Most take one byte, so that is asked first.
-pub fn var_uint(s: &[u8], at: usize, out: Refusal) -> Number
+#[tactic(auto, using(crate::proofs::VarUInts::a_byte), unfolding(reading::specs::Headers::var_uint_at))]
+pub fn var_uint(s: &[u8], at: usize, out: Refusal) -> Result<Number, Refusal>
     ensures { result ≡ var_uint_at out s.now at }
 {
-    if s.len() <= at {
-        return Number::No(out);
-    }
-    let b = s[at];
+    let Some(&b) = s.get(at) else {
+        return Err(out);
+    };
     if END_FLAG <= b {
-        return Number::Is {
-            value: (b % 128) as u64,
+        return Ok(Number {
+            value: u64::from(b % 128),
             next: at + 1,
-        };
+        });
     }
     var_uint_from(s, at, 0, out)
-}
-
-// Why a number does not read.
-pub fn number_refusal(n: Number) -> Refusal
-    ensures { result ≡ number_refusal n }
-{
-    match n {
-        Number::No(r) => r,
-        Number::Is { value: _, next: _ } => Refusal::NotIon,
-    }
 }

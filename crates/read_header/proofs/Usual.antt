@@ -2,16 +2,17 @@
 -- Assumes nothing.
 use Prim.Native.Nat.{ℕ, ◌+◌, ◌/◌, ◌%◌, ◌≤◌, ◌<◌}
 use native.Mathlib.Omega.{arith}
-use mathlib.Core.Path.{◌≡◌, refl, sym, subst}
-use mathlib.Core.Bool.{true, false, cond}
+use mathlib.Core.Path.{◌≡◌, refl, sym, ◌∙◌, subst}
+use mathlib.Core.Bool.{true, false}
 use mathlib.Core.List.{List}
-use lib.Dec.{leb, eqb}
-use lib.ListN.{length}
-use borrow.Author.Tests.{ltb-true, leb-true, eqb-true, ne_eqb, le-ltb}
+use lib.Dec.{eqb}
+use lib.ListN.{length, get_or}
+use borrow.Author.Tests.{ltb-true, leb-true, eqb-true, ne_eqb, le-ltb, le-leb, lt-leb}
 use Rattle.ion.proofs.Tests.{by_cases, both}
 use Rattle.reading.specs.declared.Refusal.{Refusal}
-use Rattle.reading.specs.declared.Header.TheVariants as H
-use Rattle.reading.specs.Headers.{impossible, alone, measured, never, headed}
+use Rattle.std.specs.Prelude.{Ok, Err}
+use Rattle.reading.specs.Headers.{impossible, alone, measured, never, header_at}
+use Rattle.read_header.proofs.Headers.{header_out, header_here}
 use Rattle.read_header.specs.Usual.{least_length, usual}
 
 record Plain (t l : ℕ) : Type 0 where
@@ -71,9 +72,23 @@ plain t l h k =
     least x e = subst (λ (y : ℕ). least_length y ≤ l) e h
 
 -- The body of a usual header: as many bytes as its low four bits say.
-pub headed-usual : (out : Refusal) (s : List ℕ) (at b : ℕ) → usual b ≡ true
-    → headed out s at b ≡ cond (leb (at + 1 + b % 16) (length s)) (H.Is b (at + 1) (at + 1 + b % 16)) (H.No out)
-headed-usual out s at b u =
-    let e = both u in
-    let p = plain (b / 16) (b % 16) (leb-true (least_length (b / 16)) (b % 16) e.0) (ltb-true (b % 16) 14 e.1) in
-    rw (p.possible, p.more, p.short, p.has) refl
+module _ (out : Refusal) (s : List ℕ) (at : ℕ) (inside : at < length s) (u : usual (get_or s at 0) ≡ true) where
+  is_plain : Plain (get_or s at 0 / 16) (get_or s at 0 % 16)
+  is_plain = let e = both u in
+      plain (get_or s at 0 / 16) (get_or s at 0 % 16)
+      (leb-true (least_length (get_or s at 0 / 16)) (get_or s at 0 % 16) e.0) (ltb-true (get_or s at 0 % 16) 14 e.1)
+
+  pub usual_cut : length s ≤ at + get_or s at 0 % 16 → header_at out s at ≡ Err out
+  usual_cut h =
+      let p = is_plain in
+      header_here out s at inside
+      ∙ rw (p.possible, p.more, p.short, p.has, lt-leb (at + 1 + get_or s at 0 % 16) (length s) (omega arith)) refl
+
+  pub usual_whole : at + get_or s at 0 % 16 < length s
+      → header_at out s at ≡ Ok (record { kind = get_or s at 0; start = at + 1; stop = at + 1 + get_or s at 0 % 16 })
+  usual_whole h =
+      let p = is_plain in
+      header_here out s at inside
+      ∙ rw (p.possible, p.more, p.short, p.has, le-leb (at + 1 + get_or s at 0 % 16) (length s) (omega arith)) refl
+
+pub ruleset a_usual_byte = (header_out, usual_cut, usual_whole)

@@ -1,14 +1,13 @@
 // One header, taken apart: its type byte and where its body starts and stops, or why it does not read.
 #![tactic(auto)]
 
-ghost use Rattle.std.specs.Prelude.{◌≡◌, ◌≤◌, length};
+ghost use Rattle.std.specs.Prelude.{◌≡◌, ◌≤◌, ◌/◌, ◌%◌, length};
 ghost use Rattle.reading.specs.Headers.{impossible, alone, measured, never, framed, header_at, marker_at, top_header_at};
-ghost use Rattle.read_header.specs.Refused.{header_refusal};
 ghost use Rattle.read_header.specs.Usual.{least_length, usual};
 
 use reading::{Header, Number, Refusal};
 
-// Type codes.
+// Type codes. They are numbers, and no enum: four bits of the type byte, which is answered as it stands, and the tables below go by them.
 const BOOL: u8 = 1;
 
 const NEGATIVE_INT: u8 = 3;
@@ -35,10 +34,11 @@ const MARKER_START: u8 = 0xE0;
 
 const MARKER: [u8; 4] = [MARKER_START, 0x01, 0x00, 0xEA];
 
-// No value, pad or wrapper has type code `t` and low bits `l`.
-fn is_impossible(t: u8, l: u8) -> bool
-    ensures { result ≡ impossible t l }
+// No value, pad or wrapper has this type byte.
+fn is_impossible(b: u8) -> bool
+    ensures { result ≡ impossible (b / 16) (b % 16) }
 {
+    let (t, l) = (b / 16, b % 16);
     (t == RESERVED)
         | (((t == BOOL) & ((1 < l) & (l < NULL)))
             | (((t == FLOAT) & !((l == 0) | ((l == 4) | ((l == 8) | (l == NULL)))))
@@ -46,73 +46,80 @@ fn is_impossible(t: u8, l: u8) -> bool
 }
 
 // The type descriptor is the whole value.
-fn is_alone(t: u8, l: u8) -> bool
-    ensures { result ≡ alone t l }
+fn is_alone(b: u8) -> bool
+    ensures { result ≡ alone (b / 16) (b % 16) }
 {
-    (l == NULL) | (t == BOOL)
+    (b % 16 == NULL) | (b / 16 == BOOL)
 }
 
 // A length field follows.
-fn is_measured(t: u8, l: u8) -> bool
-    ensures { result ≡ measured t l }
+fn is_measured(b: u8) -> bool
+    ensures { result ≡ measured (b / 16) (b % 16) }
 {
+    let (t, l) = (b / 16, b % 16);
     (l == LONG) | ((t == STRUCT) & (l == SORTED))
 }
 
 // The type never has a body of `n` bytes.
-fn is_never(t: u8, l: u8, n: u64) -> bool
-    ensures { result ≡ never t l n }
+fn is_never(b: u8, n: u64) -> bool
+    ensures { result ≡ never (b / 16) (b % 16) n }
 {
+    let (t, l) = (b / 16, b % 16);
     ((t == NEGATIVE_INT) & (n == 0))
         | (((t == TIMESTAMP) & (n < 2))
             | (((t == ANNOTATIONS) & (n < 3))
                 | ((t == STRUCT) & ((n == 1) | ((l == SORTED) & (n == 0))))))
 }
 
-// The body of `n` bytes from `start`. `n` is held against the bytes that are left, since `start + n` may wrap.
-fn frame(s: &[u8], b: u8, n: u64, start: usize, out: Refusal) -> Header
-    requires { start ≤ length s.now }
-    ensures { result ≡ framed out s.now b n start }
+// The body whose length and start `field` gives. The length is held against the bytes that are left, since start and length together may wrap.
+#[tactic(auto, using(crate::proofs::Headers::a_body))]
+fn frame(s: &[u8], b: u8, field: Number, out: Refusal) -> Result<Header, Refusal>
+    requires { field.next ≤ length s.now }
+    ensures { result ≡ framed out s.now b field.value field.next }
 {
-    if is_never(b / 16, b % 16, n) {
-        return Header::No(Refusal::NotIon);
+    let Number {
+        value: n,
+        next: start,
+    } = field;
+    if is_never(b, n) {
+        return Err(Refusal::NotIon);
     }
     if ((s.len() - start) as u64) < n {
-        return Header::No(out);
+        return Err(out);
     }
-    Header::Is {
+    Ok(Header {
         kind: b,
         start,
         stop: start + n as usize,
-    }
+    })
 }
 
 // The header at `at`, whatever its type byte.
-fn any_header_at(s: &[u8], at: usize, out: Refusal) -> Header
+#[tactic(auto, using(crate::proofs::Headers::a_byte))]
+fn any_header_at(s: &[u8], at: usize, out: Refusal) -> Result<Header, Refusal>
     ensures { result ≡ header_at out s.now at }
 {
-    if s.len() <= at {
-        return Header::No(out);
+    let Some(&b) = s.get(at) else {
+        return Err(out);
+    };
+    if is_impossible(b) {
+        return Err(Refusal::NotIon);
     }
-    let b = s[at];
-    if is_impossible(b / 16, b % 16) {
-        return Header::No(Refusal::NotIon);
-    }
-    if is_alone(b / 16, b % 16) {
-        return Header::Is {
+    if is_alone(b) {
+        return Ok(Header {
             kind: b,
             start: at + 1,
             stop: at + 1,
-        };
+        });
     }
-    if is_measured(b / 16, b % 16) {
-        let field = read_fields::var_uint(s, at + 1, out);
-        let Number::Is { value, next } = field else {
-            return Header::No(read_fields::number_refusal(field));
-        };
-        return frame(s, b, value, next, out);
+    if is_measured(b) {
+        return frame(s, b, read_fields::var_uint(s, at + 1, out)?, out);
     }
-    frame(s, b, (b % 16) as u64, at + 1, out)
+    let short = Number {
+        value: u64::from(b % 16),
+        next: at + 1,
+    };
+    frame(s, b, short, out)
 }
 
 // The least length of a type's bodies that the low four bits of its type byte may say; no length for types whose low bits say other things too.
@@ -120,13 +127,10 @@ fn least_length(t: u8) -> u8
     ensures { result ≡ least_length t }
 {
     match t {
-        BOOL => LONG,
+        BOOL | FLOAT | RESERVED => LONG,
         NEGATIVE_INT => 1,
-        FLOAT => LONG,
-        TIMESTAMP => 2,
-        STRUCT => 2,
+        TIMESTAMP | STRUCT => 2,
         ANNOTATIONS => 3,
-        RESERVED => LONG,
         _ => 0,
     }
 }
@@ -139,72 +143,57 @@ fn is_usual(b: u8) -> bool
 }
 
 // The header at `at`; `out` where the bytes end before its body does. Most have a short length, so that is asked first.
-pub fn header_at(s: &[u8], at: usize, out: Refusal) -> Header
+#[tactic(auto, using(crate::proofs::Usual::a_usual_byte))]
+pub fn header_at(s: &[u8], at: usize, out: Refusal) -> Result<Header, Refusal>
     ensures { result ≡ header_at out s.now at }
 {
-    if s.len() <= at {
-        return Header::No(out);
-    }
-    let b = s[at];
+    let Some(&b) = s.get(at) else {
+        return Err(out);
+    };
     if !is_usual(b) {
         return any_header_at(s, at, out);
     }
-    if s.len() - at <= (b % 16) as usize {
-        return Header::No(out);
+    let size = usize::from(b % 16);
+    if s.len() - at <= size {
+        return Err(out);
     }
-    Header::Is {
+    Ok(Header {
         kind: b,
         start: at + 1,
-        stop: at + 1 + (b % 16) as usize,
-    }
+        stop: at + 1 + size,
+    })
 }
 
-// The version marker at `at`.
-fn marker_at(s: &[u8], at: usize) -> Header
+// The version marker at `at`, or what a beginning of it is.
+#[tactic(auto, using(crate::proofs::Markers::a_marker), unfolding(reading::specs::Headers::marker_at))]
+fn marker_at(s: &[u8], at: usize) -> Result<Header, Refusal>
+    requires { at ≤ length s.now }
     ensures { result ≡ marker_at s.now at }
 {
-    let mut i = at;
-    let mut same = 0;
-    while same < MARKER.len() {
-        if s.len() <= i {
-            return Header::No(Refusal::CutShort);
-        }
-        if s[i] != MARKER[same] {
-            return Header::No(Refusal::NotIon);
-        }
-        i += 1;
-        same += 1;
+    let rest = &s[at..];
+    if rest.starts_with(&MARKER) {
+        return Ok(Header {
+            kind: MARKER_START,
+            start: at + MARKER.len(),
+            stop: at + MARKER.len(),
+        });
     }
-    Header::Is {
-        kind: MARKER_START,
-        start: i,
-        stop: i,
+    if MARKER.starts_with(rest) {
+        return Err(Refusal::CutShort);
     }
+    Err(Refusal::NotIon)
 }
 
 // The header or marker at `at`, at top level.
-pub fn top_header_at(s: &[u8], at: usize) -> Header
+#[tactic(auto, using(crate::proofs::Markers::at_top))]
+pub fn top_header_at(s: &[u8], at: usize) -> Result<Header, Refusal>
     ensures { result ≡ top_header_at s.now at }
 {
-    if s.len() <= at {
-        return Header::No(Refusal::CutShort);
-    }
-    if s[at] == MARKER_START {
+    let Some(&b) = s.get(at) else {
+        return Err(Refusal::CutShort);
+    };
+    if b == MARKER_START {
         return marker_at(s, at);
     }
     any_header_at(s, at, Refusal::CutShort)
-}
-
-// Why a header does not read.
-pub fn header_refusal(h: Header) -> Refusal
-    ensures { result ≡ header_refusal h }
-{
-    match h {
-        Header::No(r) => r,
-        Header::Is {
-            kind: _,
-            start: _,
-            stop: _,
-        } => Refusal::NotIon,
-    }
 }

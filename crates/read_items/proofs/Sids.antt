@@ -85,15 +85,18 @@ sids_are l = held (var_uints (length l) l) ∙ sids_fill (length l) l (omega ari
 
 -- ---- the running state at a place
 
-module _ (whole : Bool) (acc : ℕ) (l : List ℕ) (i b : ℕ) (inside : i < length l) (is : b ≡ get_or l i 0) where
-  pub sids_past : 2 ^ 57 ≤ acc → sids_from whole acc (drop i l) ≡ false
-  unfolding sids_from
-  sids_past h = rw (drop-cons l i 0 inside, ← is, le-ltb (acc * 128 + b % 128) (2 ^ 64) (omega arith)) refl
+module _ (whole : Bool) (acc : ℕ) (l : List ℕ) (i : ℕ) where
+  module _ (inside : i < length l) where
+    pub sids_past : 2 ^ 57 ≤ acc → sids_from whole acc (drop i l) ≡ false
+    unfolding sids_from
+    sids_past h = rw (drop-cons l i 0 inside, le-ltb (acc * 128 + get_or l i 0 % 128) (2 ^ 64) (omega arith)) refl
 
-  pub sids_more : acc < 2 ^ 57 → sids_from whole acc (drop i l) ≡ sids_from (leb 0x80 b) (groups_with acc b) (drop (i + 1) l)
-  unfolding sids_from
-  sids_more h = rw (drop-cons l i 0 inside, ← is, lt-ltb (acc * 128 + b % 128) (2 ^ 64) (omega arith), add-one i) refl
+    pub sids_more : acc < 2 ^ 57 → sids_from whole acc (drop i l) ≡ sids_from (leb 0x80 (get_or l i 0)) (groups_with acc (get_or l i 0)) (drop (i + 1) l)
+    unfolding sids_from
+    sids_more h = rw (drop-cons l i 0 inside, lt-ltb (acc * 128 + get_or l i 0 % 128) (2 ^ 64) (omega arith), add-one i) refl
 
-pub sids_end : (whole : Bool) (acc : ℕ) (l : List ℕ) (i : ℕ) → i ≡ length l → sids_from whole acc (drop i l) ≡ whole
-unfolding sids_from
-sids_end whole acc l i e = rw (e, drop-length l) refl
+  pub sids_end : i ≡ length l → sids_from whole acc (drop i l) ≡ whole
+  unfolding sids_from
+  sids_end e = rw (e, drop-length l) refl
+
+pub ruleset a_byte = (sids_are, sids_past, sids_more, sids_end)

@@ -1,3 +1,2 @@
 pub mod Ints
-pub mod Refused
 pub mod Sids

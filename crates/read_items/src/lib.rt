@@ -1,23 +1,18 @@
 // One item of a stream or of a body: its name, its header, what a wrapper holds, and whether its content reads.
 #![tactic(auto)]
 
-ghost use Rattle.std.specs.Prelude.{◌≡◌, ◌+◌, ◌<◌, ◌≤◌, length};
-ghost use Rattle.std.proofs.Math.Seq.{slice};
+ghost use Rattle.std.specs.Prelude.{◌≡◌, ◌<◌, ◌≤◌, length};
 ghost use Rattle.reading.specs.declared.Refusal.TheVariants.{NotIon};
-ghost use Rattle.reading.specs.declared.Number.TheVariants as N;
-ghost use Rattle.reading.specs.declared.Header.TheVariants as Hd;
-ghost use Rattle.reading.specs.declared.Wrapped.TheVariants as W;
 ghost use Rattle.reading.specs.Headers.{header_at};
 ghost use Rattle.reading.specs.Scalars.{is_some, sids_of};
 ghost use Rattle.reading.specs.Items.{is_pad, is_wrapper, opens, has_names, name_at, head_in, filled, annotated, wrapped_at, unwrapped, reads, falls};
 ghost use Rattle.reading.specs.Items.{raised, judged, named, item_at};
 ghost use Rattle.read_items.specs.Ints.{is_sequence, is_short_int, int_end};
 ghost use Rattle.read_items.specs.Sids.{groups_with};
-ghost use Rattle.read_items.specs.Refused.{wrapped_refusal};
 
-use reading::{Header, Item, Number, Refusal, Wrapped};
+use reading::{Header, Holder, Item, Number, Refusal, Wrapped};
 
-// Type bytes. Those below null's are pads.
+// Type bytes. Those below null's are pads. They are numbers, and no enum: an item answers the byte of the stream as it stands, its length bits too.
 const NULL: u8 = 0x0F;
 
 const INT_ZERO: u8 = 0x20;
@@ -47,7 +42,7 @@ const LONG: u8 = 14;
 // Containers that may be open at once.
 const MOST_OPEN: u8 = 32;
 
-const END_FLAG: u64 = 0x80;
+const END_FLAG: u8 = 0x80;
 
 // The greatest number that seven more bits leave within 64.
 const MAX_BEFORE_GROUP: u64 = 0x1FF_FFFF_FFFF_FFFF;
@@ -86,76 +81,52 @@ pub fn least_after(least: u64, kind: u8, name: u64) -> u64
 }
 
 // In a sorted struct a name may repeat but not fall, a pad's aside.
-fn name_falls(parent: u8, least: u64, kind: u8, name: u64) -> bool
-    ensures { result ≡ falls parent least kind name }
+fn name_falls(holder: Holder, kind: u8, name: u64) -> bool
+    ensures { result ≡ falls holder.kind holder.least kind name }
 {
-    (parent == SORTED_STRUCT) & (!(kind < NULL) & (name < least))
-}
-
-fn wide(b: u8) -> u64
-    ensures { (result ≡ b) × (result < 256) }
-{
-    b as u64
+    (holder.kind == SORTED_STRUCT) & (!(kind < NULL) & (name < holder.least))
 }
 
 // The groups of a VarUInt so far and a byte more. A last group leaves none.
-fn with_group(groups: u64, b: u64) -> u64
-    requires { (groups ≤ 0x1FFFFFFFFFFFFFF) × (b < 256) }
+fn with_group(groups: u64, b: u8) -> u64
+    requires { groups ≤ 0x1FFFFFFFFFFFFFF }
     ensures { result ≡ groups_with groups b }
 {
     if b < END_FLAG {
-        return groups * 128 + b % 128;
+        return groups * 128 + u64::from(b % 128);
     }
     0
 }
 
 // Whether whole sids fill the bytes. Leading groups may be zero, so their count is not limited.
+#[tactic(auto, using(crate::proofs::Sids::a_byte))]
 pub fn are_sids(part: &[u8]) -> bool
     ensures { result ≡ is_some (sids_of part.now) }
 {
-    let mut i = 0;
     let mut groups: u64 = 0;
     let mut whole = true;
-    while i < part.len() {
-        let b = wide(part[i]);
+    for b in part {
         if MAX_BEFORE_GROUP < groups {
             return false;
         }
-        groups = with_group(groups, b);
-        whole = END_FLAG <= b;
-        i += 1;
+        groups = with_group(groups, *b);
+        whole = END_FLAG <= *b;
     }
     whole
 }
 
-// Why a wrapper does not read.
-fn wrapped_refusal(w: Wrapped) -> Refusal
-    ensures { result ≡ wrapped_refusal w }
-{
-    match w {
-        Wrapped::No(r) => r,
-        Wrapped::Is {
-            sids: _,
-            sids_end: _,
-            kind: _,
-            start: _,
-            stop: _,
-        } => Refusal::NotIon,
-    }
-}
-
 // The name of the item at `at`; 0 where items have none.
-fn name_at(s: &[u8], parent: u8, at: usize) -> Number
+fn name_at(s: &[u8], parent: u8, at: usize) -> Result<Number, Refusal>
     ensures { result ≡ name_at s.now parent at }
 {
     if has_names(parent) {
         return read_fields::var_uint(s, at, Refusal::NotIon);
     }
-    Number::Is { value: 0, next: at }
+    Ok(Number { value: 0, next: at })
 }
 
 // The header behind the name. Only the stream itself can be cut short.
-fn head_in(s: &[u8], parent: u8, at: usize) -> Header
+fn head_in(s: &[u8], parent: u8, at: usize) -> Result<Header, Refusal>
     ensures { result ≡ head_in s.now parent at }
 {
     if parent == STREAM {
@@ -165,165 +136,137 @@ fn head_in(s: &[u8], parent: u8, at: usize) -> Header
 }
 
 // The one value behind a wrapper's sids.
-fn wrapped_value(s: &[u8], from: usize, to: usize) -> Wrapped
+fn wrapped_value(s: &[u8], from: usize, to: usize) -> Result<Wrapped, Refusal>
     ensures { result ≡ filled s.now from to (header_at NotIon s.now to) }
 {
-    let h = read_header::header_at(s, to, Refusal::NotIon);
-    let Header::Is { kind, start, stop } = h else {
-        return Wrapped::No(read_header::header_refusal(h));
-    };
+    let Header { kind, start, stop } = read_header::header_at(s, to, Refusal::NotIon)?;
     if is_pad(kind) | (is_wrapper(kind) | !(stop == s.len())) {
-        return Wrapped::No(Refusal::NotIon);
+        return Err(Refusal::NotIon);
     }
-    Wrapped::Is {
+    Ok(Wrapped {
         sids: from,
         sids_end: to,
         kind,
         start,
         stop,
-    }
+    })
 }
 
-// A wrapper's sids, which take n bytes, and the value behind them.
-fn annotated_value(s: &[u8], n: u64, from: usize) -> Wrapped
-    requires { from ≤ length s.now }
-    ensures { result ≡ annotated s.now (N.Is n from) }
+// A wrapper's sids, whose length and start `sum` gives, and the value behind them.
+#[tactic(auto, using(crate::proofs::Parts::part_slice))]
+fn annotated_value(s: &[u8], sum: Number) -> Result<Wrapped, Refusal>
+    requires { sum.next ≤ length s.now }
+    ensures { result ≡ annotated s.now (Ok sum) }
 {
+    let Number {
+        value: n,
+        next: from,
+    } = sum;
     if n < 1 {
-        return Wrapped::No(Refusal::NotIon);
+        return Err(Refusal::NotIon);
     }
     if ((s.len() - from) as u64) < n {
-        return Wrapped::No(Refusal::NotIon);
+        return Err(Refusal::NotIon);
     }
     let to = from + n as usize;
     if are_sids(&s[from..to]) {
         return wrapped_value(s, from, to);
     }
-    Wrapped::No(Refusal::NotIon)
+    Err(Refusal::NotIon)
 }
 
 // What a wrapper holds whose body stands at `at`; the bytes reach to the wrapper's end.
-pub fn wrapped(s: &[u8], at: usize) -> Wrapped
+#[tactic(auto, using(read_fields::proofs::VarUInts::var_uint_bounds), unfolding(reading::specs::Items::wrapped_at))]
+pub fn wrapped(s: &[u8], at: usize) -> Result<Wrapped, Refusal>
     ensures { result ≡ wrapped_at s.now at }
 {
-    let sum = read_fields::var_uint(s, at, Refusal::NotIon);
-    let Number::Is { value, next } = sum else {
-        return Wrapped::No(read_fields::number_refusal(sum));
-    };
-    annotated_value(s, value, next)
+    annotated_value(s, read_fields::var_uint(s, at, Refusal::NotIon)?)
 }
 
 // The value of a header, in its wrapper or as it stands.
-fn unwrap(s: &[u8], kind: u8, start: usize, stop: usize) -> Wrapped
-    requires { stop ≤ length s.now }
-    ensures { result ≡ unwrapped s.now (Hd.Is kind start stop) }
+fn unwrap(s: &[u8], header: Header) -> Result<Wrapped, Refusal>
+    requires { header.stop ≤ length s.now }
+    ensures { result ≡ unwrapped s.now (Ok header) }
 {
+    let Header { kind, start, stop } = header;
     if is_wrapper(kind) {
         return wrapped(&s[..stop], start);
     }
-    Wrapped::Is {
+    Ok(Wrapped {
         sids: start,
         sids_end: start,
         kind,
         start,
         stop,
-    }
+    })
 }
 
 // Whether the body of a scalar reads. Others are not judged by their body.
-fn body_reads(s: &[u8], kind: u8, start: usize, stop: usize) -> bool
-    requires { (start ≤ stop) × (stop ≤ length s.now) }
-    ensures { result ≡ reads kind (slice start stop s.now) }
+fn body_reads(kind: u8, body: &[u8]) -> bool
+    ensures { result ≡ reads kind body.now }
 {
     if is_pad(kind) | ((kind == MARKER) | is_container(kind)) {
         return true;
     }
-    read_scalars::reads(kind, &s[start..stop])
+    read_scalars::reads(kind, body)
 }
 
 // Whether the name, the body and the count of open containers let the item stand.
-fn judge(
-    s: &[u8],
-    parent: u8,
-    least: u64,
-    depth: u8,
-    name: u64,
-    from: usize,
-    to: usize,
-    kind: u8,
-    start: usize,
-    stop: usize,
-) -> Item
-    requires { (start ≤ stop) × (stop ≤ length s.now) }
-    ensures { result ≡ judged s.now parent least depth name (W.Is from to kind start stop) }
+#[tactic(auto, using(crate::proofs::Parts::part_slice))]
+fn judge(s: &[u8], holder: Holder, name: u64, held: Wrapped) -> Result<Option<Item>, Refusal>
+    requires { (held.start ≤ held.stop) × (held.stop ≤ length s.now) }
+    ensures { result ≡ judged s.now holder.kind holder.least holder.depth name (Ok held) }
 {
-    if name_falls(parent, least, kind, name) {
-        return Item::No(Refusal::NotIon);
-    }
-    if !body_reads(s, kind, start, stop) {
-        return Item::No(Refusal::NotIon);
-    }
-    if is_container(kind) & (MOST_OPEN <= depth) {
-        return Item::No(Refusal::TooDeep);
-    }
-    Item::Is {
-        name,
-        sids: from,
-        sids_end: to,
+    let Wrapped {
+        sids,
+        sids_end,
         kind,
         start,
         stop,
+    } = held;
+    if name_falls(holder, kind, name) {
+        return Err(Refusal::NotIon);
     }
-}
-
-// The item whose name is read; its header stands at `at`.
-fn named_item(s: &[u8], parent: u8, least: u64, depth: u8, name: u64, at: usize) -> Item
-    ensures { result ≡ named s.now parent least depth (N.Is name at) }
-{
-    let h = head_in(s, parent, at);
-    let Header::Is { kind, start, stop } = h else {
-        return Item::No(read_header::header_refusal(h));
-    };
-    let held = unwrap(s, kind, start, stop);
-    let Wrapped::Is {
-        sids,
-        sids_end,
-        kind: inner,
-        start: inner_start,
-        stop: inner_stop,
-    } = held
-    else {
-        return Item::No(wrapped_refusal(held));
-    };
-    judge(
-        s,
-        parent,
-        least,
-        depth,
+    if !body_reads(kind, &s[start..stop]) {
+        return Err(Refusal::NotIon);
+    }
+    if is_container(kind) & (MOST_OPEN <= holder.depth) {
+        return Err(Refusal::TooDeep);
+    }
+    Ok(Some(Item {
         name,
         sids,
         sids_end,
-        inner,
-        inner_start,
-        inner_stop,
-    )
+        kind,
+        start,
+        stop,
+    }))
 }
 
-// The item at `at`, in a parent of this type byte whose end the bytes reach to.
-pub fn item(s: &[u8], parent: u8, least: u64, depth: u8, at: usize) -> Item
-    ensures { result ≡ item_at s.now parent least depth at }
+// The item whose name is read; its header stands behind that.
+#[tactic(auto, using(crate::proofs::Bounds::head_bounds))]
+fn named_item(s: &[u8], holder: Holder, name: Number) -> Result<Option<Item>, Refusal>
+    ensures { result ≡ named s.now holder.kind holder.least holder.depth (Ok name) }
+{
+    let found = head_in(s, holder.kind, name.next);
+    let Ok(header) = found else {
+        return found.and(Ok(None));
+    };
+    judge(s, holder, name.value, unwrap(s, header)?)
+}
+
+// The item at `at`, in what holds it, whose end the bytes reach to.
+#[tactic(auto, unfolding(reading::specs::Items::item_at))]
+pub fn item(s: &[u8], holder: Holder, at: usize) -> Result<Option<Item>, Refusal>
+    ensures { result ≡ item_at s.now holder.kind holder.least holder.depth at }
 {
     if s.len() < at {
-        return Item::No(Refusal::PastTheEnd);
+        return Err(Refusal::PastTheEnd);
     }
     if at == s.len() {
-        return Item::End;
+        return Ok(None);
     }
-    let name = name_at(s, parent, at);
-    let Number::Is { value, next } = name else {
-        return Item::No(read_fields::number_refusal(name));
-    };
-    named_item(s, parent, least, depth, value, next)
+    named_item(s, holder, name_at(s, holder.kind, at)?)
 }
 
 // A list's or an s-expression's type byte.
@@ -340,30 +283,28 @@ fn is_short_int(kind: u8) -> bool
     (kind / 32 == 1) & ((0 < kind % 16) & (kind % 16 < LONG))
 }
 
-// A short way past an int in a list or an s-expression: the place behind it, or 0 where anything else stands, for `item` to judge.
+// A short way past an int in a list or an s-expression: the place behind it; none where anything else stands, for `item` to judge.
 // In the shortest form an int's first byte is not zero, so it is not negative zero.
-pub fn int_end(s: &[u8], parent: u8, at: usize) -> usize
+#[tactic(auto, using(crate::proofs::Ints::an_int))]
+pub fn int_end(s: &[u8], parent: u8, at: usize) -> Option<usize>
     ensures { result ≡ int_end s.now parent at }
 {
     if !is_sequence(parent) {
-        return 0;
+        return None;
     }
-    if s.len() <= at {
-        return 0;
-    }
-    let b = s[at];
+    let b = *s.get(at)?;
     if b == INT_ZERO {
-        return at + 1;
+        return Some(at + 1);
     }
     if !is_short_int(b) {
-        return 0;
+        return None;
     }
-    let size = (b % 16) as usize;
+    let size = usize::from(b % 16);
     if s.len() - at <= size {
-        return 0;
+        return None;
     }
     if s[at + 1] == 0 {
-        return 0;
+        return None;
     }
-    at + 1 + size
+    Some(at + 1 + size)
 }

@@ -3,9 +3,9 @@
 use Prim.Native.Nat.{ℕ, zero, suc, ◌+◌, ◌≤◌, ◌<◌}
 use native.Mathlib.Omega.{arith}
 use mathlib.Core.Path.{◌≡◌, refl, sym, ◌∙◌, subst}
-use mathlib.Core.Bool.{Bool, true, false, false≢true, not, ◌||◌}
+use mathlib.Core.Bool.{true, false, false≢true, not, ◌||◌}
 use mathlib.Core.List.{List, [], ◌∷◌}
-use mathlib.Core.Option.{Option}
+use mathlib.Core.Option.{Option, none}
 use borrow.Author.Tests.{ltb-true, ltb-false, leb-true, lt-leb, le-leb}
 use lib.Dec.{ltb, leb}
 use lib.ListN.{length, take}
@@ -17,6 +17,8 @@ use Rattle.ion.specs.Calendar.{days_in_month, is_month, is_day, is_calendar_year
 use Rattle.ion.specs.Scalars.{is_year, offset_of, are_fields}
 use Rattle.mark.specs.OutOfCalendar.{is_calendar_minute, local_minute, out_of_calendar}
 use Rattle.ion.proofs.Tests.{by_cases, both}
+use Rattle.reading.specs.declared.Fields.{Fields}
+use Rattle.reading.specs.Told.{fields_told}
 use Rattle.mark.proofs.Years.{year_by_minute}
 use Rattle.calendar.proofs.Months.{days_most}
 
@@ -46,7 +48,7 @@ module _ (y m d h i s : ℕ) where
   abbrev six : List ℕ
   six = y ∷ m ∷ d ∷ h ∷ i ∷ s ∷ []
 
-  pub marked_year : (o : Option ℤ) (n : ℕ) → are_fields (take n six) ≡ true → (ltb y 1 || ltb 9999 y) ≡ true → true ≡ out_of_calendar o (take n six)
+  pub marked_year : (o : Option ℤ) (n : ℕ) → are_fields (take n six) ≡ true → (ltb y 1 || ltb 9999 y) ≡ true → out_of_calendar o (take n six) ≡ true
   unfolding are_fields out_of_calendar
   marked_year o zero e f = absurd (false≢true e)
   marked_year o (suc n) e f = rw (year_outside y f)
@@ -54,7 +56,7 @@ module _ (y m d h i s : ℕ) where
   inside : (ltb y 1 || ltb 9999 y) ≡ false → is_calendar_year y ≡ true
   inside f = let b = year_inside y f in rw (le-leb 1 y b.0, le-leb y 9999 b.1)
 
-  pub unmarked_date : (o : Option ℤ) (n : ℕ) → are_fields (take n six) ≡ true → (ltb y 1 || ltb 9999 y) ≡ false → n < 5 → false ≡ out_of_calendar o (take n six)
+  pub unmarked_date : (o : Option ℤ) (n : ℕ) → are_fields (take n six) ≡ true → (ltb y 1 || ltb 9999 y) ≡ false → n < 5 → out_of_calendar o (take n six) ≡ false
   unfolding are_fields out_of_calendar
   unmarked_date o zero e f k = absurd (false≢true e)
   unmarked_date o (suc zero) e f k = rw (inside f)
@@ -63,17 +65,21 @@ module _ (y m d h i s : ℕ) where
   unmarked_date o (suc (suc (suc (suc zero)))) e f k = rw (inside f)
   unmarked_date o (suc (suc (suc (suc (suc n))))) e f k = absurd (omega arith)
 
-  pub marked_time : (o : Signed) (n t : ℕ) (r : Bool) → (ltb y 1 || ltb 9999 y) ≡ false → 5 ≤ n → t ≡ minute_number y m d h i →
-      r ≡ not (is_calendar_minute (pos t +ℤ number o)) → r ≡ out_of_calendar (offset_of o) (take n six)
+  timed : (o : Option ℤ) (n : ℕ) → (ltb y 1 || ltb 9999 y) ≡ false → 5 ≤ n
+      → (fs : List ℕ) × (out_of_calendar o (take n six) ≡ not (is_calendar_minute (local_minute o (y ∷ m ∷ d ∷ h ∷ i ∷ fs))))
   unfolding out_of_calendar
-  marked_time o zero t r f k q e = absurd (omega arith)
-  marked_time o (suc zero) t r f k q e = absurd (omega arith)
-  marked_time o (suc (suc zero)) t r f k q e = absurd (omega arith)
-  marked_time o (suc (suc (suc zero))) t r f k q e = absurd (omega arith)
-  marked_time o (suc (suc (suc (suc zero)))) t r f k q e = absurd (omega arith)
-  marked_time o (suc (suc (suc (suc (suc n))))) t r f k q e =
-      let fs = y ∷ m ∷ d ∷ h ∷ i ∷ take n (s ∷ []) in
-      rw (inside f, le-leb 5 (length fs) (omega arith), local_shifted o y m d h i (take n (s ∷ [])), ← q) e
+  timed o zero f k = absurd (omega arith)
+  timed o (suc zero) f k = absurd (omega arith)
+  timed o (suc (suc zero)) f k = absurd (omega arith)
+  timed o (suc (suc (suc zero))) f k = absurd (omega arith)
+  timed o (suc (suc (suc (suc zero)))) f k = absurd (omega arith)
+  timed o (suc (suc (suc (suc (suc n))))) f k =
+      let fs = take n (s ∷ []) in
+      (fs, rw (inside f, le-leb 5 (length (y ∷ m ∷ d ∷ h ∷ i ∷ fs)) (omega arith)) refl)
+
+  pub marked_time : (o : Signed) (n : ℕ) → (ltb y 1 || ltb 9999 y) ≡ false → 5 ≤ n
+      → out_of_calendar (offset_of o) (take n six) ≡ not (is_calendar_minute (pos (minute_number y m d h i) +ℤ number o))
+  marked_time o n f k = let t = timed (offset_of o) n f k in rw (t.1, local_shifted o y m d h i t.0) refl
 
   -- ---- what the fields tell where there is a time
 
@@ -96,7 +102,7 @@ module _ (y m d h i s : ℕ) where
         minute = ltb-true i 60 g;
       }
 
-  pub time : (n : ℕ) → are_fields (take n six) ≡ true → 5 ≤ n → Time
+  time : (n : ℕ) → are_fields (take n six) ≡ true → 5 ≤ n → Time
   unfolding are_fields
   time zero e k = absurd (omega arith)
   time (suc zero) e k = absurd (omega arith)
@@ -114,7 +120,25 @@ module _ (y m d h i s : ℕ) where
       let c = both {a = ltb h 24} b.1 in
       time_of b.0 c.0 (both {a = ltb i 60} c.1).0
 
-  pub utc_inside : (n : ℕ) → are_fields (take n six) ≡ true → (ltb y 1 || ltb 9999 y) ≡ false → 5 ≤ n → is_calendar_minute (pos (minute_number y m d h i)) ≡ true
+  utc_inside : (n : ℕ) → are_fields (take n six) ≡ true → (ltb y 1 || ltb 9999 y) ≡ false → 5 ≤ n → is_calendar_minute (pos (minute_number y m d h i)) ≡ true
   utc_inside n e f k =
       let t = time n e k in
       year_by_minute y m d h i t.real t.hour t.minute ∙ inside f
+
+  -- no offset is known: the UTC year is the local one
+  pub unmarked_unknown : (n : ℕ) → are_fields (take n six) ≡ true → (ltb y 1 || ltb 9999 y) ≡ false → out_of_calendar none (take n six) ≡ false
+  unmarked_unknown n e f =
+      by_cases (ltb n 5)
+      (λ p. unmarked_date none n e f (ltb-true n 5 p))
+      (λ p. let k = ltb-false n 5 p in rw ((timed none n f k).1, utc_inside n e f k) refl)
+
+pub ruleset marks = (marked_year, unmarked_date, unmarked_unknown, marked_time)
+
+-- ---- by the fields that are read
+
+pub time_is : (f : Fields) → are_fields (fields_told f) ≡ true → 5 ≤ f.count → Time f.year f.month f.day f.hour f.minute f.second
+time_is f e k = time f.year f.month f.day f.hour f.minute f.second f.count e k
+
+pub calendar_time : (f : Fields) → are_fields (fields_told f) ≡ true → (ltb f.year 1 || ltb 9999 f.year) ≡ false → 5 ≤ f.count
+    → is_calendar_minute (pos (minute_number f.year f.month f.day f.hour f.minute)) ≡ true
+calendar_time f e g k = utc_inside f.year f.month f.day f.hour f.minute f.second f.count e g k

@@ -1,8 +1,8 @@
 -- What is shown of a body: the mark is that of the timestamp that the body reads as, whose fields are a date or a time of the calendar.
 -- Assumes nothing.
 use Prim.Native.Nat.{ℕ}
-use mathlib.Core.Path.{◌≡◌, sym, ◌∙◌, ap, subst}
-use mathlib.Core.Bool.{Bool, true}
+use mathlib.Core.Path.{◌≡◌, refl, ◌∙◌, ap, subst}
+use mathlib.Core.Bool.{true}
 use mathlib.Core.List.{List}
 use mathlib.Core.Option.{Option, none, some}
 use lib.IntN.{ℤ}
@@ -11,19 +11,30 @@ use Rattle.ion.specs.Chain.{◌>>=◌, check}
 use Rattle.ion.specs.Fields.{var_int, var_uints}
 use Rattle.ion.specs.Scalars.{offset_of, are_fields, fraction_at, timestamp_of, scalar_of}
 use Rattle.ion.proofs.Tests.{by_cases}
+use Rattle.std.specs.Prelude.{Result, Ok, Err}
+use Rattle.mark.specs.OutOfCalendar.{out_of_calendar}
+use Rattle.reading.specs.declared.Refusal.{Refusal}
+use Rattle.reading.specs.declared.Shown.{Shown}
 use Rattle.reading.specs.declared.Timestamp.{Timestamp}
-use Rattle.reading.specs.Bodies.{timestamp_in, mark_in, shown_in}
-use Rattle.reading.specs.Told.{timestamp_told}
+use Rattle.reading.specs.Bodies.{timestamp_in, mark_in, shown_with, shown_in}
+use Rattle.reading.specs.Told.{offset_told, fields_told, timestamp_told}
 use Rattle.reading.proofs.Whole.{timestamp_whole}
 
-told : (b : List ℕ) (t : Timestamp) → t ≡ timestamp_in b → timestamp_of b ≡ timestamp_told b t
+told : (b : List ℕ) → timestamp_of b ≡ timestamp_told b (timestamp_in b)
 unfolding scalar_of
-told b t e = timestamp_whole b ∙ ap (timestamp_told b) (sym e)
+told b = timestamp_whole b
 
-pub shown : (b : List ℕ) (t : Timestamp) → t ≡ timestamp_in b → (marked : Bool) → marked ≡ mark_in (timestamp_told b t)
-    → record { timestamp = t; marked = marked } ≡ shown_in b
+abbrev pub marked : Result Timestamp Refusal → Result Shown Refusal
+marked (Ok t) = Ok (record { timestamp = t; marked = out_of_calendar (offset_told t.offset) (fields_told t.fields) })
+marked (Err r) = Err r
+
+pub shown_by : (b : List ℕ) → shown_in b ≡ marked (timestamp_in b)
 unfolding shown_in
-shown b t e marked m = rw (told b t e, ← e, m)
+shown_by b = rw (told b) (go (timestamp_in b))
+  where
+    go : (t : Result Timestamp Refusal) → shown_with (mark_in (timestamp_told b t)) t ≡ marked t
+    go (Ok t) = refl
+    go (Err r) = refl
 
 -- ---- the fields of a timestamp that reads
 
@@ -58,5 +69,5 @@ fields_hold b = by_offset (var_int b)
     by_offset none = tt
     by_offset (some o) = by_fields (offset_of o.0) (var_uints 6 o.1)
 
-pub told-fields : (b : List ℕ) (t : Timestamp) → t ≡ timestamp_in b → FieldsHold (timestamp_told b t)
-told-fields b t e = subst FieldsHold (told b t e) (fields_hold b)
+pub fields_told_hold : (b : List ℕ) (t : Timestamp) → timestamp_in b ≡ Ok t → are_fields (fields_told t.fields) ≡ true
+fields_told_hold b t e = subst FieldsHold (told b ∙ ap (timestamp_told b) e) (fields_hold b)

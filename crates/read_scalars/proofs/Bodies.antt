@@ -16,12 +16,10 @@ use Rattle.ion.specs.Chain.{◌>>=◌, check}
 use Rattle.ion.specs.Fields.{uint, int_field, var_uints, var_int, number}
 use Rattle.ion.specs.Scalars.{int_of, float_of, decimal_of, offset_of, are_fields, fraction_of, fraction_at, timestamp_of}
 use Rattle.reading.specs.declared.Refusal.TheVariants.{NotIon}
-use Rattle.reading.specs.declared.Symbol.TheVariants as Y
-use Rattle.reading.specs.declared.Timestamp.TheVariants as T
+use Rattle.std.specs.Prelude.{Ok, Err, is_ok}
 use Rattle.reading.specs.Bodies.{decimal_from, decimal_in, fractioned, exponent_from, fraction_from, fields_from, offset_from, timestamp_in, symbol_in}
 use Rattle.reading.specs.Scalars.{bool_of, float_in, is_some}
 use Rattle.read_timestamp.proofs.Coefficients.{suc_not_zero}
-use Rattle.read_scalars.specs.Answers.{is_decimal, is_timestamp, is_symbol}
 
 pub bool_reads : (l : ℕ) → ltb l 2 ≡ is_some (bool_of l)
 bool_reads zero = refl
@@ -44,57 +42,57 @@ float_reads b =
     go false false true x y z = refl
     go false false false x y z = refl
 
-pub decimal_is_read : (b : List ℕ) → is_decimal (decimal_in b) ≡ is_some (decimal_of b)
+pub decimal_is_read : (b : List ℕ) → is_ok (decimal_in b) ≡ is_some (decimal_of b)
 unfolding decimal_in decimal_of
 decimal_is_read [] = refl
 decimal_is_read (x ∷ xs) = go (var_int (x ∷ xs))
   where
-    go : (o : Option (Signed × List ℕ)) → is_decimal (decimal_from (length (x ∷ xs)) o) ≡ is_some (o >>= λ e. some (Ion.decimal (int_field e.1) (number e.0)))
+    go : (o : Option (Signed × List ℕ)) → is_ok (decimal_from (length (x ∷ xs)) o) ≡ is_some (o >>= λ e. some (Ion.decimal (int_field e.1) (number e.0)))
     go none = refl
     go (some e) = refl
 
-pub symbol_is_read : (b : List ℕ) → is_symbol (symbol_in b) ≡ is_some (check (ltb (uint b) (2 ^ 64)) (some (Ion.symbol (uint b))))
+pub symbol_is_read : (b : List ℕ) → is_ok (symbol_in b) ≡ is_some (check (ltb (uint b) (2 ^ 64)) (some (Ion.symbol (uint b))))
 unfolding symbol_in
 symbol_is_read b = go (ltb (uint b) (2 ^ 64))
   where
-    go : (t : Bool) → is_symbol (cond t (Y.Is (uint b)) (Y.No NotIon)) ≡ is_some (check t (some (Ion.symbol (uint b))))
+    go : (t : Bool) → is_ok (cond t (Ok (uint b)) (Err NotIon)) ≡ is_some (check t (some (Ion.symbol (uint b))))
     go true = refl
     go false = refl
 
 -- ---- timestamps
 
 fraction_reads : (size : ℕ) (o : Signed) (f l : List ℕ) (g : Ion.Fraction → Scalar)
-    → is_timestamp (fraction_from size o f l) ≡ is_some (fraction_at l >>= λ x. some (g x))
+    → is_ok (fraction_from size o f l) ≡ is_some (fraction_at l >>= λ x. some (g x))
 unfolding fraction_at
 fraction_reads size o f [] g = refl
 fraction_reads size o f (b ∷ bs) g = exponent (var_int (b ∷ bs))
   where
-    digits : (n : ℕ) (x : Option Ion.Fraction) → is_timestamp (fractioned size o f n x) ≡ is_some (x >>= λ y. some (g y))
+    digits : (n : ℕ) (x : Option Ion.Fraction) → is_ok (fractioned size o f n x) ≡ is_some (x >>= λ y. some (g y))
     digits n none = refl
     digits n (some Ion.no_fraction) = refl
     digits n (some (Ion.fraction k c)) = refl
 
     exponent : (e : Option (Signed × List ℕ))
-        → is_timestamp (exponent_from size o f e) ≡ is_some ((e >>= λ y. fraction_of y.0 (int_field y.1)) >>= λ x. some (g x))
+        → is_ok (exponent_from size o f e) ≡ is_some ((e >>= λ y. fraction_of y.0 (int_field y.1)) >>= λ x. some (g x))
     exponent none = refl
     exponent (some e) = digits (length e.1) (fraction_of e.0 (int_field e.1))
 
 fields_read : (size : ℕ) (o : Signed) (fs : Option (List ℕ × List ℕ)) →
-    is_timestamp (fields_from size o fs) ≡ is_some (fs >>= λ f. check (are_fields f.0) (fraction_at f.1 >>= λ x. some (Ion.timestamp (offset_of o) f.0 x)))
+    is_ok (fields_from size o fs) ≡ is_some (fs >>= λ f. check (are_fields f.0) (fraction_at f.1 >>= λ x. some (Ion.timestamp (offset_of o) f.0 x)))
 fields_read size o none = refl
 fields_read size o (some f) = go (are_fields f.0)
   where
     go : (t : Bool)
-        → is_timestamp (cond t (fraction_from size o f.0 f.1) (T.No NotIon))
+        → is_ok (cond t (fraction_from size o f.0 f.1) (Err NotIon))
         ≡ is_some (check t (fraction_at f.1 >>= λ x. some (Ion.timestamp (offset_of o) f.0 x)))
     go true = fraction_reads size o f.0 f.1 (λ x. Ion.timestamp (offset_of o) f.0 x)
     go false = refl
 
-pub timestamp_is_read : (b : List ℕ) → is_timestamp (timestamp_in b) ≡ is_some (timestamp_of b)
+pub timestamp_is_read : (b : List ℕ) → is_ok (timestamp_in b) ≡ is_some (timestamp_of b)
 unfolding timestamp_in timestamp_of
 timestamp_is_read b = go (var_int b)
   where
-    go : (o : Option (Signed × List ℕ)) → is_timestamp (offset_from (length b) o) ≡ is_some (o >>= λ o. var_uints 6 o.1 >>= λ f.
+    go : (o : Option (Signed × List ℕ)) → is_ok (offset_from (length b) o) ≡ is_some (o >>= λ o. var_uints 6 o.1 >>= λ f.
         check (are_fields f.0) (fraction_at f.1 >>= λ x. some (Ion.timestamp (offset_of o.0) f.0 x)))
     go none = refl
     go (some o) = fields_read (length b) o.0 (var_uints 6 o.1)

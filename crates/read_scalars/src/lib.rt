@@ -3,40 +3,30 @@
 
 ghost use Rattle.std.specs.Prelude.{◌≡◌, ◌||◌, ℕ, eqb};
 ghost use Rattle.reading.specs.Scalars.{is_some, scalar_in};
-ghost use Rattle.read_scalars.specs.Answers.{is_decimal, is_timestamp, is_symbol};
 
-use reading::{Decimal, Symbol, Timestamp};
+// Type codes of scalars.
+const BOOL: u8 = 1;
 
-fn is_decimal(d: Decimal) -> bool
-    ensures { result ≡ is_decimal d }
-{
-    match d {
-        Decimal::Is {
-            negative: _,
-            exponent: _,
-            coefficient: _,
-        } => true,
-        Decimal::No(_) => false,
-    }
-}
+const POSITIVE_INT: u8 = 2;
 
-fn is_timestamp(t: Timestamp) -> bool
-    ensures { result ≡ is_timestamp t }
-{
-    let Timestamp::No(_) = t else {
-        return true;
-    };
-    false
-}
+const NEGATIVE_INT: u8 = 3;
 
-fn is_symbol(s: Symbol) -> bool
-    ensures { result ≡ is_symbol s }
-{
-    match s {
-        Symbol::Is(_) => true,
-        Symbol::No(_) => false,
-    }
-}
+const FLOAT: u8 = 4;
+
+const DECIMAL: u8 = 5;
+
+const TIMESTAMP: u8 = 6;
+
+const SYMBOL: u8 = 7;
+
+const STRING: u8 = 8;
+
+const CLOB: u8 = 9;
+
+const BLOB: u8 = 10;
+
+// Low four bits of a null.
+const NULL: u8 = 15;
 
 // "4: float": no bytes, a binary32 or a binary64.
 fn is_float_size(size: usize) -> bool
@@ -49,20 +39,20 @@ fn is_float_size(size: usize) -> bool
 pub fn reads(kind: u8, body: &[u8]) -> bool
     ensures { result ≡ is_some (scalar_in kind body.now) }
 {
-    if kind % 16 == 15 {
+    if kind % 16 == NULL {
         return kind / 16 < 14;
     }
     match kind / 16 {
-        1 => kind % 16 < 2,
-        2 => true,
-        3 => !read_bodies::is_zero(body),
-        4 => is_float_size(body.len()),
-        5 => is_decimal(read_bodies::decimal(body)),
-        6 => is_timestamp(read_timestamp::timestamp(body)),
-        7 => is_symbol(read_bodies::symbol(body)),
-        8 => text::is_utf8(body),
-        9 => true,
-        10 => true,
+        BOOL => kind % 16 < 2,
+        POSITIVE_INT => true,
+        NEGATIVE_INT => !read_bodies::is_zero(body),
+        FLOAT => is_float_size(body.len()),
+        DECIMAL => read_bodies::decimal(body).is_ok(),
+        TIMESTAMP => read_timestamp::timestamp(body).is_ok(),
+        SYMBOL => read_bodies::symbol(body).is_ok(),
+        STRING => text::is_utf8(body),
+        CLOB => true,
+        BLOB => true,
         _ => false,
     }
 }

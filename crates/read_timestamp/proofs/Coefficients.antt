@@ -3,9 +3,9 @@
 use Prim.Native.Nat.{ℕ, zero, suc, ◌+◌, ◌-◌, ◌*◌, ◌%◌, ◌^◌, ◌≤◌, ◌<◌}
 use native.Mathlib.Omega.{arith}
 use mathlib.Core.Path.{◌≡◌, refl, sym, ◌∙◌, ap}
-use mathlib.Core.Bool.{Bool, true, false, ◌&&◌, not, false≢true}
+use mathlib.Core.Bool.{Bool, true, false, cond, ◌&&◌, not, false≢true}
 use mathlib.Core.List.{List, [], ◌∷◌}
-use mathlib.Core.Option.{Option, none, some}
+use mathlib.Core.Option.{Option, none, some, some-injective}
 use lib.Dec.{ltb, leb, eqb}
 use lib.ListN.{length, get_or, take, drop, length-drop, drop_of_length-le}
 use lib.Seq.{take_all}
@@ -18,9 +18,15 @@ use Rattle.ion.specs.Scalars.{is_coefficient, fraction_of}
 use Rattle.ion.proofs.Tests.{both}
 use Rattle.reading.specs.Scalars.{is_some}
 use Rattle.reading.specs.Bodies.{is_negative, magnitude}
-use Rattle.read_bodies.proofs.VarFields.{FieldAt, behind}
+use Rattle.std.specs.Prelude as Std
+use Rattle.std.specs.Prelude.{Result, Ok, Err, Some, None}
+use Rattle.reading.specs.declared.Refusal.{Refusal}
+use Rattle.reading.specs.declared.Refusal.TheVariants.{NotIon}
+use Rattle.reading.specs.declared.Fraction.{Fraction}
+use Rattle.read_bodies.specs.declared.VarInt.{VarInt}
+use Rattle.read_bodies.specs.Places.{signed_in, var_int_at}
+use Rattle.read_bodies.proofs.VarFields.{var_int_is}
 use Rattle.read_bodies.proofs.Digits.{digits_least}
-use Rattle.read_timestamp.specs.declared.Fraction.TheVariants as Q
 use Rattle.read_timestamp.specs.Parts.{digits_in, exponent_in, fraction_in, fraction_at}
 
 -- ---- an Int by its first byte
@@ -49,6 +55,10 @@ pub zero_rest : (c : List ℕ) → 0 < length c → get_or c 0 0 % 128 ≡ 0 →
 unfolding int_field
 zero_rest [] h k = absurd (omega arith)
 zero_rest (b ∷ bs) h k = rw (k, take_all (length (b ∷ bs) - 1) bs (omega arith)) refl
+
+pub ruleset sign_of_int = (negative_none, negative_first)
+
+pub ruleset zero_of_int = (zero-none, zero_not, zero_rest)
 
 int_positive : (c : List ℕ) → is_negative (int_field c) ≡ false → int_field c ≡ signed false (uint c)
 unfolding int_field big_endian
@@ -86,82 +96,48 @@ fits-zero true (suc e) (signed false n) h = absurd (false≢true (sym (rw (suc_n
 
 -- ---- the fraction that they make
 
-digits_refused : (size n : ℕ) (o : Option Ion.Fraction) → is_some o ≡ false → Q.No ≡ digits_in size n o
-digits_refused size n none e = refl
-digits_refused size n (some x) e = absurd (false≢true (sym e))
+-- the coefficient stands behind the exponent
+abbrev pub behind_exponent : List ℕ → Result VarInt Refusal → Result (Std.Option Fraction) Refusal
+behind_exponent s (Ok e) =
+    cond (is_some (fraction_of (signed e.negative e.magnitude) (int_field (drop e.next s))))
+    (Ok (cond (e.negative && not (eqb e.magnitude 0)) (Some (record { digits = e.magnitude; coefficient = e.next })) None)) (Err NotIon)
+behind_exponent s (Err r) = Err r
 
-digits_checked : (size n k c : ℕ) (t : Bool) → is_some (check t (some (Ion.fraction k c))) ≡ true
-    → Q.Is k (size - n) ≡ digits_in size n (check t (some (Ion.fraction k c)))
-digits_checked size n k c true e = refl
-digits_checked size n k c false e = absurd (false≢true e)
+digits_checked : (size n : ℕ) (t : Bool) (x : Ion.Fraction) →
+    digits_in size n (check t (some x)) ≡ cond (is_some (check t (some x))) (digits_in size n (some x)) (Err NotIon)
+digits_checked size n true x = refl
+digits_checked size n false x = refl
 
-none_checked : (size n : ℕ) (t : Bool) → is_some (check t (some Ion.no_fraction)) ≡ true → Q.Is 0 size ≡ digits_in size n (check t (some Ion.no_fraction))
-none_checked size n true e = refl
-none_checked size n false e = absurd (false≢true e)
-
-digits-given : (size n : ℕ) (t : Bool) (m : ℕ) (z : Signed) → (t && not (eqb m 0)) ≡ true → is_some (fraction_of (signed t m) z) ≡ true →
-    Q.Is m (size - n) ≡ digits_in size n (fraction_of (signed t m) z)
+digits_by_exponent : (size n : ℕ) (t : Bool) (m : ℕ) (z : Signed) →
+    digits_in size n (fraction_of (signed t m) z)
+    ≡ cond (is_some (fraction_of (signed t m) z)) (Ok (cond (t && not (eqb m 0)) (Some (record { digits = m; coefficient = size - n })) None)) (Err NotIon)
 unfolding fraction_of
-digits-given size n false m z h e = absurd (false≢true h)
-digits-given size n true zero z h e = absurd (false≢true h)
-digits-given size n true (suc m) (signed false c) h e = digits_checked size n (suc m) c (is_coefficient c && ltb c (10 ^ suc m)) e
-digits-given size n true (suc m) (signed true c) h e = digits_checked size n (suc m) 0 (eqb c 0) e
+digits_by_exponent size n false m (signed s c) = digits_checked size n (eqb c 0) Ion.no_fraction
+digits_by_exponent size n true zero (signed s c) = digits_checked size n (eqb c 0) Ion.no_fraction
+digits_by_exponent size n true (suc m) (signed false c) =
+    rw (suc_not_zero m) (digits_checked size n (is_coefficient c && ltb c (10 ^ suc m)) (Ion.fraction (suc m) c))
+digits_by_exponent size n true (suc m) (signed true c) = rw (suc_not_zero m) (digits_checked size n (eqb c 0) (Ion.fraction (suc m) 0))
 
-digits-none : (size n : ℕ) (t : Bool) (m : ℕ) (z : Signed) → (t && not (eqb m 0)) ≡ false → is_some (fraction_of (signed t m) z) ≡ true →
-    Q.Is 0 size ≡ digits_in size n (fraction_of (signed t m) z)
-unfolding fraction_of
-digits-none size n false m (signed s c) h e = none_checked size n (eqb c 0) e
-digits-none size n true zero (signed s c) h e = none_checked size n (eqb c 0) e
-digits-none size n true (suc m) z h e = absurd (false≢true (sym (rw (suc_not_zero m) at h)))
+front : (size : ℕ) (l : List ℕ) → 0 < length l → fraction_in size l ≡ exponent_in size (var_int l)
+front size [] h = absurd (omega arith)
+front size (b ∷ bs) h = refl
 
--- ---- at a place of the body
+pub fraction_none : (s : List ℕ) (at : ℕ) → length s ≤ at → fraction_at s at ≡ Ok None
+unfolding fraction_at
+fraction_none s at h = rw (drop_of_length-le s {i = at} h) refl
 
-module _ (s : List ℕ) (at : ℕ) where
-  pub fraction_none : length s ≤ at → Q.Is 0 (length s) ≡ fraction_at s at
-  unfolding fraction_at
-  fraction_none h = rw (drop_of_length-le s {i = at} h) refl
+pub fraction_some : (s : List ℕ) (at : ℕ) → at < length s → fraction_at s at ≡ behind_exponent s (var_int_at s at)
+unfolding fraction_at var_int_at
+fraction_some s at inside = front (length s) (drop at s) (rw (length-drop at s) (omega arith)) ∙ go (var_int (drop at s)) refl
+  where
+    go : (x : Option (Signed × List ℕ)) → var_int (drop at s) ≡ x → exponent_in (length s) x ≡ behind_exponent s (signed_in (length s) x)
+    go none q = refl
+    go (some (signed t m, rest)) q =
+        let e : VarInt = record { negative = t; magnitude = m; next = length s - length rest } in
+        let w = var_int_is s at e (ap (signed_in (length s)) q) in
+        let p : (signed t m, rest) ≡ (signed t m, drop e.next s) = some-injective (signed t m, rest) (signed t m, drop e.next s) (sym q ∙ w.is) in
+        digits_by_exponent (length s) (length rest) t m (int_field rest)
+        ∙ ap (λ (y : Signed × List ℕ). cond (is_some (fraction_of (signed t m) (int_field y.1)))
+        (Ok (cond (t && not (eqb m 0)) (Some (record { digits = m; coefficient = e.next })) None)) (Err NotIon)) p
 
-  front : (l : List ℕ) → 0 < length l → fraction_in (length s) l ≡ exponent_in (length s) (var_int l)
-  front [] h = absurd (omega arith)
-  front (b ∷ bs) h = refl
-
-  module _ (inside : at < length s) where
-    exponent_first : fraction_at s at ≡ exponent_in (length s) (var_int (drop at s))
-    unfolding fraction_at
-    exponent_first = front (drop at s) (rw (length-drop at s) (omega arith))
-
-    pub fraction_no : var_int (drop at s) ≡ none → Q.No ≡ fraction_at s at
-    fraction_no e = sym (exponent_first ∙ ap (exponent_in (length s)) e)
-
-    module _ (t : Bool) (m next : ℕ) (x : FieldAt s at (var_int (drop at s)) (signed t m) next) (r : Bool)
-        (fits : r ≡ is_some (fraction_of (signed t m) (int_field (take (length s - next) (drop next s))))) where
-      fraction-is : fraction_at s at ≡ digits_in (length s) (length (drop next s)) (fraction_of (signed t m) (int_field (drop next s)))
-      fraction-is = exponent_first ∙ ap (exponent_in (length s)) x.is
-
-      fits_whole : r ≡ is_some (fraction_of (signed t m) (int_field (drop next s)))
-      fits_whole =
-          fits
-          ∙ ap (λ (l : List ℕ). is_some (fraction_of (signed t m) (int_field l)))
-          (take_all (length s - next) (drop next s) (rw (length-drop next s) (omega arith)))
-
-      place : length s - length (drop next s) ≡ next
-      place = behind s next x.within
-
-      pub fraction_refused : not r ≡ true → Q.No ≡ fraction_at s at
-      fraction_refused e =
-          digits_refused (length s) (length (drop next s)) (fraction_of (signed t m) (int_field (drop next s))) (sym fits_whole ∙ not-true r e) ∙ sym fraction-is
-
-      module _ (good : not r ≡ false) where
-        held : is_some (fraction_of (signed t m) (int_field (drop next s))) ≡ true
-        held = sym fits_whole ∙ yes r good
-          where
-            yes : (a : Bool) → not a ≡ false → a ≡ true
-            yes true e = refl
-            yes false e = absurd (false≢true (sym e))
-
-        pub fraction-digits : (t && not (eqb m 0)) ≡ true → Q.Is m next ≡ fraction_at s at
-        fraction-digits h =
-            ap (λ (p : ℕ). Q.Is m p) (sym place) ∙ digits-given (length s) (length (drop next s)) t m (int_field (drop next s)) h held ∙ sym fraction-is
-
-        pub fraction_zero : (t && not (eqb m 0)) ≡ false → Q.Is 0 (length s) ≡ fraction_at s at
-        fraction_zero h = digits-none (length s) (length (drop next s)) t m (int_field (drop next s)) h held ∙ sym fraction-is
+pub ruleset fraction_parts = (fraction_none, fraction_some)

@@ -3,18 +3,21 @@
 use Prim.Native.Nat.{ℕ, zero, suc, ◌+◌, ◌-◌, ◌≤◌, ◌<◌}
 use native.Mathlib.Omega.{arith}
 use mathlib.Core.Path.{◌≡◌, refl, sym, ◌∙◌, ap, subst}
-use mathlib.Core.Bool.{false, ◌&&◌}
 use mathlib.Core.List.{List, [], ◌∷◌, ◌++◌, append_assoc, append-nil}
 use mathlib.Core.Option.{Option, none, some, none-ne-some, some-injective}
-use lib.Dec.{ltb}
-use lib.ListN.{length, get_or, set, take, drop, replicate, length-append, length-drop, drop_of_length-le}
+use lib.ListN.{length, get_or, set, drop, replicate, length-append, length-drop, drop_of_length-le}
 use lib.Seq.{set_at, drop-drop}
-use borrow.Author.Tests.{lt-ltb, ltb-false}
 use Rattle.ion.specs.Chain.{◌>>=◌}
 use Rattle.ion.specs.Fields.{var_uint, var_uints}
 use Rattle.read_bodies.specs.Places.{number_in, var_uint_at}
-use Rattle.read_bodies.proofs.VarFields.{FieldAt, behind, var_uint_is}
-use Rattle.read_timestamp.specs.declared.Fields.TheVariants as F
+use Rattle.read_bodies.proofs.VarFields.{behind, FieldAt, var_uint_is, var_uint_no}
+use Rattle.std.specs.Prelude.{Ok, Err}
+use Rattle.reading.specs.declared.Fields.{Fields}
+use Rattle.reading.specs.declared.Refusal.{Refusal}
+use Rattle.reading.specs.declared.Refusal.TheVariants.{NotIon}
+use Rattle.reading.specs.Bodies.{six_fields}
+use Rattle.reading.specs.Told.{fields_told}
+use Rattle.read_timestamp.specs.declared.FieldsTo.{FieldsTo}
 use Rattle.read_timestamp.specs.Parts.{fields_in, fields_at}
 
 -- ---- one field of them
@@ -72,13 +75,13 @@ module _ (s : List ℕ) (at : ℕ) (f : List ℕ) (count i : ℕ) (w : Gathered 
   bytes_left h = rw (length-drop i s) (omega arith)
 
   module _ (few : count < 6) (inside : i < length s) where
-    pub gathered_more : (v next : ℕ) → FieldAt s i (var_uint (drop i s)) v next → Gathered s at (set f count v) (count + 1) next
-    gathered_more v next x = go w.left w.sum w.stored w.rest
+    pub gathered_more : (v next : ℕ) → var_uint_at s i ≡ Ok (record { value = v; next = next }) → Gathered s at (set f count v) (count + 1) next
+    gathered_more v next e = go (var_uint_is s i (record { value = v; next = next }) e) w.left w.sum w.stored w.rest
       where
-        go : (n : ℕ) → count + n ≡ 6 → f ≡ w.fields ++ replicate n 0 → var_uints 6 (drop at s) ≡ continued w.fields (var_uints n (drop i s)) →
+        go : FieldAt s i (var_uint (drop i s)) v next → (n : ℕ) → count + n ≡ 6 → f ≡ w.fields ++ replicate n 0 → var_uints 6 (drop at s) ≡ continued w.fields (var_uints n (drop i s)) →
             Gathered s at (set f count v) (count + 1) next
-        go zero e p q = absurd (omega arith)
-        go (suc n) e p q =
+        go x zero e p q = absurd (omega arith)
+        go x (suc n) e p q =
             record {
               fields = w.fields ++ (v ∷ []);
               left = n;
@@ -93,34 +96,43 @@ module _ (s : List ℕ) (at : ℕ) (f : List ℕ) (count i : ℕ) (w : Gathered 
                   ∙ continued_cons w.fields v (var_uints n (drop next s));
             }
 
-    pub gathered_no : var_uint (drop i s) ≡ none → F.No ≡ fields_at s at
+    pub gathered_no : (r : Refusal) → var_uint_at s i ≡ Err r → Err r ≡ fields_at s at
     unfolding fields_at
-    gathered_no x = go w.left w.sum w.rest
+    gathered_no r e = let x = var_uint_no s i r e in rw x.0 (go x.1 w.left w.sum w.rest)
       where
-        go : (n : ℕ) → count + n ≡ 6 → var_uints 6 (drop at s) ≡ continued w.fields (var_uints n (drop i s))
-            → F.No ≡ fields_in (length s) (var_uints 6 (drop at s))
-        go zero e q = absurd (omega arith)
-        go (suc n) e q = rw (q, no_field n (drop i s) (bytes_left inside) x) refl
+        go : var_uint (drop i s) ≡ none → (n : ℕ) → count + n ≡ 6 → var_uints 6 (drop at s) ≡ continued w.fields (var_uints n (drop i s))
+            → Err NotIon ≡ fields_in (length s) (var_uints 6 (drop at s))
+        go x zero e q = absurd (omega arith)
+        go x (suc n) e q = rw (q, no_field n (drop i s) (bytes_left inside) x) refl
 
-  module _ (ended : (ltb count 6 && ltb i (length s)) ≡ false) where
+  module _ (ended : count < 6 → length s ≤ i) where
     gathered_rest : var_uints 6 (drop at s) ≡ some (w.fields, drop i s)
     unfolding var_uints
     gathered_rest = go w.left w.sum w.rest
       where
-        out : count < 6 → length s ≤ i
-        out h = ltb-false i (length s) (rw (lt-ltb count 6 h) at ended)
-
         go : (n : ℕ) → count + n ≡ 6 → var_uints 6 (drop at s) ≡ continued w.fields (var_uints n (drop i s))
             → var_uints 6 (drop at s) ≡ some (w.fields, drop i s)
         go zero e q = q ∙ ap (λ (l : List ℕ). some (l, drop i s)) (append-nil w.fields)
         go (suc n) e q =
-            let d : drop i s ≡ [] = drop_of_length-le s {i = i} (out (omega arith)) in
+            let d : drop i s ≡ [] = drop_of_length-le s {i = i} (ended (omega arith)) in
             rw (d) (rw (d, append-nil w.fields) at q)
 
     get_d_gathered : (k : ℕ) → get_or f k 0 ≡ get_or w.fields k 0
     get_d_gathered k = ap (λ (l : List ℕ). get_or l k 0) w.stored ∙ get_d_before-zeros w.fields w.left k
 
-    pub gathered_all : F.Are count (get_or f 0 0) (get_or f 1 0) (get_or f 2 0) (get_or f 3 0) (get_or f 4 0) (get_or f 5 0) i ≡ fields_at s at
+    abbrev six : Fields
+    six =
+        record {
+          count = count;
+          year = get_or f 0 0;
+          month = get_or f 1 0;
+          day = get_or f 2 0;
+          hour = get_or f 3 0;
+          minute = get_or f 4 0;
+          second = get_or f 5 0;
+        }
+
+    pub gathered_all : Ok (record { fields = six; next = i }) ≡ fields_at s at
     unfolding fields_at
     gathered_all =
         rw (
@@ -155,7 +167,7 @@ later l r t a b =
 one_behind : (l : List ℕ) (v : ℕ × List ℕ) → var_uint l ≡ some v → Suffix l v.1
 unfolding var_uint_at
 one_behind l v e =
-    let x = var_uint_is l 0 v.0 (length l - length v.1) (ap (number_in (length l)) e) in
+    let x = var_uint_is l 0 (record { value = v.0; next = length l - length v.1 }) (ap (number_in (length l)) e) in
     let q : v ≡ (v.0, drop (length l - length v.1) l) = some-injective v (v.0, drop (length l - length v.1) l) (sym e ∙ x.is) in
     record { count = length l - length v.1; most = omega arith; is = ap (λ (y : ℕ × List ℕ). y.1) q }
 
@@ -189,8 +201,7 @@ fields-taken (suc n) (b ∷ bs) x e = go (var_uint (b ∷ bs)) refl e (λ l y q.
     go (some v) q e k = more v (one_behind (b ∷ bs) v q) (var_uints n v.1) (k v.1) e
 
 -- a list of at most six, by its places
-six_places : (fs : List ℕ) → length fs ≤ 6 →
-    take (length fs) (get_or fs 0 0 ∷ get_or fs 1 0 ∷ get_or fs 2 0 ∷ get_or fs 3 0 ∷ get_or fs 4 0 ∷ get_or fs 5 0 ∷ []) ≡ fs
+six_places : (fs : List ℕ) → length fs ≤ 6 → fields_told (six_fields fs) ≡ fs
 six_places [] k = refl
 six_places (y ∷ []) k = refl
 six_places (y ∷ m ∷ []) k = refl
@@ -200,42 +211,28 @@ six_places (y ∷ m ∷ d ∷ h ∷ i ∷ []) k = refl
 six_places (y ∷ m ∷ d ∷ h ∷ i ∷ s ∷ []) k = refl
 six_places (y ∷ m ∷ d ∷ h ∷ i ∷ s ∷ x ∷ r) k = absurd (omega arith)
 
-pub record FieldsAre (s : List ℕ) (at count y m d h i sec next : ℕ) : Type 0 where
-  pub fields : List ℕ
-  pub is : var_uints 6 (drop at s) ≡ some (fields, drop next s)
-  pub within : next ≤ length s
-  pub most : count ≤ 6
-  pub listed : take count (y ∷ m ∷ d ∷ h ∷ i ∷ sec ∷ []) ≡ fields
-  pub places : F.Are count y m d h i sec next
-      ≡ F.Are (length fields) (get_or fields 0 0) (get_or fields 1 0) (get_or fields 2 0) (get_or fields 3 0) (get_or fields 4 0) (get_or fields 5 0) next
+-- fields that read at a place are six at most, and what is left begins at a place
+pub record FieldsAre (s : List ℕ) (x : List ℕ × List ℕ) : Type 0 where
+  pub few : length x.0 ≤ 6
+  pub told : fields_told (six_fields x.0) ≡ x.0
+  pub rest : x.1 ≡ drop (length s - length x.1) s
 
-pub fields_are : (s : List ℕ) (at count y m d h i sec next : ℕ) → at ≤ length s → fields_at s at ≡ F.Are count y m d h i sec next
-    → FieldsAre s at count y m d h i sec next
+pub fields_are : (s : List ℕ) (at : ℕ) (x : List ℕ × List ℕ) → at ≤ length s → var_uints 6 (drop at s) ≡ some x → FieldsAre s x
+fields_are s at x inside e =
+    let t = fields-taken 6 (drop at s) x e in
+    let u = t.behind in
+    let r : x.1 ≡ drop (at + u.count) s = u.is ∙ drop-drop u.count at s in
+    let p : length s - length x.1 ≡ at + u.count =
+    ap (λ (l : List ℕ). length s - length l) r ∙ behind s (at + u.count) (omega (arith, u.most, length-drop at s)) in
+    record { few = t.few; told = six_places x.0 t.few; rest = r ∙ ap (λ (j : ℕ). drop j s) (sym p) }
+
+pub fields_few : (s : List ℕ) (at : ℕ) (x : FieldsTo) → fields_at s at ≡ Ok x → x.fields.count ≤ 6
 unfolding fields_at
-fields_are s at count y m d h i sec next inside e = go (var_uints 6 (drop at s)) refl e
+fields_few s at x e = go (var_uints 6 (drop at s)) refl e
   where
-    go : (o : Option (List ℕ × List ℕ)) → var_uints 6 (drop at s) ≡ o → fields_in (length s) o ≡ F.Are count y m d h i sec next
-        → FieldsAre s at count y m d h i sec next
-    go none q e = let z : ◌≡◌ {A = ℕ} 0 1 = cc in absurd (omega arith)
-    go (some x) q e =
-        let t = fields-taken 6 (drop at s) x q in
-        let u = t.behind in
-        let n : length (drop at s) ≡ length s - at = length-drop at s in
-        let r : x.1 ≡ drop (at + u.count) s = u.is ∙ drop-drop u.count at s in
-        let p : length s - length x.1 ≡ at + u.count = ap (λ (l : List ℕ). length s - length l) r ∙ behind s (at + u.count) (omega (arith, u.most, n)) in
-        let k : length s - length x.1 ≡ next = cc in
-        let c : length x.0 ≡ count = cc in
-        let y≡ : get_or x.0 0 0 ≡ y = cc in
-        let m≡ : get_or x.0 1 0 ≡ m = cc in
-        let d≡ : get_or x.0 2 0 ≡ d = cc in
-        let h≡ : get_or x.0 3 0 ≡ h = cc in
-        let i≡ : get_or x.0 4 0 ≡ i = cc in
-        let s≡ : get_or x.0 5 0 ≡ sec = cc in
-        record {
-          fields = x.0;
-          is = q ∙ ap (λ (l : List ℕ). some (x.0, l)) (r ∙ ap (λ (j : ℕ). drop j s) (sym p ∙ k));
-          within = omega (arith, k);
-          most = omega (arith, c, t.few);
-          listed = rw (← c, ← y≡, ← m≡, ← d≡, ← h≡, ← i≡, ← s≡) (six_places x.0 t.few);
-          places = rw (c, y≡, m≡, d≡, h≡, i≡, s≡) refl;
-        }
+    go : (o : Option (List ℕ × List ℕ)) → var_uints 6 (drop at s) ≡ o → fields_in (length s) o ≡ Ok x → x.fields.count ≤ 6
+    go none q e = absurd (cc)
+    go (some y) q e =
+        let w : ◌≡◌ {A = FieldsTo} (record { fields = six_fields y.0; next = length s - length y.1 }) x = cc in
+        let k : length y.0 ≡ x.fields.count = ap (λ (z : FieldsTo). z.fields.count) w in
+        omega (arith, (fields-taken 6 (drop at s) y q).few)

@@ -10,8 +10,8 @@ use lib.Seq.{length-take-le, take-take}
 use borrow.Author.Tests.{le-leb, leb-true}
 use Rattle.ion.proofs.Tests.{by_cases}
 use Rattle.reading.specs.declared.Item.{Item}
-use Rattle.reading.specs.declared.Item.TheVariants as I
-use Rattle.reading.specs.Items.{raised, item_at}
+use Rattle.std.specs.Prelude.{Ok, Err, Some, None}
+use Rattle.reading.specs.Items.{raised, Found, item_at}
 use Rattle.reading.specs.Walk.{Walk, step_walk, walk_from, walk_in}
 use Rattle.read_items.proofs.Bounds.{item_bounds}
 use Rattle.reader.specs.Values.{next_in}
@@ -22,15 +22,14 @@ abbrev Go : Type 0
 Go = List ℕ → ℕ → ℕ → ℕ → ℕ → Walk
 
 -- two ways to go on that agree where an item goes on make the same step
-step_same : (go on : Go) (s : List ℕ) (parent least depth at : ℕ) (i : Item)
-    → ((name from to b start stop : ℕ) → i ≡ I.Is name from to b start stop
-    → (go (take stop s) b 0 (depth + 1) start ≡ on (take stop s) b 0 (depth + 1) start)
-    × (go s parent (raised least b name) depth stop ≡ on s parent (raised least b name) depth stop))
-    → step_walk go s parent least depth at i ≡ step_walk on s parent least depth at i
-step_same go on s parent least depth at I.End h = refl
-step_same go on s parent least depth at (I.No r) h = refl
-step_same go on s parent least depth at (I.Is name from to b start stop) h =
-    let e = h name from to b start stop refl in rw (e.0, e.1) refl
+step_same : (go on : Go) (s : List ℕ) (parent least depth at : ℕ) (x : Found)
+    → ((i : Item) → x ≡ Ok (Some i)
+    → (go (take i.stop s) i.kind 0 (depth + 1) i.start ≡ on (take i.stop s) i.kind 0 (depth + 1) i.start)
+    × (go s parent (raised least i.kind i.name) depth i.stop ≡ on s parent (raised least i.kind i.name) depth i.stop))
+    → step_walk go s parent least depth at x ≡ step_walk on s parent least depth at x
+step_same go on s parent least depth at (Ok None) h = refl
+step_same go on s parent least depth at (Err r) h = refl
+step_same go on s parent least depth at (Ok (Some i)) h = let e = h i refl in rw (e.0, e.1) refl
 
 walk_fuel : (f g : ℕ) (s : List ℕ) (parent least depth at : ℕ) → length s - at < f → length s - at < g
     → walk_from f s parent least depth at ≡ walk_from g s parent least depth at
@@ -39,13 +38,14 @@ walk_fuel zero g s parent least depth at h k = absurd (omega arith)
 walk_fuel (suc f) zero s parent least depth at h k = absurd (omega arith)
 walk_fuel (suc f) (suc g) s parent least depth at h k =
     step_same (λ t p l d i. walk_from f t p l d i) (λ t p l d i. walk_from g t p l d i) s parent least depth at (item_at s parent least depth at)
-    (λ name from to b start stop e.
-    let p = item_bounds s parent least depth at name from to b start stop e in
-    let q = length-take-le stop s p.held.within in (
-      walk_fuel f g (take stop s) b 0 (depth + 1) start (omega (arith, q, p.held.after, p.held.before, p.held.body, p.held.within))
-          (omega (arith, q, p.held.after, p.held.body, p.held.within)),
-      walk_fuel f g s parent (raised least b name) depth stop (omega (arith, p.held.after, p.held.body, p.held.within))
-          (omega (arith, p.held.after, p.held.body, p.held.within)),
+    (λ i e.
+    let p = item_bounds s parent least depth at i e in
+    let q = length-take-le i.stop s p.held.within in (
+      walk_fuel f g (take i.stop s) i.kind 0 (depth + 1) i.start (omega (arith, q, p.held.after, p.held.behind, p.held.before, p.held.body, p.held.within))
+          (omega (arith, q, p.held.after, p.held.behind, p.held.before, p.held.body, p.held.within)),
+      walk_fuel f g s parent (raised least i.kind i.name) depth i.stop
+          (omega (arith, p.held.after, p.held.behind, p.held.before, p.held.body, p.held.within))
+          (omega (arith, p.held.after, p.held.behind, p.held.before, p.held.body, p.held.within)),
     ))
 
 pub walk_by_items : WalkByItems
@@ -58,16 +58,16 @@ walk_by_items s end parent least depth at =
     rw p
     (step_same (λ t q l d i. walk_from (length s) t q l d i) (λ t q l d i. walk_in s (length t) q l d i) (take end s) parent least depth at
     (item_at (take end s) parent least depth at)
-    (λ name from to b start stop e.
-    let k = (item_bounds (take end s) parent least depth at name from to b start stop e).held in
-    let m : stop ≤ end = omega (arith, n, k.within) in
-    let z : length (take stop (take end s)) ≡ stop = length-take-le stop (take end s) k.within in
-    let y : length (take stop s) ≡ stop = length-take-le stop s (omega (arith, m, w)) in (
-      rw (z, le-leb stop (length s) (omega (arith, m, w)), take-take stop end s m)
-          (walk_fuel (length s) (suc (length s)) (take stop s) b 0 (depth + 1) start (omega (arith, y, k.after, k.sids, k.before, m, w))
+    (λ i e.
+    let k = (item_bounds (take end s) parent least depth at i e).held in
+    let m : i.stop ≤ end = omega (arith, n, k.within) in
+    let z : length (take i.stop (take end s)) ≡ i.stop = length-take-le i.stop (take end s) k.within in
+    let y : length (take i.stop s) ≡ i.stop = length-take-le i.stop s (omega (arith, m, w)) in (
+      rw (z, le-leb i.stop (length s) (omega (arith, m, w)), take-take i.stop end s m)
+          (walk_fuel (length s) (suc (length s)) (take i.stop s) i.kind 0 (depth + 1) i.start (omega (arith, y, k.after, k.behind, k.before, m, w))
           (omega (arith, y, m, w))),
       rw (n, p)
-          (walk_fuel (length s) (suc (length s)) (take end s) parent (raised least b name) depth stop
-          (omega (arith, n, w, k.after, k.sids, k.before, k.body)) (omega (arith, n, w))),
+          (walk_fuel (length s) (suc (length s)) (take end s) parent (raised least i.kind i.name) depth i.stop
+          (omega (arith, n, w, k.after, k.behind, k.before, k.body)) (omega (arith, n, w))),
     ))))
     (λ p. rw p refl)

@@ -2,23 +2,29 @@
 -- Assumes nothing.
 use Prim.Native.Nat.{ℕ, zero, suc, ◌+◌, ◌-◌, ◌*◌, ◌%◌, ◌^◌}
 use native.Mathlib.Omega.{arith}
-use mathlib.Core.Path.{◌≡◌, refl, sym, ◌∙◌, ap, ap₂}
+use mathlib.Core.Path.{◌≡◌, refl, sym, ◌∙◌, ap}
 use mathlib.Core.Bool.{Bool, true, false, false≢true, ◌&&◌}
 use mathlib.Core.List.{List, [], ◌∷◌, ◌++◌, append_assoc}
 use mathlib.Core.Option.{Option, none, some}
 use lib.Dec.{ltb, eqb}
-use lib.ListN.{length, take, drop, get_or, length-append}
+use lib.ListN.{length, drop, length-append}
 use lib.Seq.{drop_at}
 use borrow.Author.Tests.{eqb-true}
+use Rattle.std.specs.Prelude as Std
+use Rattle.std.specs.Prelude.{Result, Ok, Err, Some, None}
 use Rattle.ion.specs.Value.{Signed, signed, Fraction, no_fraction, fraction, decimal, timestamp}
 use Rattle.ion.specs.Chain.{◌>>=◌, check}
 use Rattle.ion.specs.Fields.{uint, int_field, groups, in_u64, var_uint, var_uints, is_i64, give_sign, var_int, number}
 use Rattle.ion.specs.Fields.{is_negative as sign_at}
 use Rattle.ion.specs.Scalars.{offset_of, are_fields, is_coefficient, fraction_of, fraction_at, decimal_of, timestamp_of, scalar_of}
 use Rattle.ion.proofs.Tests.{by_cases}
-use Rattle.reading.specs.Told.{decimal_told, fraction_in, timestamp_told, KnownTold, DecimalWhole, TimestampWhole, MarkWhole, SymbolWhole}
-use Rattle.reading.specs.Bodies.{magnitude, decimal_from, decimal_in, stamped, fractioned, exponent_from, fraction_from, fields_from, offset_from}
-use Rattle.reading.specs.Bodies.{timestamp_in, mark_in, shown_in, symbol_in}
+use Rattle.reading.specs.declared.Refusal.{Refusal}
+use Rattle.reading.specs.declared.Fraction as Answer
+use Rattle.reading.specs.declared.Timestamp.{Timestamp}
+use Rattle.reading.specs.Told.{decimal_told, offset_told, fields_told, fraction_told, timestamp_told, KnownTold, timestamp_shown, mark_shown}
+use Rattle.reading.specs.Told.{DecimalWhole, TimestampWhole, MarkWhole, SymbolWhole}
+use Rattle.reading.specs.Bodies.{magnitude, decimal_from, decimal_in, known_offset, six_fields, stamped, fractioned, exponent_from, fraction_from, fields_from}
+use Rattle.reading.specs.Bodies.{offset_from, timestamp_in, mark_in, shown_with, shown_in, symbol_in}
 
 -- ---- the bytes behind a field end the body
 
@@ -108,59 +114,61 @@ symbol_whole b = by_cases (ltb (uint b) (2 ^ 64)) (λ p. rw p) (λ p. rw p)
 -- ---- timestamps
 
 -- the fields that a calendar time can have are six at most
-fields_told : (f : List ℕ) → are_fields f ≡ true
-    → take (length f) (get_or f 0 0 ∷ get_or f 1 0 ∷ get_or f 2 0 ∷ get_or f 3 0 ∷ get_or f 4 0 ∷ get_or f 5 0 ∷ []) ≡ f
+fields_same : (f : List ℕ) → are_fields f ≡ true → fields_told (six_fields f) ≡ f
 unfolding are_fields
-fields_told [] e = refl
-fields_told (y ∷ []) e = refl
-fields_told (y ∷ m ∷ []) e = refl
-fields_told (y ∷ m ∷ d ∷ []) e = refl
-fields_told (y ∷ m ∷ d ∷ h ∷ []) e = refl
-fields_told (y ∷ m ∷ d ∷ h ∷ i ∷ []) e = refl
-fields_told (y ∷ m ∷ d ∷ h ∷ i ∷ s ∷ []) e = refl
-fields_told (y ∷ m ∷ d ∷ h ∷ i ∷ s ∷ x ∷ r) e = absurd (false≢true e)
+fields_same [] e = refl
+fields_same (y ∷ []) e = refl
+fields_same (y ∷ m ∷ []) e = refl
+fields_same (y ∷ m ∷ d ∷ []) e = refl
+fields_same (y ∷ m ∷ d ∷ h ∷ []) e = refl
+fields_same (y ∷ m ∷ d ∷ h ∷ i ∷ []) e = refl
+fields_same (y ∷ m ∷ d ∷ h ∷ i ∷ s ∷ []) e = refl
+fields_same (y ∷ m ∷ d ∷ h ∷ i ∷ s ∷ x ∷ r) e = absurd (false≢true e)
 
--- the digits of a fraction are as many as its exponent says, and the number that they make is the coefficient's magnitude
+-- the number that a fraction's digits make is the coefficient's magnitude
 abbrev Fractions : Signed → Option Fraction → Type 0
 Fractions c none = Unit {0}
 Fractions c (some no_fraction) = Unit {0}
-Fractions c (some (fraction k n)) = (j : ℕ) × (k ≡ suc j) × (n ≡ magnitude c)
+Fractions c (some (fraction k n)) = n ≡ magnitude c
 
 fractions-check : (c : Signed) (t : Bool) (x : Fraction) → (t ≡ true → Fractions c (some x)) → Fractions c (check t (some x))
 fractions-check c true x h = h refl
 fractions-check c false x h = tt
 
-fraction_told : (e c : Signed) → Fractions c (fraction_of e c)
+fraction_same : (e c : Signed) → Fractions c (fraction_of e c)
 unfolding fraction_of
-fraction_told (signed false e) (signed s c) = fractions-check (signed s c) (eqb c 0) no_fraction (λ p. tt)
-fraction_told (signed true zero) (signed s c) = fractions-check (signed s c) (eqb c 0) no_fraction (λ p. tt)
-fraction_told (signed true (suc e)) (signed false c) =
-    fractions-check (signed false c) (is_coefficient c && ltb c (10 ^ suc e)) (fraction (suc e) c) (λ p. (e, refl, refl))
-fraction_told (signed true (suc e)) (signed true c) = fractions-check (signed true c) (eqb c 0) (fraction (suc e) 0) (λ p. (e, refl, sym (eqb-true c 0 p)))
+fraction_same (signed false e) (signed s c) = fractions-check (signed s c) (eqb c 0) no_fraction (λ p. tt)
+fraction_same (signed true zero) (signed s c) = fractions-check (signed s c) (eqb c 0) no_fraction (λ p. tt)
+fraction_same (signed true (suc e)) (signed false c) =
+    fractions-check (signed false c) (is_coefficient c && ltb c (10 ^ suc e)) (fraction (suc e) c) (λ p. refl)
+fraction_same (signed true (suc e)) (signed true c) = fractions-check (signed true c) (eqb c 0) (fraction (suc e) 0) (λ p. sym (eqb-true c 0 p))
+
+offset_same : (o : Signed) → offset_of o ≡ offset_told (known_offset o)
+offset_same (signed false n) = refl
+offset_same (signed true zero) = refl
+offset_same (signed true (suc n)) = refl
 
 module _ (b : List ℕ) (o : Signed) (f : List ℕ) (is : are_fields f ≡ true) where
-  -- with these digits, whose coefficient stands at a place
-  stamped-told : (k c : ℕ) (x : Fraction) → x ≡ fraction_in k (drop c b) → some (timestamp (offset_of o) f x) ≡ timestamp_told b (stamped o f k c)
-  stamped-told k c x e = on o
-    where
-      on : (o : Signed) → some (timestamp (offset_of o) f x) ≡ timestamp_told b (stamped o f k c)
-      on (signed s n) = ap₂ (λ (l : List ℕ) (y : Fraction). some (timestamp (offset_of (signed s n)) l y)) (sym (fields_told f is)) e
+  stamped-told : (x : Fraction) (y : Std.Option Answer.Fraction) → x ≡ fraction_told b y
+      → some (timestamp (offset_of o) f x) ≡ timestamp_told b (stamped o f y)
+  stamped-told x y e = cc (offset_same o, fields_same f is, e)
 
   fractioned-told : (r : List ℕ) (x : Option Fraction) → drop (length b - length r) b ≡ r → Fractions (int_field r) x
       → (x >>= λ y. some (timestamp (offset_of o) f y)) ≡ timestamp_told b (fractioned (length b) o f (length r) x)
   fractioned-told r none d h = refl
-  fractioned-told r (some no_fraction) d h = stamped-told 0 (length b) no_fraction refl
-  fractioned-told r (some (fraction k n)) d h = stamped-told k (length b - length r) (fraction k n) (rw (d, h.1, h.2))
+  fractioned-told r (some no_fraction) d h = stamped-told no_fraction None refl
+  fractioned-told r (some (fraction k n)) d h =
+      stamped-told (fraction k n) (Some (record { digits = k; coefficient = length b - length r })) (rw (d, h) refl)
 
   exponent_told : (x : Option (Signed × List ℕ)) → Ends b x
       → ((x >>= λ e. fraction_of e.0 (int_field e.1)) >>= λ y. some (timestamp (offset_of o) f y)) ≡ timestamp_told b (exponent_from (length b) o f x)
   exponent_told none h = refl
   exponent_told (some e) h =
-      fractioned-told e.1 (fraction_of e.0 (int_field e.1)) (ends_at b h.0 e.1 h.1) (fraction_told e.0 (int_field e.1))
+      fractioned-told e.1 (fraction_of e.0 (int_field e.1)) (ends_at b h.0 e.1 h.1) (fraction_same e.0 (int_field e.1))
 
   fraction_whole : (l r : List ℕ) → b ≡ l ++ r → (fraction_at r >>= λ y. some (timestamp (offset_of o) f y)) ≡ timestamp_told b (fraction_from (length b) o f r)
   unfolding fraction_at
-  fraction_whole l [] e = stamped-told 0 (length b) no_fraction refl
+  fraction_whole l [] e = stamped-told no_fraction None refl
   fraction_whole l (c ∷ cs) e = exponent_told (var_int (c ∷ cs)) (ends_behind b l (c ∷ cs) (var_int (c ∷ cs)) e (var_int_ends (c ∷ cs)))
 
 fields-whole : (b : List ℕ) (o : Signed) (x : Option (List ℕ × List ℕ)) → Ends b x
@@ -180,13 +188,18 @@ timestamp_whole b = on (var_int b) (var_int_ends b)
 
 pub mark_whole : MarkWhole
 unfolding shown_in scalar_of
-mark_whole b = ap mark_in (timestamp_whole b)
+mark_whole b = by_answer (timestamp_in b) (timestamp_whole b)
+  where
+    by_answer : (t : Result Timestamp Refusal) → timestamp_of b ≡ timestamp_told b t
+        → mark_shown (shown_with (mark_in (timestamp_of b)) t) ≡ mark_in (timestamp_told b (timestamp_shown (shown_with (mark_in (timestamp_of b)) t)))
+    by_answer (Ok t) e = ap mark_in e
+    by_answer (Err r) e = refl
 
 -- the offset is said to be known exactly where there is one
-stamped_known : (o : Signed) (f : List ℕ) (k c : ℕ) → KnownTold (stamped o f k c)
-stamped_known (signed false n) f k c = refl
-stamped_known (signed true zero) f k c = refl
-stamped_known (signed true (suc n)) f k c = refl
+stamped_known : (o : Signed) (f : List ℕ) (x : Std.Option Answer.Fraction) → KnownTold (stamped o f x)
+stamped_known (signed false n) f x = refl
+stamped_known (signed true zero) f x = refl
+stamped_known (signed true (suc n)) f x = refl
 
 pub timestamp_known : (b : List ℕ) → KnownTold (timestamp_in b)
 unfolding timestamp_in
@@ -194,15 +207,15 @@ timestamp_known b = by_offset (var_int b)
   where
     by_fraction : (o : Signed) (f : List ℕ) (n : ℕ) (x : Option Fraction) → KnownTold (fractioned (length b) o f n x)
     by_fraction o f n none = tt
-    by_fraction o f n (some no_fraction) = stamped_known o f 0 (length b)
-    by_fraction o f n (some (fraction k c)) = stamped_known o f k (length b - n)
+    by_fraction o f n (some no_fraction) = stamped_known o f None
+    by_fraction o f n (some (fraction k c)) = stamped_known o f (Some (record { digits = k; coefficient = length b - n }))
 
     by_exponent : (o : Signed) (f : List ℕ) (x : Option (Signed × List ℕ)) → KnownTold (exponent_from (length b) o f x)
     by_exponent o f none = tt
     by_exponent o f (some e) = by_fraction o f (length e.1) (fraction_of e.0 (int_field e.1))
 
     by_rest : (o : Signed) (f r : List ℕ) → KnownTold (fraction_from (length b) o f r)
-    by_rest o f [] = stamped_known o f 0 (length b)
+    by_rest o f [] = stamped_known o f None
     by_rest o f (c ∷ cs) = by_exponent o f (var_int (c ∷ cs))
 
     by_fields : (o : Signed) (x : Option (List ℕ × List ℕ)) → KnownTold (fields_from (length b) o x)

@@ -2,25 +2,23 @@
 -- The bytes reach to the end of what the header stands in, the stream or its parent; `out` is what running out of them means:
 -- the stream is cut short, or, where a parent ends, the bytes are outside the grammar.
 -- Assumes nothing.
-use Rattle.std.specs.Prelude.{ℕ, ◌+◌, ◌*◌, ◌/◌, ◌%◌, ◌^◌, Bool, cond, ◌&&◌, ◌||◌, not, List, [], ◌∷◌, ltb, leb, eqb, length, drop, get_or}
+use Rattle.std.specs.Prelude.{ℕ, ◌+◌, ◌*◌, ◌/◌, ◌%◌, ◌^◌, Bool, cond, ◌&&◌, ◌||◌, not, List, [], ◌∷◌, ltb, leb, eqb, length, drop, get_or, Result, Ok, Err}
 use Rattle.reading.specs.declared.Refusal.{Refusal}
 use Rattle.reading.specs.declared.Refusal.TheVariants.{NotIon, CutShort}
 use Rattle.reading.specs.declared.Number.{Number}
-use Rattle.reading.specs.declared.Number.TheVariants as N
 use Rattle.reading.specs.declared.Header.{Header}
-use Rattle.reading.specs.declared.Header.TheVariants as H
 
 -- ---- "VarUInt and VarInt Fields": a number, and the place behind it
 
 -- The bytes stand at the place `at`, and the groups before them make `acc`. A number past 64 bits is outside the grammar as soon as it is.
-unfoldable pub var_uint_from : Refusal → ℕ → ℕ → List ℕ → Number
-var_uint_from out acc at [] = N.No out
+unfoldable pub var_uint_from : Refusal → ℕ → ℕ → List ℕ → Result Number Refusal
+var_uint_from out acc at [] = Err out
 var_uint_from out acc at (b ∷ bs) =
     cond (ltb (acc * 128 + b % 128) (2 ^ 64))
-    (cond (ltb b 0x80) (var_uint_from out (acc * 128 + b % 128) (at + 1) bs) (N.Is (acc * 128 + b % 128) (at + 1)))
-    (N.No NotIon)
+    (cond (ltb b 0x80) (var_uint_from out (acc * 128 + b % 128) (at + 1) bs) (Ok (record { value = acc * 128 + b % 128; next = at + 1 })))
+    (Err NotIon)
 
-unfoldable pub var_uint_at : Refusal → List ℕ → ℕ → Number
+unfoldable pub var_uint_at : Refusal → List ℕ → ℕ → Result Number Refusal
 var_uint_at out s at = var_uint_from out 0 at (drop at s)
 
 -- ---- "Typed Value Formats": type descriptors, by their type code t and their low four bits l
@@ -54,36 +52,36 @@ never t l n =
 -- ---- the header at a place
 
 -- A body of n bytes from `start`: a length that its type never has comes before a body that is cut.
-abbrev pub framed : Refusal → List ℕ → ℕ → ℕ → ℕ → Header
+abbrev pub framed : Refusal → List ℕ → ℕ → ℕ → ℕ → Result Header Refusal
 framed out s b n start =
-    cond (never (b / 16) (b % 16) n) (H.No NotIon)
-    (cond (leb (start + n) (length s)) (H.Is b start (start + n)) (H.No out))
+    cond (never (b / 16) (b % 16) n) (Err NotIon)
+    (cond (leb (start + n) (length s)) (Ok (record { kind = b; start = start; stop = start + n })) (Err out))
 
-abbrev pub framed_by : Refusal → List ℕ → ℕ → Number → Header
-framed_by out s b (N.No r) = H.No r
-framed_by out s b (N.Is n next) = framed out s b n next
+abbrev pub framed_by : Refusal → List ℕ → ℕ → Result Number Refusal → Result Header Refusal
+framed_by out s b (Err r) = Err r
+framed_by out s b (Ok n) = framed out s b n.value n.next
 
 -- the header whose type byte b stands at `at`
-abbrev pub headed : Refusal → List ℕ → ℕ → ℕ → Header
+abbrev pub headed : Refusal → List ℕ → ℕ → ℕ → Result Header Refusal
 headed out s at b =
-    cond (impossible (b / 16) (b % 16)) (H.No NotIon)
-    (cond (alone (b / 16) (b % 16)) (H.Is b (at + 1) (at + 1))
+    cond (impossible (b / 16) (b % 16)) (Err NotIon)
+    (cond (alone (b / 16) (b % 16)) (Ok (record { kind = b; start = at + 1; stop = at + 1 }))
     (cond (measured (b / 16) (b % 16)) (framed_by out s b (var_uint_at out s (at + 1)))
     (framed out s b (b % 16) (at + 1))))
 
-unfoldable pub header_at : Refusal → List ℕ → ℕ → Header
-header_at out s at = cond (ltb at (length s)) (headed out s at (get_or s at 0)) (H.No out)
+unfoldable pub header_at : Refusal → List ℕ → ℕ → Result Header Refusal
+header_at out s at = cond (ltb at (length s)) (headed out s at (get_or s at 0)) (Err out)
 
 -- ---- "Value Streams": a version marker. Another byte is outside the grammar as soon as it is there, a beginning that stops is cut short.
 
-unfoldable pub marked : List ℕ → ℕ → List ℕ → Header
-marked [] at l = H.Is 0xE0 at at
-marked (m ∷ ms) at [] = H.No CutShort
-marked (m ∷ ms) at (b ∷ bs) = cond (eqb b m) (marked ms (at + 1) bs) (H.No NotIon)
+unfoldable pub marked : List ℕ → ℕ → List ℕ → Result Header Refusal
+marked [] at l = Ok (record { kind = 0xE0; start = at; stop = at })
+marked (m ∷ ms) at [] = Err CutShort
+marked (m ∷ ms) at (b ∷ bs) = cond (eqb b m) (marked ms (at + 1) bs) (Err NotIon)
 
-unfoldable pub marker_at : List ℕ → ℕ → Header
+unfoldable pub marker_at : List ℕ → ℕ → Result Header Refusal
 marker_at s at = marked (0xE0 ∷ 0x01 ∷ 0x00 ∷ 0xEA ∷ []) at (drop at s)
 
 -- At top level: a marker, whose first byte begins nothing else, or a header that the stream may cut.
-unfoldable pub top_header_at : List ℕ → ℕ → Header
+unfoldable pub top_header_at : List ℕ → ℕ → Result Header Refusal
 top_header_at s at = cond (eqb (get_or s at 0) 0xE0) (marker_at s at) (header_at CutShort s at)

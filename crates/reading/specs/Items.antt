@@ -2,17 +2,14 @@
 -- The bytes s reach to the end of what the item stands in. That is given by its type byte, `parent`, which is 0 for the stream itself:
 -- no container has that type byte.
 -- Assumes nothing.
-use Rattle.std.specs.Prelude.{ℕ, ◌+◌, Bool, cond, ◌&&◌, ◌||◌, not, List, ltb, leb, eqb, length, take}
+use Rattle.std.specs.Prelude.{ℕ, ◌+◌, Bool, cond, ◌&&◌, ◌||◌, not, List, ltb, leb, eqb, length, take, Result, Ok, Err, Option, Some, None}
 use Rattle.std.proofs.Math.Seq.{slice}
+use Rattle.reading.specs.declared.Refusal.{Refusal}
 use Rattle.reading.specs.declared.Refusal.TheVariants.{PastTheEnd, TooDeep, NotIon}
 use Rattle.reading.specs.declared.Number.{Number}
-use Rattle.reading.specs.declared.Number.TheVariants as N
 use Rattle.reading.specs.declared.Header.{Header}
-use Rattle.reading.specs.declared.Header.TheVariants as H
 use Rattle.reading.specs.declared.Wrapped.{Wrapped}
-use Rattle.reading.specs.declared.Wrapped.TheVariants as W
 use Rattle.reading.specs.declared.Item.{Item}
-use Rattle.reading.specs.declared.Item.TheVariants as I
 use Rattle.reading.specs.Headers.{var_uint_at, header_at, top_header_at}
 use Rattle.reading.specs.Scalars.{scalar_in, is_some, sids_of}
 
@@ -45,35 +42,38 @@ is_sorted_struct parent = eqb parent 0xD1
 
 -- ---- the name, then the header: only where the stream ends is running out of bytes 14
 
-abbrev pub name_at : List ℕ → ℕ → ℕ → Number
-name_at s parent at = cond (has_names parent) (var_uint_at NotIon s at) (N.Is 0 at)
+abbrev pub name_at : List ℕ → ℕ → ℕ → Result Number Refusal
+name_at s parent at = cond (has_names parent) (var_uint_at NotIon s at) (Ok (record { value = 0; next = at }))
 
-abbrev pub head_in : List ℕ → ℕ → ℕ → Header
+abbrev pub head_in : List ℕ → ℕ → ℕ → Result Header Refusal
 head_in s parent at = cond (is_stream parent) (top_header_at s at) (header_at NotIon s at)
 
 -- ---- "14: Annotations": the bytes s reach to the wrapper's end, its body stands at a place
 
 -- exactly one value fills the rest, which is no pad and no wrapper
-abbrev pub filled : List ℕ → ℕ → ℕ → Header → Wrapped
-filled s from to (H.No r) = W.No r
-filled s from to (H.Is b start stop) =
-    cond (is_pad b || (is_wrapper b || not (eqb stop (length s)))) (W.No NotIon) (W.Is from to b start stop)
+abbrev pub filled : List ℕ → ℕ → ℕ → Result Header Refusal → Result Wrapped Refusal
+filled s from to (Err r) = Err r
+filled s from to (Ok h) =
+    cond (is_pad h.kind || (is_wrapper h.kind || not (eqb h.stop (length s)))) (Err NotIon)
+    (Ok (record { sids = from; sids_end = to; kind = h.kind; start = h.start; stop = h.stop }))
 
 -- at least one sid; the sids end where their length says
-abbrev pub annotated : List ℕ → Number → Wrapped
-annotated s (N.No r) = W.No r
-annotated s (N.Is n from) =
-    cond (leb 1 n && (leb (from + n) (length s) && is_some (sids_of (slice from (from + n) s))))
-    (filled s from (from + n) (header_at NotIon s (from + n)))
-    (W.No NotIon)
+abbrev pub annotated : List ℕ → Result Number Refusal → Result Wrapped Refusal
+annotated s (Err r) = Err r
+annotated s (Ok n) =
+    cond (leb 1 n.value && (leb (n.next + n.value) (length s) && is_some (sids_of (slice n.next (n.next + n.value) s))))
+    (filled s n.next (n.next + n.value) (header_at NotIon s (n.next + n.value)))
+    (Err NotIon)
 
-unfoldable pub wrapped_at : List ℕ → ℕ → Wrapped
+unfoldable pub wrapped_at : List ℕ → ℕ → Result Wrapped Refusal
 wrapped_at s at = annotated s (var_uint_at NotIon s at)
 
 -- a value in its wrapper, or as it stands
-abbrev pub unwrapped : List ℕ → Header → Wrapped
-unwrapped s (H.No r) = W.No r
-unwrapped s (H.Is b start stop) = cond (is_wrapper b) (wrapped_at (take stop s) start) (W.Is start start b start stop)
+abbrev pub unwrapped : List ℕ → Result Header Refusal → Result Wrapped Refusal
+unwrapped s (Err r) = Err r
+unwrapped s (Ok h) =
+    cond (is_wrapper h.kind) (wrapped_at (take h.stop s) h.start)
+    (Ok (record { sids = h.start; sids_end = h.start; kind = h.kind; start = h.start; stop = h.stop }))
 
 -- ---- the content
 
@@ -93,18 +93,23 @@ raised least b name = cond (is_pad b) least name
 abbrev pub most_open : ℕ
 most_open = 32
 
-abbrev pub judged : List ℕ → ℕ → ℕ → ℕ → ℕ → Wrapped → Item
-judged s parent least depth name (W.No r) = I.No r
-judged s parent least depth name (W.Is from to b start stop) =
-    cond (falls parent least b name || not (reads b (slice start stop s))) (I.No NotIon)
-    (cond (opens b && leb most_open depth) (I.No TooDeep) (I.Is name from to b start stop))
+-- what stands at a place: an item, or none where the bytes end; or why it does not read
+abbrev pub Found : Type 0
+Found = Result (Option Item) Refusal
 
-abbrev pub named : List ℕ → ℕ → ℕ → ℕ → Number → Item
-named s parent least depth (N.No r) = I.No r
-named s parent least depth (N.Is name next) = judged s parent least depth name (unwrapped s (head_in s parent next))
+abbrev pub judged : List ℕ → ℕ → ℕ → ℕ → ℕ → Result Wrapped Refusal → Found
+judged s parent least depth name (Err r) = Err r
+judged s parent least depth name (Ok w) =
+    cond (falls parent least w.kind name || not (reads w.kind (slice w.start w.stop s))) (Err NotIon)
+    (cond (opens w.kind && leb most_open depth) (Err TooDeep)
+    (Ok (Some (record { name = name; sids = w.sids; sids_end = w.sids_end; kind = w.kind; start = w.start; stop = w.stop }))))
+
+abbrev pub named : List ℕ → ℕ → ℕ → ℕ → Result Number Refusal → Found
+named s parent least depth (Err r) = Err r
+named s parent least depth (Ok n) = judged s parent least depth n.value (unwrapped s (head_in s parent n.next))
 
 -- The item at a place: with this parent, no name under `least` where the parent is sorted, and `depth` containers open.
-unfoldable pub item_at : List ℕ → ℕ → ℕ → ℕ → ℕ → Item
+unfoldable pub item_at : List ℕ → ℕ → ℕ → ℕ → ℕ → Found
 item_at s parent least depth at =
-    cond (ltb (length s) at) (I.No PastTheEnd)
-    (cond (eqb at (length s)) I.End (named s parent least depth (name_at s parent at)))
+    cond (ltb (length s) at) (Err PastTheEnd)
+    (cond (eqb at (length s)) (Ok None) (named s parent least depth (name_at s parent at)))

@@ -1,46 +1,62 @@
 -- What the answers about a scalar's body tell: put together, they are the scalar. The statements; the proofs are in proofs/Whole.antt.
 -- Ints, floats, strings and lobs need no more than their type byte and their body.
 -- Assumes nothing.
-use Rattle.std.specs.Prelude.{ℕ, zero, suc, ◌≡◌, List, [], ◌∷◌, take, drop}
+use Rattle.std.specs.Prelude as Std
+use Rattle.std.specs.Prelude.{ℕ, ℤ, ◌≡◌, Bool, false, List, [], ◌∷◌, take, drop, Result, Ok, Err, Some, None, is_some as is_there}
 use Rattle.std.proofs.Math.Option.{Option, none, some}
-use Rattle.ion.specs.Value.{decimal_code, timestamp_code, symbol_code, signed, Fraction, no_fraction, fraction, Scalar, decimal, timestamp, symbol}
+use Rattle.ion.specs.Value as Ion
+use Rattle.ion.specs.Value.{decimal_code, timestamp_code, symbol_code, signed, no_fraction, fraction, Scalar, decimal, timestamp, symbol}
 use Rattle.ion.specs.Fields.{int_field, number}
 use Rattle.ion.specs.Scalars.{offset_of, scalar_of}
+use Rattle.reading.specs.declared.Refusal.{Refusal}
 use Rattle.reading.specs.declared.Decimal.{Decimal}
-use Rattle.reading.specs.declared.Decimal.TheVariants as D
+use Rattle.reading.specs.declared.Offset.{Offset}
+use Rattle.reading.specs.declared.Fields.{Fields}
+use Rattle.reading.specs.declared.Fraction.{Fraction}
 use Rattle.reading.specs.declared.Timestamp.{Timestamp}
-use Rattle.reading.specs.declared.Timestamp.TheVariants as T
-use Rattle.reading.specs.declared.Symbol.{Symbol}
-use Rattle.reading.specs.declared.Symbol.TheVariants as S
+use Rattle.reading.specs.declared.Shown.{Shown}
 use Rattle.reading.specs.Scalars.{is_some}
 use Rattle.reading.specs.Bodies.{magnitude, decimal_in, timestamp_in, mark_in, shown_in, symbol_in}
 
 -- ---- what an answer about the body b tells
 
-abbrev pub decimal_told : List ℕ → Decimal → Option Scalar
-decimal_told b (D.Is negative exponent coefficient) = some (decimal (int_field (drop coefficient b)) (number (signed negative exponent)))
-decimal_told b (D.No r) = none
+abbrev pub decimal_told : List ℕ → Result Decimal Refusal → Option Scalar
+decimal_told b (Ok d) = some (decimal (int_field (drop d.coefficient b)) (number (signed d.negative d.exponent)))
+decimal_told b (Err r) = none
+
+abbrev pub offset_told : Std.Option Offset → Option ℤ
+offset_told None = none
+offset_told (Some o) = offset_of (signed o.negative o.minutes)
+
+abbrev pub fields_told : Fields → List ℕ
+fields_told f = take f.count (f.year ∷ f.month ∷ f.day ∷ f.hour ∷ f.minute ∷ f.second ∷ [])
 
 -- the digits that a fraction has, and the bytes of their coefficient
-abbrev pub fraction_in : ℕ → List ℕ → Fraction
-fraction_in zero bs = no_fraction
-fraction_in (suc k) bs = fraction (suc k) (magnitude (int_field bs))
+abbrev pub fraction_told : List ℕ → Std.Option Fraction → Ion.Fraction
+fraction_told b None = no_fraction
+fraction_told b (Some f) = fraction f.digits (magnitude (int_field (drop f.coefficient b)))
 
-abbrev pub timestamp_told : List ℕ → Timestamp → Option Scalar
-timestamp_told b (T.Is known negative offset count year month day hour minute second digits coefficient) =
-    some (timestamp (offset_of (signed negative offset))
-    (take count (year ∷ month ∷ day ∷ hour ∷ minute ∷ second ∷ []))
-    (fraction_in digits (drop coefficient b)))
-timestamp_told b (T.No r) = none
+abbrev pub timestamp_told : List ℕ → Result Timestamp Refusal → Option Scalar
+timestamp_told b (Ok t) = some (timestamp (offset_told t.offset) (fields_told t.fields) (fraction_told b t.fraction))
+timestamp_told b (Err r) = none
 
-abbrev pub symbol_told : Symbol → Option Scalar
-symbol_told (S.Is n) = some (symbol n)
-symbol_told (S.No r) = none
+abbrev pub symbol_told : Result ℕ Refusal → Option Scalar
+symbol_told (Ok n) = some (symbol n)
+symbol_told (Err r) = none
 
 -- the offset is known exactly if there is one
-abbrev pub KnownTold : Timestamp → Type 0
-KnownTold (T.Is known negative offset count year month day hour minute second digits coefficient) = known ≡ is_some (offset_of (signed negative offset))
-KnownTold (T.No r) = Unit {0}
+abbrev pub KnownTold : Result Timestamp Refusal → Type 0
+KnownTold (Ok t) = is_there t.offset ≡ is_some (offset_told t.offset)
+KnownTold (Err r) = Unit {0}
+
+-- a timestamp that is shown, and its mark
+abbrev pub timestamp_shown : Result Shown Refusal → Result Timestamp Refusal
+timestamp_shown (Ok x) = Ok x.timestamp
+timestamp_shown (Err r) = Err r
+
+abbrev pub mark_shown : Result Shown Refusal → Bool
+mark_shown (Ok x) = x.marked
+mark_shown (Err r) = false
 
 -- ---- the statements
 
@@ -52,7 +68,7 @@ TimestampWhole = (b : List ℕ) → scalar_of timestamp_code b ≡ timestamp_tol
 
 -- The mark beside it is that of the scalar; a body that is none has no mark.
 abbrev pub MarkWhole : Type 0
-MarkWhole = (b : List ℕ) → (shown_in b).marked ≡ mark_in (timestamp_told b (shown_in b).timestamp)
+MarkWhole = (b : List ℕ) → mark_shown (shown_in b) ≡ mark_in (timestamp_told b (timestamp_shown (shown_in b)))
 
 abbrev pub SymbolWhole : Type 0
 SymbolWhole = (b : List ℕ) → scalar_of symbol_code b ≡ symbol_told (symbol_in b)

@@ -1,19 +1,18 @@
 -- The walk (document 02, Item 1): the items from a place to the end of the bytes, containers entered, up to the first header that does not read;
 -- and what a reading is as a list of such events.
 -- Assumes nothing.
-use Rattle.std.specs.Prelude.{ℕ, zero, suc, ◌+◌, cond, List, [], ◌∷◌, ◌++◌, ltb, leb, length, take}
+use Rattle.std.specs.Prelude.{ℕ, zero, suc, ◌+◌, cond, List, [], ◌∷◌, ◌++◌, ltb, leb, length, take, Result, Ok, Err, Some, None}
 use Rattle.std.proofs.Math.Option.{Option, none, some}
 use Rattle.std.proofs.Math.Seq.{slice}
 use Rattle.ion.specs.Value as Ion
 use Rattle.ion.specs.Value.{Scalar, IonType, ion_list, ion_sexp, ion_struct, SequenceType, list, sexp, Tree, scalar, sequence, struct, Members}
 use Rattle.ion.specs.Value.{no_members, member, Fields, no_fields, field}
+use Rattle.reading.specs.declared.Refusal.{Refusal}
 use Rattle.reading.specs.declared.Refusal.TheVariants.{PastTheEnd}
 use Rattle.reading.specs.declared.Item.{Item}
-use Rattle.reading.specs.declared.Item.TheVariants as I
-use Rattle.reading.specs.declared.Reading.{Reading}
-use Rattle.reading.specs.declared.Reading.TheVariants as R
+use Rattle.reading.specs.declared.Stopped.{Stopped}
 use Rattle.reading.specs.Scalars.{scalar_in, sids_of}
-use Rattle.reading.specs.Items.{has_names, is_marker, opens, raised, item_at}
+use Rattle.reading.specs.Items.{has_names, is_marker, opens, raised, Found, item_at}
 
 -- ---- events: what a walk shows, in the order of the stream
 
@@ -71,12 +70,20 @@ stream_depth (Ion.value v ∷ is) = higher (tree_depth v) (stream_depth is)
 
 -- ---- the walk: what it shows, and how it ended
 
-abbrev pub Walk : Type 0
-Walk = List Event × Reading
+-- at the end of the bytes, or where it stopped
+abbrev pub Ending : Type 0
+Ending = Result (Unit {0}) Stopped
 
-abbrev pub before : List Event → Reading → Walk → Walk
-before es R.Whole w = (es ++ w.0, w.1)
-before es (R.Refused r place) w = (es, R.Refused r place)
+-- at the item at a place, which does not read
+abbrev pub refused : Refusal → ℕ → Ending
+refused r place = Err (record { refusal = r; place = place })
+
+abbrev pub Walk : Type 0
+Walk = List Event × Ending
+
+abbrev pub before : List Event → Ending → Walk → Walk
+before es (Ok u) w = (es ++ w.0, w.1)
+before es (Err e) w = (es, Err e)
 
 -- the second goes on where the first came to its end
 infixl 20 ◌and_then◌
@@ -84,7 +91,7 @@ abbrev pub ◌and_then◌ : Walk → Walk → Walk
 v and_then w = before v.0 v.1 w
 
 abbrev pub shows : List Event → Walk
-shows es = (es, R.Whole)
+shows es = (es, Ok tt)
 
 -- the name of an item, which only a struct's have
 abbrev pub name_in : ℕ → ℕ → Option ℕ
@@ -110,17 +117,16 @@ abbrev pub container_walk : ℕ → Option ℕ → List ℕ → Walk → Walk
 container_walk b name an inner = shows (begins name an (container_type b) ∷ []) and_then (inner and_then shows (ends ∷ []))
 
 -- what an item shows: itself, or, given how to go on from a place, all that it holds
-abbrev pub item_walk : (List ℕ → ℕ → ℕ → ℕ → ℕ → Walk) → List ℕ → ℕ → ℕ → ℕ → ℕ → ℕ → ℕ → ℕ → ℕ → Walk
-item_walk go s parent depth name from to b start stop =
-    cond (opens b)
-    (container_walk b (name_in parent name) (annotations (sids_of (slice from to s))) (go (take stop s) b 0 (depth + 1) start))
-    (leaf_walk b (name_in parent name) (annotations (sids_of (slice from to s))) (slice start stop s))
+abbrev pub item_walk : (List ℕ → ℕ → ℕ → ℕ → ℕ → Walk) → List ℕ → ℕ → ℕ → Item → Walk
+item_walk go s parent depth i =
+    cond (opens i.kind)
+    (container_walk i.kind (name_in parent i.name) (annotations (sids_of (slice i.sids i.sids_end s))) (go (take i.stop s) i.kind 0 (depth + 1) i.start))
+    (leaf_walk i.kind (name_in parent i.name) (annotations (sids_of (slice i.sids i.sids_end s))) (slice i.start i.stop s))
 
-abbrev pub step_walk : (List ℕ → ℕ → ℕ → ℕ → ℕ → Walk) → List ℕ → ℕ → ℕ → ℕ → ℕ → Item → Walk
-step_walk go s parent least depth at I.End = shows []
-step_walk go s parent least depth at (I.No r) = ([], R.Refused r at)
-step_walk go s parent least depth at (I.Is name from to b start stop) =
-    item_walk go s parent depth name from to b start stop and_then go s parent (raised least b name) depth stop
+abbrev pub step_walk : (List ℕ → ℕ → ℕ → ℕ → ℕ → Walk) → List ℕ → ℕ → ℕ → ℕ → ℕ → Found → Walk
+step_walk go s parent least depth at (Ok None) = shows []
+step_walk go s parent least depth at (Err r) = ([], refused r at)
+step_walk go s parent least depth at (Ok (Some i)) = item_walk go s parent depth i and_then go s parent (raised least i.kind i.name) depth i.stop
 
 -- from a place, with the parent, the least name and the open containers as `item_at` has them; f bounds the items
 unfoldable pub walk_from : ℕ → List ℕ → ℕ → ℕ → ℕ → ℕ → Walk
@@ -131,7 +137,7 @@ walk_from (suc f) s parent least depth at =
 -- The walk over the bytes before `end`.
 unfoldable pub walk_in : List ℕ → ℕ → ℕ → ℕ → ℕ → ℕ → Walk
 walk_in s end parent least depth at =
-    cond (leb end (length s)) (walk_from (suc (length s)) (take end s) parent least depth at) ([], R.Refused PastTheEnd at)
+    cond (leb end (length s)) (walk_from (suc (length s)) (take end s) parent least depth at) ([], refused PastTheEnd at)
 
 -- The walk over a stream from a position: nothing is open, and no container's type byte is 0.
 abbrev pub walk : List ℕ → ℕ → Walk

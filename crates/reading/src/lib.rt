@@ -1,8 +1,11 @@
-// What a reader answers, by value. What it answers when is defined in specs/; no function runs here.
+// What a reader answers, by value. What it answers when is defined in specs/; a refusal's number is the one thing that is computed here.
 #![tactic(auto)]
 
+ghost use Rattle.std.specs.Prelude.{◌≡◌};
+ghost use Rattle.reading.specs.Refusals.{number};
+
 // Why a reader stops (document 02, Item 1). The definition `number` gives each its number.
-#[derive(Clone, Copy)]
+#[derive(Clone, Copy, Debug, PartialEq, Eq)]
 pub enum Refusal {
     PastTheEnd,
     TooDeep,
@@ -10,106 +13,124 @@ pub enum Refusal {
     CutShort,
 }
 
+impl From<Refusal> for u8 {
+    ghost from_gives = { λ refusal n. n ≡ number refusal };
+
+    fn from(refusal: Refusal) -> u8 {
+        match refusal {
+            Refusal::PastTheEnd => 2,
+            Refusal::TooDeep => 4,
+            Refusal::NotIon => 13,
+            Refusal::CutShort => 14,
+        }
+    }
+}
+
 // A VarUInt and the place behind it.
-#[derive(Clone, Copy)]
-pub enum Number {
-    Is { value: u64, next: usize },
-    No(Refusal),
+#[derive(Clone, Copy, Debug, PartialEq, Eq)]
+pub struct Number {
+    pub value: u64,
+    pub next: usize,
 }
 
 // A type byte, and where its body starts and stops.
-#[derive(Clone, Copy)]
-pub enum Header {
-    Is { kind: u8, start: usize, stop: usize },
-    No(Refusal),
+#[derive(Clone, Copy, Debug, PartialEq, Eq)]
+pub struct Header {
+    pub kind: u8,
+    pub start: usize,
+    pub stop: usize,
 }
 
 // Where the sids of a wrapper start and stop, and the header of the value that it wraps.
 // A value without wrapper has no sids: they start and stop with its body.
-#[derive(Clone, Copy)]
-pub enum Wrapped {
-    Is {
-        sids: usize,
-        sids_end: usize,
-        kind: u8,
-        start: usize,
-        stop: usize,
-    },
-    No(Refusal),
+#[derive(Clone, Copy, Debug, PartialEq, Eq)]
+pub struct Wrapped {
+    pub sids: usize,
+    pub sids_end: usize,
+    pub kind: u8,
+    pub start: usize,
+    pub stop: usize,
 }
 
 // What stands at a place: its name (0 where there are none), its annotations' sids, its type byte and its body. The next item stands at `stop`.
-// A NOP pad has a type byte below 0F; a version marker has E0 and no body. At the end of what is read there is nothing.
-#[derive(Clone, Copy)]
-pub enum Item {
-    Is {
-        name: u64,
-        sids: usize,
-        sids_end: usize,
-        kind: u8,
-        start: usize,
-        stop: usize,
-    },
-    End,
-    No(Refusal),
+// A NOP pad has a type byte below 0F; a version marker has E0 and no body.
+#[derive(Clone, Copy, Debug, PartialEq, Eq)]
+pub struct Item {
+    pub name: u64,
+    pub sids: usize,
+    pub sids_end: usize,
+    pub kind: u8,
+    pub start: usize,
+    pub stop: usize,
 }
 
-// How a walk ended: at the end of the bytes, or at the item that it does not read, by its place.
-#[derive(Clone, Copy)]
-pub enum Reading {
-    Whole,
-    Refused { refusal: Refusal, place: usize },
+// What holds items: its type byte (0 for the stream itself), the least name that may follow in it, and how many containers are open.
+#[derive(Clone, Copy, Debug, PartialEq, Eq)]
+pub struct Holder {
+    pub kind: u8,
+    pub least: u64,
+    pub depth: u8,
 }
 
-// One item and all that it holds: the place behind it and the least name that may follow, or how the walk ended.
-#[derive(Clone, Copy)]
-pub enum Value {
-    Is { next: usize, least: u64 },
-    Ended(Reading),
+// Where a walk stopped: at an item that it does not read, by its place.
+#[derive(Clone, Copy, Debug, PartialEq, Eq)]
+pub struct Stopped {
+    pub refusal: Refusal,
+    pub place: usize,
+}
+
+// One item and all that it holds: the place behind it and the least name that may follow.
+#[derive(Clone, Copy, Debug, PartialEq, Eq)]
+pub struct Passed {
+    pub next: usize,
+    pub least: u64,
 }
 
 // A decimal's body: the exponent, as a sign and a magnitude, and where in the body the coefficient starts, an Int.
-#[derive(Clone, Copy)]
-pub enum Decimal {
-    Is {
-        negative: bool,
-        exponent: u64,
-        coefficient: usize,
-    },
-    No(Refusal),
+#[derive(Clone, Copy, Debug, PartialEq, Eq)]
+pub struct Decimal {
+    pub negative: bool,
+    pub exponent: u64,
+    pub coefficient: usize,
 }
 
-// A timestamp's body: whether the offset is known, its sign and minutes; how many UTC fields there are, from the year down, and the fields,
-// 0 where there is none; how many digits the seconds' fraction has, 0 where there is none, and where in the body their coefficient starts, an Int.
-#[derive(Clone, Copy)]
-pub enum Timestamp {
-    Is {
-        known: bool,
-        negative: bool,
-        offset: u64,
-        count: u8,
-        year: u64,
-        month: u64,
-        day: u64,
-        hour: u64,
-        minute: u64,
-        second: u64,
-        digits: u64,
-        coefficient: usize,
-    },
-    No(Refusal),
+// A timestamp's known offset: its sign and minutes.
+#[derive(Clone, Copy, Debug, PartialEq, Eq)]
+pub struct Offset {
+    pub negative: bool,
+    pub minutes: u64,
 }
 
-// What the reader shows of a timestamp's body: the timestamp, and beside it the out-of-calendar mark (document 02, Item 2), false where there is none.
-#[derive(Clone, Copy)]
+// How many UTC fields a timestamp has, from the year down, and the fields, 0 where there is none.
+#[derive(Clone, Copy, Debug, PartialEq, Eq)]
+pub struct Fields {
+    pub count: u8,
+    pub year: u64,
+    pub month: u64,
+    pub day: u64,
+    pub hour: u64,
+    pub minute: u64,
+    pub second: u64,
+}
+
+// How many digits the seconds' fraction has, and where in the body their coefficient starts, an Int.
+#[derive(Clone, Copy, Debug, PartialEq, Eq)]
+pub struct Fraction {
+    pub digits: u64,
+    pub coefficient: usize,
+}
+
+// A timestamp's body: the offset, none where it is unknown, the fields, and the fraction where there is one.
+#[derive(Clone, Copy, Debug, PartialEq, Eq)]
+pub struct Timestamp {
+    pub offset: Option<Offset>,
+    pub fields: Fields,
+    pub fraction: Option<Fraction>,
+}
+
+// What the reader shows of a timestamp's body: the timestamp, and beside it the out-of-calendar mark (document 02, Item 2).
+#[derive(Clone, Copy, Debug, PartialEq, Eq)]
 pub struct Shown {
     pub timestamp: Timestamp,
     pub marked: bool,
-}
-
-// A symbol's body: its sid.
-#[derive(Clone, Copy)]
-pub enum Symbol {
-    Is(u64),
-    No(Refusal),
 }

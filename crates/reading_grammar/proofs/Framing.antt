@@ -1,11 +1,12 @@
 -- The other way, at one header: a header that is found at a place is one of the grammar.
 -- Assumes nothing.
+use Rattle.std.specs.Prelude.{Result, Ok, Err}
 use Prim.Native.Nat.{ℕ, suc, ◌+◌, ◌*◌, ◌/◌, ◌%◌, ◌≤◌, ◌<◌}
 use native.Mathlib.Omega.{arith}
 use native.Mathlib.Nat.{div-add-mod'}
 use mathlib.Core.Path.{◌≡◌, refl, sym, ◌∙◌, subst}
 use mathlib.Core.Logic.{◌≢◌}
-use mathlib.Core.Bool.{true, false, ◌&&◌}
+use mathlib.Core.Bool.{Bool, true, false, cond, ◌&&◌}
 use mathlib.Core.List.{List, [], ◌∷◌, ◌++◌}
 use lib.Dec.{ltb, leb, eqb}
 use lib.ListN.{length, take, drop, get_or, length-append, take-append-drop}
@@ -17,8 +18,7 @@ use Rattle.ion.specs.Grammar.{Header, short, long}
 use Rattle.ion.proofs.Tests.{by_cases}
 use Rattle.reading.specs.declared.Refusal.{Refusal}
 use Rattle.reading.specs.declared.Number.{Number}
-use Rattle.reading.specs.declared.Number.TheVariants as N
-use Rattle.reading.specs.declared.Header.TheVariants as H
+use Rattle.reading.specs.declared.Header.{Header as Head}
 use Rattle.reading.specs.Headers as S
 use Rattle.reading.specs.Headers.{var_uint_at, impossible, alone, measured, never, header_at}
 use Rattle.reading_grammar.proofs.Tests.{neither, contrary, or_left}
@@ -33,78 +33,71 @@ pub data Framing (k n : ℕ) : List ℕ → Type 0 where
       → VarUInt l n → Framing k n l
 
 -- the header at a place, with its body
-pub record Framed (s : List ℕ) (at k start stop : ℕ) : Type 0 where
+pub record Framed (s : List ℕ) (at : ℕ) (h : Head) : Type 0 where
   pub tail : List ℕ
   pub body : List ℕ
   pub rest : List ℕ
-  pub here : Rest s at (k ∷ (tail ++ (body ++ rest)))
-  pub starts : start ≡ at + 1 + length tail
-  pub stops : stop ≡ start + length body
-  pub possible : impossible (k / 16) (k % 16) ≡ false
-  pub framing : Framing k (length body) tail
-
-header_injective : {a b c k m n : ℕ} → H.Is a b c ≡ H.Is k m n → (a ≡ k) × ((b ≡ m) × (c ≡ n))
-header_injective e = (cc, (cc, cc))
-
-pub no_header : {X : Type 0} {r : Refusal} {k m n : ℕ} → H.No r ≡ H.Is k m n → X
-no_header e = absurd (let z : ◌≡◌ {A = ℕ} 0 1 = cc in omega arith)
+  pub here : Rest s at (h.kind ∷ (tail ++ (body ++ rest)))
+  pub starts : h.start ≡ at + 1 + length tail
+  pub stops : h.stop ≡ h.start + length body
+  pub possible : impossible (h.kind / 16) (h.kind % 16) ≡ false
+  pub framing : Framing h.kind (length body) tail
 
 -- the n bytes at the front, and those behind them
 cut_at : (n : ℕ) (m : List ℕ) → n ≤ length m → (m ≡ take n m ++ drop n m) × (length (take n m) ≡ n)
 cut_at n m h = (sym (take-append-drop n m), length-take-le n m h)
 
-module _ (out : Refusal) (s : List ℕ) (at b k start stop : ℕ) (can : impossible (b / 16) (b % 16) ≡ false) where
-  framed_bounds : (n next : ℕ) → S.framed out s b n next ≡ H.Is k start stop
-      → ((b ≡ k) × ((next ≡ start) × (next + n ≡ stop))) × ((never (b / 16) (b % 16) n ≡ false) × (next + n ≤ length s))
+module _ (out : Refusal) (s : List ℕ) (at b : ℕ) (h : Head) (can : impossible (b / 16) (b % 16) ≡ false) where
+  framed_bounds : (n next : ℕ) → S.framed out s b n next ≡ Ok h
+      → (record { kind = b; start = next; stop = next + n } ≡ h) × (never (b / 16) (b % 16) n ≡ false) × (next + n ≤ length s)
   framed_bounds n next e =
       by_cases (never (b / 16) (b % 16) n)
-      (λ p. no_header (rw p at e))
+      (λ p. cc)
       (λ p. by_cases (leb (next + n) (length s))
-      (λ q. (header_injective (rw q at (rw p at e)), (p, leb-true (next + n) (length s) q)))
-      (λ q. no_header (rw q at (rw p at e))))
+      (λ q. (cc, p, leb-true (next + n) (length s) q))
+      (λ q. cc))
 
   -- a body of n bytes from `next`, behind the bytes t
   frames : (t m : List ℕ) (n next : ℕ) → next ≡ at + 1 + length t → Rest s at (b ∷ (t ++ m))
-      → (never (b / 16) (b % 16) n ≡ false → Framing b n t) → S.framed out s b n next ≡ H.Is k start stop → Framed s at k start stop
+      → (never (b / 16) (b % 16) n ≡ false → Framing b n t) → S.framed out s b n next ≡ Ok h → Framed s at h
   frames t m n next p x g e =
       let c = framed_bounds n next e in
-      let fits : n ≤ length m = omega (arith, rest-length x, length-append t m, c.1.1) in
+      let fits : n ≤ length m = omega (arith, rest-length x, length-append t m, c.2) in
       let d = cut_at n m fits in
       let y : Rest s at (b ∷ (t ++ (take n m ++ drop n m))) = rw (← d.0) x in
-      subst (λ (j : ℕ). Framed s at j start stop) c.0.0
+      subst (λ (j : Head). Framed s at j) c.0
       (record {
         tail = t;
         body = take n m;
         rest = drop n m;
         here = y;
-        starts = omega (arith, c.0.1.0);
-        stops = omega (arith, c.0.1.0, c.0.1.1, d.1);
+        starts = p;
+        stops = omega (arith, d.1);
         possible = can;
-        framing = subst (λ (j : ℕ). Framing b j t) (sym d.1) (g c.1.0);
+        framing = subst (λ (j : ℕ). Framing b j t) (sym d.1) (g c.1);
       })
 
-  by_number : (m : List ℕ) (o : Number) → var_uint_at out s (at + 1) ≡ o → alone (b / 16) (b % 16) ≡ false → measured (b / 16) (b % 16) ≡ true
-      → Rest s at (b ∷ m) → S.framed_by out s b o ≡ H.Is k start stop → Framed s at k start stop
-  by_number m (N.No r) q a l x e = no_header e
-  by_number m (N.Is n next) q a l x e =
-      let v = found_number out s (at + 1) n next q in
+  by_number : (m : List ℕ) (o : Result Number Refusal) → var_uint_at out s (at + 1) ≡ o → alone (b / 16) (b % 16) ≡ false → measured (b / 16) (b % 16) ≡ true
+      → Rest s at (b ∷ m) → S.framed_by out s b o ≡ Ok h → Framed s at h
+  by_number m (Err r) q a l x e = cc
+  by_number m (Ok n) q a l x e =
+      let v = found_number out s (at + 1) n q in
       let y : m ≡ v.front ++ v.rest = sym (rest-tail x).is ∙ v.joins in
-      frames v.front v.rest n next v.ends (rw y at x) (λ f. by_field a l f v.reads) e
+      frames v.front v.rest n.value n.next v.ends (rw y at x) (λ f. by_field a l f v.reads) e
 
-  headed-framed : (m : List ℕ) → Rest s at (b ∷ m) → S.headed out s at b ≡ H.Is k start stop → Framed s at k start stop
+  headed-framed : (m : List ℕ) → Rest s at (b ∷ m) → S.headed out s at b ≡ Ok h → Framed s at h
   headed-framed m x e =
       by_cases (alone (b / 16) (b % 16))
       (λ a.
-      let f : H.Is b (at + 1) (at + 1) ≡ H.Is k start stop = rw a at (rw can at e) in
-      let c = header_injective f in
-      subst (λ (j : ℕ). Framed s at j start stop) c.0
+      let c : record { kind = b; start = at + 1; stop = at + 1 } ≡ h = cc in
+      subst (λ (j : Head). Framed s at j) c
       (record {
         tail = [];
         body = [];
         rest = m;
         here = x;
-        starts = omega (arith, c.1.0);
-        stops = omega (arith, c.1.0, c.1.1);
+        starts = omega arith;
+        stops = omega arith;
         possible = can;
         framing = by_itself a refl;
       }))
@@ -112,16 +105,18 @@ module _ (out : Refusal) (s : List ℕ) (at b k start stop : ℕ) (can : impossi
       (λ l. by_number m (var_uint_at out s (at + 1)) refl a l x (rw l at (rw a at (rw can at e))))
       (λ l. frames [] m (b % 16) (at + 1) (omega arith) x (λ f. by_low_bits a l refl) (rw l at (rw a at (rw can at e)))))
 
-pub header_framed : (out : Refusal) (s : List ℕ) (at k start stop : ℕ) → header_at out s at ≡ H.Is k start stop → Framed s at k start stop
+framed_behind : (out : Refusal) (s : List ℕ) (at b : ℕ) (h : Head) (m : List ℕ) → Rest s at (b ∷ m) → S.headed out s at b ≡ Ok h → Framed s at h
+framed_behind out s at b h m x e = by_cases (impossible (b / 16) (b % 16)) (λ p. cc) (λ p. headed-framed out s at b h p m x e)
+
+pub header_framed : (out : Refusal) (s : List ℕ) (at : ℕ) (h : Head) → header_at out s at ≡ Ok h → Framed s at h
 unfolding header_at
-header_framed out s at k start stop e =
-    by_cases (ltb at (length s))
-    (λ h.
-    let lt : at < length s = ltb-true at (length s) h in
-    by_cases (impossible (get_or s at 0 / 16) (get_or s at 0 % 16))
-    (λ p. no_header (rw p at (rw h at e)))
-    (λ p. headed-framed out s at (get_or s at 0) k start stop p (drop (suc at) s) (record { within = omega arith; is = drop-cons s at 0 lt }) (rw h at e)))
-    (λ h. no_header (rw h at e))
+header_framed out s at h e = by_place (ltb at (length s)) refl e
+  where
+    by_place : (x : Bool) → ltb at (length s) ≡ x → cond x (S.headed out s at (get_or s at 0)) (Err out) ≡ Ok h → Framed s at h
+    by_place true q e =
+        let lt : at < length s = ltb-true at (length s) q in
+        framed_behind out s at (get_or s at 0) h (drop (suc at) s) (record { within = omega arith; is = drop-cons s at 0 lt }) e
+    by_place false q e = cc
 
 -- ---- a header of the grammar
 

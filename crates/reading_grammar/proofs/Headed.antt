@@ -1,5 +1,6 @@
 -- A header of the grammar is found at its place: type byte, then length, then a body that lies within the bytes.
 -- Assumes nothing.
+use Rattle.std.specs.Prelude.{Ok}
 use Prim.Native.Nat.{ℕ, ◌+◌, ◌*◌, ◌/◌, ◌%◌, ◌≤◌, ◌<◌}
 use native.Mathlib.Omega.{arith}
 use mathlib.Core.Path.{◌≡◌, refl, ◌∙◌, ap}
@@ -13,8 +14,6 @@ use Rattle.ion.specs.Value.{TypeCode, high_bits}
 use Rattle.ion.specs.Fields.{VarUInt}
 use Rattle.ion.specs.Grammar.{Header, short, long}
 use Rattle.reading.specs.declared.Refusal.{Refusal}
-use Rattle.reading.specs.declared.Number.TheVariants as N
-use Rattle.reading.specs.declared.Header.TheVariants as H
 use Rattle.reading.specs.Headers.{var_uint_at, impossible, alone, measured, never, header_at}
 use Rattle.reading_grammar.proofs.Places.{Rest, rest-length, rest_head, rest-tail}
 use Rattle.reading_grammar.proofs.Numbers.{number-found}
@@ -22,17 +21,17 @@ use Rattle.ion.proofs.Reader.{td_high, td_low}
 
 module _ (out : Refusal) (s : List ℕ) (at b t l : ℕ) (first : get_or s at 0 ≡ b) (inside : at < length s) (hi : b / 16 ≡ t) (lo : b % 16 ≡ l)
     (can : impossible t l ≡ false) where
-  alone_header : alone t l ≡ true → header_at out s at ≡ H.Is b (at + 1) (at + 1)
+  alone_header : alone t l ≡ true → header_at out s at ≡ Ok (record { kind = b; start = at + 1; stop = at + 1 })
   unfolding header_at
   alone_header a = rw (lt-ltb at (length s) inside, first, hi, lo, can, a)
 
   short_header : alone t l ≡ false → measured t l ≡ false → never t l l ≡ false → (stop : ℕ) → stop ≡ at + 1 + l → stop ≤ length s
-      → header_at out s at ≡ H.Is b (at + 1) stop
+      → header_at out s at ≡ Ok (record { kind = b; start = at + 1; stop = stop })
   unfolding header_at
   short_header a m n stop e h = rw (lt-ltb at (length s) inside, first, hi, lo, can, a, m, n, ← e, le-leb stop (length s) h)
 
-  long_header : alone t l ≡ false → measured t l ≡ true → (n next : ℕ) → var_uint_at out s (at + 1) ≡ N.Is n next → never t l n ≡ false
-      → (stop : ℕ) → stop ≡ next + n → stop ≤ length s → header_at out s at ≡ H.Is b next stop
+  long_header : alone t l ≡ false → measured t l ≡ true → (n next : ℕ) → var_uint_at out s (at + 1) ≡ Ok (record { value = n; next = next }) → never t l n ≡ false
+      → (stop : ℕ) → stop ≡ next + n → stop ≤ length s → header_at out s at ≡ Ok (record { kind = b; start = next; stop = stop })
   unfolding header_at
   long_header a m n next v k stop e h = rw (lt-ltb at (length s) inside, first, hi, lo, can, a, m, v, hi, lo, k, ← e, le-leb stop (length s) h)
 
@@ -59,7 +58,7 @@ first {c} {n} (long e) = record { nibble = 14; is = refl; small = omega arith; n
 
 pub plain_header : (out : Refusal) {s : List ℕ} {at : ℕ} {c : TypeCode} (body : List ℕ) {h : List ℕ} (r : List ℕ) (start stop : ℕ)
     → Header c (length body) h → Usual (high_bits c) (length body) → start ≡ at + length h → stop ≡ start + length body → Rest s at (h ++ (body ++ r))
-    → header_at out s at ≡ H.Is (get_or h 0 0) start stop
+    → header_at out s at ≡ Ok (record { kind = get_or h 0 0; start = start; stop = stop })
 plain_header out {s} {at} {c} body r start stop (short lt) u e f x =
     let all : length s ≡ at + (1 + (length body + length r)) = rest-length x ∙ ap (λ (k : ℕ). at + k) (omega (arith, length-append body r)) in
     rw e
@@ -77,7 +76,7 @@ plain_header out {s} {at} {c} body r start stop (long {l} v) u e f x =
 -- the sorted struct
 pub sorted_header : (out : Refusal) {s : List ℕ} {at : ℕ} (l body r : List ℕ) (start stop : ℕ)
     → VarUInt l (length body) → 2 ≤ length body → start ≡ at + (1 + length l) → stop ≡ start + length body → Rest s at (0xD1 ∷ (l ++ (body ++ r)))
-    → header_at out s at ≡ H.Is 0xD1 start stop
+    → header_at out s at ≡ Ok (record { kind = 0xD1; start = start; stop = stop })
 sorted_header out {s} {at} l body r start stop v two e f x =
     let all : length s ≡ at + (1 + (length l + (length body + length r))) =
     rest-length x ∙ ap (λ (k : ℕ). at + k) (omega (arith, length-append l (body ++ r), length-append body r)) in
@@ -88,12 +87,12 @@ sorted_header out {s} {at} l body r start stop v two e f x =
 -- a null or a bool: the type byte alone
 pub byte_header : (out : Refusal) {s : List ℕ} {at : ℕ} (b : ℕ) (r : List ℕ) → impossible (b / 16) (b % 16) ≡ false
     → alone (b / 16) (b % 16) ≡ true → Rest s at (b ∷ r)
-    → header_at out s at ≡ H.Is b (at + 1) (at + 1)
+    → header_at out s at ≡ Ok (record { kind = b; start = at + 1; stop = at + 1 })
 byte_header out {s} {at} b r can a x = alone_header out s at b (b / 16) (b % 16) (rest_head x) (omega (arith, rest-length x)) refl refl can a
 
 -- a float of 0, 4 or 8 bytes
 pub float_header : (out : Refusal) {s : List ℕ} {at : ℕ} (b l : ℕ) (body r : List ℕ) (stop : ℕ) → b / 16 ≡ 4 → b % 16 ≡ l → l < 14 → impossible 4 l ≡ false
-    → length body ≡ l → stop ≡ at + 1 + length body → Rest s at (b ∷ (body ++ r)) → header_at out s at ≡ H.Is b (at + 1) stop
+    → length body ≡ l → stop ≡ at + 1 + length body → Rest s at (b ∷ (body ++ r)) → header_at out s at ≡ Ok (record { kind = b; start = at + 1; stop = stop })
 float_header out {s} {at} b l body r stop hi lo lt can n e x =
     let all : length s ≡ at + (1 + (length body + length r)) = rest-length x ∙ ap (λ (k : ℕ). at + k) (omega (arith, length-append body r)) in
     short_header out s at b 4 l (rest_head x) (omega arith) hi lo can
@@ -103,4 +102,4 @@ float_header out {s} {at} b l body r stop hi lo lt can n e x =
 abbrev pub HeaderFound : ℕ → List ℕ → List ℕ → Type 0
 HeaderFound k h body =
     (out : Refusal) (s : List ℕ) (at : ℕ) (r : List ℕ) (start stop : ℕ) → start ≡ at + length h → stop ≡ start + length body
-    → Rest s at (h ++ (body ++ r)) → header_at out s at ≡ H.Is k start stop
+    → Rest s at (h ++ (body ++ r)) → header_at out s at ≡ Ok (record { kind = k; start = start; stop = stop })

@@ -1,8 +1,9 @@
 -- The other way, at one item: what an item that is found tells, test by test.
 -- Assumes nothing.
+use Rattle.std.specs.Prelude.{Result, Ok, Err, Some, None}
 use Prim.Native.Nat.{ℕ, ◌+◌, ◌≤◌, ◌<◌}
 use native.Mathlib.Omega.{arith}
-use mathlib.Core.Path.{◌≡◌, refl, ◌∙◌, ap}
+use mathlib.Core.Path.{◌≡◌, refl, ◌∙◌, ap, subst}
 use mathlib.Core.Logic.{◌≢◌}
 use mathlib.Core.Bool.{true, false, ◌&&◌, ◌||◌, not}
 use mathlib.Core.List.{List, [], ◌∷◌, ◌++◌}
@@ -13,112 +14,99 @@ use borrow.Author.Tests.{ltb-false, eqb-true, eqb-false, not-false}
 use Rattle.ion.proofs.Tests.{by_cases}
 use Rattle.reading.specs.declared.Refusal.{Refusal}
 use Rattle.reading.specs.declared.Number.{Number}
-use Rattle.reading.specs.declared.Number.TheVariants as N
-use Rattle.reading.specs.declared.Header.TheVariants as H
+use Rattle.reading.specs.declared.Header.{Header}
 use Rattle.reading.specs.declared.Wrapped.{Wrapped}
-use Rattle.reading.specs.declared.Wrapped.TheVariants as W
-use Rattle.reading.specs.declared.Item.TheVariants as I
+use Rattle.reading.specs.declared.Item.{Item}
 use Rattle.reading.specs.Headers.{marked}
 use Rattle.reading.specs.Items as S
-use Rattle.reading.specs.Items.{opens, falls, reads, name_at, head_in, unwrapped, judged, item_at}
+use Rattle.reading.specs.Items.{has_names, opens, falls, reads, name_at, head_in, unwrapped, judged, item_at}
 use Rattle.reading_grammar.proofs.Tests.{neither}
-use Rattle.reading_grammar.proofs.Framing.{no_header}
-
-no_item : {X : Type 0} {r : Refusal} {a b c d e g : ℕ} → I.No r ≡ I.Is a b c d e g → X
-no_item e = absurd (let z : ◌≡◌ {A = ℕ} 0 1 = cc in omega arith)
-
-no_end : {X : Type 0} {r : Refusal} → I.No r ≡ I.End → X
-no_end e = absurd (let z : ◌≡◌ {A = ℕ} 0 1 = cc in omega arith)
-
-end_no_item : {X : Type 0} {a b c d e g : ℕ} → I.End ≡ I.Is a b c d e g → X
-end_no_item e = absurd (let z : ◌≡◌ {A = ℕ} 0 1 = cc in omega arith)
-
-item_no_end : {X : Type 0} {a b c d e g : ℕ} → I.Is a b c d e g ≡ I.End → X
-item_no_end e = absurd (let z : ◌≡◌ {A = ℕ} 0 1 = cc in omega arith)
-
-item_injective : {a b c d e g a' b' c' d' e' g' : ℕ} → I.Is a b c d e g ≡ I.Is a' b' c' d' e' g'
-    → (a ≡ a') × (b ≡ b') × (c ≡ c') × (d ≡ d') × (e ≡ e') × (g ≡ g')
-item_injective e = (cc, cc, cc, cc, cc, cc)
 
 -- ---- the tests of an item
 
-pub record Judged (s : List ℕ) (parent least depth at name from to k start stop : ℕ) : Type 0 where
+-- an item without its name
+abbrev pub nameless : Item → Wrapped
+nameless i = record { sids = i.sids; sids_end = i.sids_end; kind = i.kind; start = i.start; stop = i.stop }
+
+pub record Judged (s : List ℕ) (parent least depth at : ℕ) (i : Item) : Type 0 where
   pub next : ℕ
   pub inside : at < length s
-  pub named : name_at s parent at ≡ N.Is name next
-  pub unwraps : unwrapped s (head_in s parent next) ≡ W.Is from to k start stop
-  pub rises : falls parent least k name ≡ false
-  pub good : reads k (slice start stop s) ≡ true
-  pub shallow : (opens k && leb 32 depth) ≡ false
+  pub named : name_at s parent at ≡ Ok (record { value = i.name; next = next })
+  pub unwraps : unwrapped s (head_in s parent next) ≡ Ok (nameless i)
+  pub rises : falls parent least i.kind i.name ≡ false
+  pub good : reads i.kind (slice i.start i.stop s) ≡ true
+  pub shallow : (opens i.kind && leb 32 depth) ≡ false
 
-module _ (s : List ℕ) (parent least depth at name from to k start stop : ℕ) (inside : at < length s) where
-  judged_wrapped : (m next : ℕ) → name_at s parent at ≡ N.Is m next → (o : Wrapped) → unwrapped s (head_in s parent next) ≡ o
-      → judged s parent least depth m o ≡ I.Is name from to k start stop
-      → Judged s parent least depth at name from to k start stop
-  judged_wrapped m next q (W.No r) u e = no_item e
-  judged_wrapped m next q (W.Is a b c d g) u e =
-      by_cases (falls parent least c m || not (reads c (slice d g s)))
-      (λ p. no_item (rw p at e))
-      (λ p. by_cases (opens c && leb 32 depth)
-      (λ y. no_item (rw y at (rw p at e)))
+module _ (s : List ℕ) (parent least depth at : ℕ) (i : Item) (inside : at < length s) where
+  judged_wrapped : (n : Number) → name_at s parent at ≡ Ok n → (o : Result Wrapped Refusal) → unwrapped s (head_in s parent n.next) ≡ o
+      → judged s parent least depth n.value o ≡ Ok (Some i) → Judged s parent least depth at i
+  judged_wrapped n q (Err r) u e = cc
+  judged_wrapped n q (Ok w) u e =
+      by_cases (falls parent least w.kind n.value || not (reads w.kind (slice w.start w.stop s)))
+      (λ p. cc)
+      (λ p. by_cases (opens w.kind && leb 32 depth)
+      (λ y. cc)
       (λ y.
-      let i = item_injective (rw y at (rw p at e)) in
-      let z = neither {a = falls parent least c m} p in
-      rw (← i.0, ← i.1, ← i.2, ← i.3, ← i.4, ← i.5)
-      (record { next = next; inside = inside; named = q; unwraps = u; rises = z.0; good = not-false (reads c (slice d g s)) z.1; shallow = y })))
+      let c : record { name = n.value; sids = w.sids; sids_end = w.sids_end; kind = w.kind; start = w.start; stop = w.stop } ≡ i = cc in
+      let z = neither {a = falls parent least w.kind n.value} p in
+      subst (λ (j : Item). Judged s parent least depth at j) c
+      (record { next = n.next; inside = inside; named = q; unwraps = u; rises = z.0; good = not-false (reads w.kind (slice w.start w.stop s)) z.1; shallow = y })))
 
-  judged-named : (o : Number) → name_at s parent at ≡ o → S.named s parent least depth o ≡ I.Is name from to k start stop
-      → Judged s parent least depth at name from to k start stop
-  judged-named (N.No r) q e = no_item e
-  judged-named (N.Is m next) q e = judged_wrapped m next q (unwrapped s (head_in s parent next)) refl e
+  judged-named : (o : Result Number Refusal) → name_at s parent at ≡ o → S.named s parent least depth o ≡ Ok (Some i) → Judged s parent least depth at i
+  judged-named (Err r) q e = cc
+  judged-named (Ok n) q e = judged_wrapped n q (unwrapped s (head_in s parent n.next)) refl e
 
-pub item_judged : (s : List ℕ) (parent least depth at name from to k start stop : ℕ)
-    → item_at s parent least depth at ≡ I.Is name from to k start stop → Judged s parent least depth at name from to k start stop
+pub item_judged : (s : List ℕ) (parent least depth at : ℕ) (i : Item) → item_at s parent least depth at ≡ Ok (Some i) → Judged s parent least depth at i
 unfolding item_at
-item_judged s parent least depth at name from to k start stop e =
+item_judged s parent least depth at i e =
     by_cases (ltb (length s) at)
-    (λ p. no_item (rw p at e))
+    (λ p. cc)
     (λ p. by_cases (eqb at (length s))
-    (λ q. end_no_item (rw q at (rw p at e)))
+    (λ q. cc)
     (λ q.
     let n : at ≢ length s = eqb-false at (length s) q in
     let h : at ≤ length s = ltb-false (length s) at p in
-    judged-named s parent least depth at name from to k start stop (omega arith) (name_at s parent at) refl (rw q at (rw p at e))))
+    judged-named s parent least depth at i (omega arith) (name_at s parent at) refl (rw q at (rw p at e))))
+
+without_name : (s : List ℕ) (parent at : ℕ) (n : Number) → has_names parent ≡ false → name_at s parent at ≡ Ok n → at ≡ n.next
+without_name s parent at n h e = cc
+
+-- where items have no name, the header stands at the place itself
+pub headed_here : {s : List ℕ} {parent least depth at : ℕ} {i : Item} (j : Judged s parent least depth at i) → has_names parent ≡ false → at ≡ j.next
+headed_here {s} {parent} {least} {depth} {at} {i} j h = without_name s parent at (record { value = i.name; next = j.next }) h j.named
 
 -- ---- the end
 
-wrapped_no_end : {X : Type 0} (s : List ℕ) (parent least depth m : ℕ) (o : Wrapped) → judged s parent least depth m o ≡ I.End → X
-wrapped_no_end s parent least depth m (W.No r) e = no_end e
-wrapped_no_end s parent least depth m (W.Is a b c d g) e =
-    by_cases (falls parent least c m || not (reads c (slice d g s)))
-    (λ p. no_end (rw p at e))
-    (λ p. by_cases (opens c && leb 32 depth)
-    (λ y. no_end (rw y at (rw p at e)))
-    (λ y. item_no_end (rw y at (rw p at e))))
+wrapped_no_end : {X : Type 0} (s : List ℕ) (parent least depth m : ℕ) (o : Result Wrapped Refusal) → judged s parent least depth m o ≡ Ok None → X
+wrapped_no_end s parent least depth m (Err r) e = cc
+wrapped_no_end s parent least depth m (Ok w) e =
+    by_cases (falls parent least w.kind m || not (reads w.kind (slice w.start w.stop s)))
+    (λ p. cc)
+    (λ p. by_cases (opens w.kind && leb 32 depth) (λ y. cc) (λ y. cc))
 
-named_no_end : {X : Type 0} (s : List ℕ) (parent least depth : ℕ) (o : Number) → S.named s parent least depth o ≡ I.End → X
-named_no_end s parent least depth (N.No r) e = no_end e
-named_no_end s parent least depth (N.Is m next) e = wrapped_no_end s parent least depth m (unwrapped s (head_in s parent next)) e
+named_no_end : {X : Type 0} (s : List ℕ) (parent least depth : ℕ) (o : Result Number Refusal) → S.named s parent least depth o ≡ Ok None → X
+named_no_end s parent least depth (Err r) e = cc
+named_no_end s parent least depth (Ok n) e = wrapped_no_end s parent least depth n.value (unwrapped s (head_in s parent n.next)) e
 
-pub item_end : (s : List ℕ) (parent least depth at : ℕ) → item_at s parent least depth at ≡ I.End → at ≡ length s
+pub item_end : (s : List ℕ) (parent least depth at : ℕ) → item_at s parent least depth at ≡ Ok None → at ≡ length s
 unfolding item_at
 item_end s parent least depth at e =
     by_cases (ltb (length s) at)
-    (λ p. no_end (rw p at e))
+    (λ p. cc)
     (λ p. by_cases (eqb at (length s))
     (λ q. eqb-true at (length s) q)
     (λ q. named_no_end s parent least depth (name_at s parent at) (rw q at (rw p at e))))
 
 -- ---- a version marker
 
-pub marked-bytes : (ms : List ℕ) (at : ℕ) (l : List ℕ) (k start stop : ℕ) → marked ms at l ≡ H.Is k start stop
-    → (r : List ℕ) × (l ≡ ms ++ r) × (k ≡ 0xE0) × (stop ≡ at + length ms) × (start ≡ stop)
+pub marked-bytes : (ms : List ℕ) (at : ℕ) (l : List ℕ) (h : Header) → marked ms at l ≡ Ok h
+    → (r : List ℕ) × (l ≡ ms ++ r) × (h.kind ≡ 0xE0) × (h.stop ≡ at + length ms) × (h.start ≡ h.stop)
 unfolding marked
-marked-bytes [] at l k start stop e = (l, refl, cc, (let z : at ≡ stop = cc in omega arith), cc)
-marked-bytes (m ∷ ms) at [] k start stop e = no_header e
-marked-bytes (m ∷ ms) at (b ∷ bs) k start stop e =
+marked-bytes [] at l h e = (l, refl, cc, (let z : at ≡ h.stop = cc in omega arith), cc)
+marked-bytes (m ∷ ms) at [] h e = cc
+marked-bytes (m ∷ ms) at (b ∷ bs) h e =
     by_cases (eqb b m)
     (λ p.
-    let d = marked-bytes ms (at + 1) bs k start stop (rw p at e) in
+    let d = marked-bytes ms (at + 1) bs h (rw p at e) in
     (d.0, ap (λ (y : ℕ). y ∷ bs) (eqb-true b m p) ∙ ap (m ∷◌) d.1, d.2, omega (arith, d.3), d.4))
-    (λ p. no_header (rw p at e))
+    (λ p. cc)

@@ -1,5 +1,6 @@
 -- VarUInts and sids: the number at a place is the grammar's, and the place behind it is where its bytes end. By recursion over the groups.
 -- Assumes nothing.
+use Rattle.std.specs.Prelude.{Ok}
 use Prim.Native.Nat.{ℕ, zero, suc, ◌+◌, ◌*◌, ◌%◌, ◌^◌, ◌≤◌, ◌<◌}
 use native.Mathlib.Omega.{arith}
 use mathlib.Core.Path.{◌≡◌, refl, sym, ◌∙◌, ap, subst}
@@ -16,7 +17,7 @@ use Rattle.ion.proofs.Tests.{by_cases}
 use Rattle.ion.proofs.Fields.{in_u64-some, some-in_u64, var_uint_append, var_uint-split, var_uint_pos}
 use Rattle.ion.proofs.Exact.{bind_some}
 use Rattle.reading.specs.declared.Refusal.{Refusal}
-use Rattle.reading.specs.declared.Number.TheVariants as N
+use Rattle.reading.specs.declared.Number.{Number}
 use Rattle.reading.specs.Headers.{var_uint_from, var_uint_at}
 use Rattle.reading.specs.Scalars.{sids_of}
 use Rattle.reading_grammar.proofs.Places.{Rest}
@@ -37,7 +38,7 @@ low_group : (b : ℕ) → ltb b 0x80 ≡ true → b % 128 ≡ b
 low_group b p = let h : b < 128 = ltb-true b 128 p in omega arith
 
 groups-found : (out : Refusal) (l : List ℕ) (acc at n : ℕ) (r : List ℕ) → groups acc l ≡ some (n, []) → n < 2 ^ 64
-    → var_uint_from out acc at (l ++ r) ≡ N.Is n (at + length l)
+    → var_uint_from out acc at (l ++ r) ≡ Ok (record { value = n; next = at + length l })
 unfolding groups var_uint_from
 groups-found out [] acc at n r e h = absurd (none-ne-some (n, []) e)
 groups-found out (b ∷ bs) acc at n r e h =
@@ -45,7 +46,7 @@ groups-found out (b ∷ bs) acc at n r e h =
     (λ p.
     let f : groups (acc * 128 + b) bs ≡ some (n, []) = rw (p, groups) at e in
     let k : acc * 128 + b < 2 ^ 64 = omega (arith, groups_grows bs (acc * 128 + b) n [] f) in
-    rw (low_group b p, p, var_uint_from, lt-ltb _ _ k) (groups-found out bs (acc * 128 + b) (at + 1) n r f h ∙ ap (λ (x : ℕ). N.Is n x) (omega arith)))
+    rw (low_group b p, p, var_uint_from, lt-ltb _ _ k) (groups-found out bs (acc * 128 + b) (at + 1) n r f h ∙ ap (λ (x : ℕ). Ok (record { value = n; next = x })) (omega arith)))
     (λ p.
     let f : ◌≡◌ {A = Option (ℕ × List ℕ)} (some (acc * 128 + b % 128, bs)) (some (n, [])) = rw (p, groups) at e in
     let g : acc * 128 + b % 128 ≡ n = ap (λ (x : ℕ × List ℕ). x.0) (some-injective _ _ f) in
@@ -53,7 +54,7 @@ groups-found out (b ∷ bs) acc at n r e h =
     rw (g, p, var_uint_from, lt-ltb n (2 ^ 64) h, z))
 
 pub number-found : (out : Refusal) {s : List ℕ} {at : ℕ} (l : List ℕ) {n : ℕ} (r : List ℕ) (next : ℕ) → VarUInt l n → next ≡ at + length l
-    → Rest s at (l ++ r) → var_uint_at out s at ≡ N.Is n next
+    → Rest s at (l ++ r) → var_uint_at out s at ≡ Ok (record { value = n; next = next })
 unfolding var_uint_at var_uint
 number-found out {s} {at} l {n} r next e k h =
     let q = in_u64-some (groups 0 l) n [] e in
@@ -61,55 +62,49 @@ number-found out {s} {at} l {n} r next e k h =
 
 -- ---- what is found is a VarUInt
 
--- the bytes l, from the place `at`, begin with the groups of v after acc, and go on at `next`
-record Found (acc at : ℕ) (l : List ℕ) (v next : ℕ) : Type 0 where
+-- the bytes l, from the place `at`, begin with the groups of a number after acc, and go on behind it
+record Grouped (acc at : ℕ) (l : List ℕ) (n : Number) : Type 0 where
   front : List ℕ
   rest : List ℕ
   joins : l ≡ front ++ rest
-  reads : groups acc front ≡ some (v, [])
-  fits : ltb v (2 ^ 64) ≡ true
-  ends : next ≡ at + length front
+  reads : groups acc front ≡ some (n.value, [])
+  fits : ltb n.value (2 ^ 64) ≡ true
+  ends : n.next ≡ at + length front
 
-pub number_injective : {v w m n : ℕ} → N.Is v m ≡ N.Is w n → (v ≡ w) × (m ≡ n)
-number_injective e = (cc, cc)
-
-no_number : {X : Type 0} {r : Refusal} {w n : ℕ} → N.No r ≡ N.Is w n → X
-no_number e = absurd (let z : ◌≡◌ {A = ℕ} 0 1 = cc in omega arith)
-
-found-groups : (out : Refusal) (l : List ℕ) (acc at v next : ℕ) → var_uint_from out acc at l ≡ N.Is v next → Found acc at l v next
+found-groups : (out : Refusal) (l : List ℕ) (acc at : ℕ) (n : Number) → var_uint_from out acc at l ≡ Ok n → Grouped acc at l n
 unfolding groups var_uint_from
-found-groups out [] acc at v next e = no_number e
-found-groups out (b ∷ bs) acc at v next e =
+found-groups out [] acc at n e = cc
+found-groups out (b ∷ bs) acc at n e =
     by_cases (ltb (acc * 128 + b % 128) (2 ^ 64))
     (λ k. by_cases (ltb b 0x80)
     (λ p.
-    let f = found-groups out bs (acc * 128 + b) (at + 1) v next (rw (low_group b p, p) at (rw (k, var_uint_from) at e)) in
+    let f = found-groups out bs (acc * 128 + b) (at + 1) n (rw (low_group b p, p) at (rw (k, var_uint_from) at e)) in
     record {
       front = b ∷ f.front;
       rest = f.rest;
-      joins = ap (b ∷◌) f.joins;
+      joins = cc (f.joins);
       reads = rw (p, groups) f.reads;
       fits = f.fits;
       ends = omega (arith, f.ends);
     })
     (λ p.
-    let f : N.Is (acc * 128 + b % 128) (at + 1) ≡ N.Is v next = rw p at (rw (k, var_uint_from) at e) in
-    let q = number_injective f in
-    record { front = b ∷ []; rest = bs; joins = refl; reads = rw (p, groups, q.0); fits = rw q.0 at k; ends = omega (arith, q.1) }))
-    (λ k. no_number (rw (k, var_uint_from) at e))
+    let v : acc * 128 + b % 128 ≡ n.value = cc in
+    let q : at + 1 ≡ n.next = cc in
+    record { front = b ∷ []; rest = bs; joins = refl; reads = rw (p, groups, v); fits = rw v at k; ends = omega arith }))
+    (λ k. cc)
 
-pub record Numbered (s : List ℕ) (at v next : ℕ) : Type 0 where
+pub record Numbered (s : List ℕ) (at : ℕ) (n : Number) : Type 0 where
   pub front : List ℕ
   pub rest : List ℕ
   pub joins : drop at s ≡ front ++ rest
-  pub reads : VarUInt front v
-  pub ends : next ≡ at + length front
+  pub reads : VarUInt front n.value
+  pub ends : n.next ≡ at + length front
 
-pub found_number : (out : Refusal) (s : List ℕ) (at v next : ℕ) → var_uint_at out s at ≡ N.Is v next → Numbered s at v next
+pub found_number : (out : Refusal) (s : List ℕ) (at : ℕ) (n : Number) → var_uint_at out s at ≡ Ok n → Numbered s at n
 unfolding var_uint_at var_uint
-found_number out s at v next e =
-    let f = found-groups out (drop at s) 0 at v next e in
-    record { front = f.front; rest = f.rest; joins = f.joins; reads = some-in_u64 (groups 0 f.front) v [] f.reads f.fits; ends = f.ends }
+found_number out s at n e =
+    let f = found-groups out (drop at s) 0 at n e in
+    record { front = f.front; rest = f.rest; joins = f.joins; reads = some-in_u64 (groups 0 f.front) n.value [] f.reads f.fits; ends = f.ends }
 
 -- ---- the sids that fill the bytes
 

@@ -1,5 +1,6 @@
 -- A value, bare or in its annotation wrapper, and a pad, at a place: as the walk finds them.
 -- Assumes nothing.
+use Rattle.std.specs.Prelude.{Ok}
 use Prim.Native.Nat.{ℕ, ◌+◌, ◌≤◌, ◌<◌}
 use native.Mathlib.Omega.{arith}
 use mathlib.Core.Path.{◌≡◌, refl, sym, ◌∙◌, ap}
@@ -16,8 +17,6 @@ use Rattle.ion.specs.Grammar.{Header}
 use Rattle.ion.proofs.Fields.{var_uint_pos}
 use Rattle.reading.specs.declared.Refusal.{Refusal}
 use Rattle.reading.specs.declared.Refusal.TheVariants.{NotIon}
-use Rattle.reading.specs.declared.Header.TheVariants as H
-use Rattle.reading.specs.declared.Wrapped.TheVariants as W
 use Rattle.reading.specs.Headers.{header_at}
 use Rattle.reading.specs.Scalars.{sids_of}
 use Rattle.reading.specs.Items.{is_pad, is_marker, is_wrapper, opens, reads, wrapped_at, unwrapped}
@@ -49,7 +48,7 @@ pub record OneFound (b : List ℕ) (v : Value) : Type 0 where
   pub good : reads kind body ≡ true
   pub unwraps : (out : Refusal) (s : List ℕ) (at : ℕ) (r : List ℕ) (from to start stop : ℕ) → from ≡ at + length x
       → to ≡ from + length names → start ≡ to + length y → stop ≡ start + length body
-      → Rest s at (b ++ r) → unwrapped s (header_at out s at) ≡ W.Is from to kind start stop
+      → Rest s at (b ++ r) → unwrapped s (header_at out s at) ≡ Ok (record { sids = from; sids_end = to; kind = kind; start = start; stop = stop })
   pub walks : (t : List ℕ) (start f depth : ℕ) (name : Option ℕ) → Rest t start body → length body < f → depth + tree_depth v ≤ 32
       → content_walk f t depth name an kind start body ≡ shows (tree_events name v)
 
@@ -101,7 +100,7 @@ module _ (h l n b an : List ℕ) (a : ℕ) (v : Value) (hd : Header annotation_c
   -- the wrapper's body, of which t is the end: its value is found
   pub wrapped_found : (t : List ℕ) (at from to start stop : ℕ) → from ≡ at + length l → to ≡ from + length n
       → start ≡ to + length w.header → stop ≡ start + length w.body → length t ≡ stop
-      → Rest t at (l ++ (n ++ b)) → wrapped_at t at ≡ W.Is from to w.kind start stop
+      → Rest t at (l ++ (n ++ b)) → wrapped_at t at ≡ Ok (record { sids = from; sids_end = to; kind = w.kind; start = start; stop = stop })
   unfolding wrapped_at
   wrapped_found t at from to start stop p q i j len x =
       let y : Rest t from (n ++ b) = rest-next l (n ++ b) from p x in
@@ -180,7 +179,7 @@ pub record PadFound (b : List ℕ) : Type 0 where
   pub is : IsPadding kind
   pub size : ℕ
   pub headed : (out : Refusal) (s : List ℕ) (at : ℕ) (r : List ℕ) (stop : ℕ) → stop ≡ at + length b → Rest s at (b ++ r)
-      → header_at out s at ≡ H.Is kind (at + size) stop
+      → header_at out s at ≡ Ok (record { kind = kind; start = at + size; stop = stop })
 
 pad_usual : (n : ℕ) → Usual 0 n
 pad_usual n = record { shortly = λ lt. refl; at_length = refl; framed = refl; plain = refl; short_fits = refl; long_fits = refl }

@@ -1,5 +1,7 @@
 -- A walk that comes to its end shows a reading: by recursion over the fuel.
 -- Assumes nothing.
+use Rattle.std.specs.Prelude.{Ok, Err, Some, None}
+use Rattle.reading.specs.Items.{Found}
 use Prim.Native.Nat.{ℕ, zero, suc, ◌+◌, ◌≤◌, ◌<◌}
 use native.Mathlib.Omega.{arith}
 use mathlib.Core.Path.{◌≡◌, refl, sym, ◌∙◌, ap, subst}
@@ -17,9 +19,6 @@ use Rattle.ion.specs.Grammar.{sorted, members, fields, stream, ◌⟶◌, member
 use Rattle.ion.specs.Grammar.{fields_pad, fields-next, stream_end, stream_pad, stream_marker, stream_next}
 use Rattle.ion.proofs.Tests.{by_cases, and-true}
 use Rattle.reading.specs.declared.Refusal.TheVariants.{NotIon}
-use Rattle.reading.specs.declared.Item.{Item as Found}
-use Rattle.reading.specs.declared.Item.TheVariants as I
-use Rattle.reading.specs.declared.Reading.TheVariants as R
 use Rattle.reading.specs.Items.{is_pad, is_stream, has_names, is_sorted_struct, falls, raised, item_at}
 use Rattle.reading.specs.Walk as Shown
 use Rattle.reading.specs.Walk.{Event, leaf, begins, ends, tree_events, member_events, field_events, stream_events, tree_depth, members_depth, fields_depth}
@@ -28,9 +27,9 @@ use Rattle.reading.specs.Walk.{step_walk, walk_from, walk_in, walk}
 use Rattle.reading_grammar.specs.Exact.{WalkIsReading}
 use Rattle.reading_grammar.proofs.Tests.{contrary}
 use Rattle.reading_grammar.proofs.Places.{Rest, rest-length, rest-next}
-use Rattle.reading_grammar.proofs.Numbers.{found_number, number_injective}
-use Rattle.reading_grammar.proofs.Items.{item_judged, item_end}
-use Rattle.reading_grammar.proofs.Values.{refused_not_whole, then_whole, MembersRead, FieldsRead, MembersSound, FieldsSound, ItemRead, a_pad}
+use Rattle.reading_grammar.proofs.Numbers.{found_number}
+use Rattle.reading_grammar.proofs.Items.{item_judged, headed_here, item_end}
+use Rattle.reading_grammar.proofs.Values.{then_whole, MembersRead, FieldsRead, MembersSound, FieldsSound, ItemRead, a_pad}
 use Rattle.reading_grammar.proofs.Values.{a_value, a_marker, item_read}
 
 -- ---- bodies
@@ -108,35 +107,35 @@ fields_item s parent least depth next stop k name l m es ws n ns up v x (a_marke
 module _ (f : ℕ) (ihm : MembersSound f) (ihf : FieldsSound f) where
   members_step : (s : List ℕ) (parent least depth at : ℕ) (b : List ℕ) → has_names parent ≡ false → is_stream parent ≡ false → depth ≤ 32
       → Rest s at b → length b < suc f
-      → (i : Found) → item_at s parent least depth at ≡ i → (step_walk (λ t p l d m. walk_from f t p l d m) s parent least depth at i).1 ≡ R.Whole
+      → (i : Found) → item_at s parent least depth at ≡ i → (step_walk (λ t p l d m. walk_from f t p l d m) s parent least depth at i).1 ≡ Ok tt
       → MembersRead b depth (step_walk (λ t p l d m. walk_from f t p l d m) s parent least depth at i).0
   unfolding member_events members_depth
-  members_step s parent least depth at b n ns le x size (I.No r) q e = refused_not_whole e
-  members_step s parent least depth at b n ns le x size I.End q e =
+  members_step s parent least depth at b n ns le x size (Err r) q e = cc
+  members_step s parent least depth at b n ns le x size (Ok None) q e =
       record { vs = no_members; reading = rw (nothing_left b x (item_end s parent least depth at q)) members_end; shallow = omega arith; shown = refl }
-  members_step s parent least depth at b n ns le x size (I.Is name from to k start stop) q e =
-      let j = item_judged s parent least depth at name from to k start stop q in
+  members_step s parent least depth at b n ns le x size (Ok (Some i)) q e =
+      let j = item_judged s parent least depth at i q in
       let t =
-      then_whole (item_walk (λ t p l d m. walk_from f t p l d m) s parent depth name from to k start stop)
-      (walk_from f s parent (raised least k name) depth stop) e in
-      let here : at ≡ j.next = (number_injective (rw n at j.named)).1 in
-      let i =
-      item_read f ihm ihf s parent least depth at name from to k start stop j le (omega (arith, rest-length x)) (omega arith)
+      then_whole (item_walk (λ t p l d m. walk_from f t p l d m) s parent depth i)
+      (walk_from f s parent (raised least i.kind i.name) depth i.stop) e in
+      let here : at ≡ j.next = headed_here j n in
+      let d =
+      item_read f ihm ihf s parent least depth at i j le (omega (arith, rest-length x)) (omega arith)
       (omega (arith, j.inside)) t.0 in
       subst (λ (es : List Event). MembersRead b depth es) (sym t.2)
-      (members_item s parent depth j.next stop k name b
-      (item_walk (λ t p l d m. walk_from f t p l d m) s parent depth name from to k start stop).0
-      (walk_from f s parent (raised least k name) depth stop).0 n ns
-      (subst (λ (m : ℕ). Rest s m b) here x) i
-      (λ r y lt. ihm s parent (raised least k name) depth stop r n ns le y (omega arith) t.1))
+      (members_item s parent depth j.next i.stop i.kind i.name b
+      (item_walk (λ t p l d m. walk_from f t p l d m) s parent depth i).0
+      (walk_from f s parent (raised least i.kind i.name) depth i.stop).0 n ns
+      (subst (λ (m : ℕ). Rest s m b) here x) d
+      (λ r y lt. ihm s parent (raised least i.kind i.name) depth i.stop r n ns le y (omega arith) t.1))
 
   fields_step : (s : List ℕ) (parent least depth at : ℕ) (b : List ℕ) → has_names parent ≡ true → is_stream parent ≡ false → depth ≤ 32
       → Rest s at b → length b < suc f
-      → (i : Found) → item_at s parent least depth at ≡ i → (step_walk (λ t p l d m. walk_from f t p l d m) s parent least depth at i).1 ≡ R.Whole
+      → (i : Found) → item_at s parent least depth at ≡ i → (step_walk (λ t p l d m. walk_from f t p l d m) s parent least depth at i).1 ≡ Ok tt
       → FieldsRead b parent least depth (step_walk (λ t p l d m. walk_from f t p l d m) s parent least depth at i).0
   unfolding field_events fields_depth
-  fields_step s parent least depth at b n ns le x size (I.No r) q e = refused_not_whole e
-  fields_step s parent least depth at b n ns le x size I.End q e =
+  fields_step s parent least depth at b n ns le x size (Err r) q e = cc
+  fields_step s parent least depth at b n ns le x size (Ok None) q e =
       record {
         fs = no_fields;
         reading = rw (nothing_left b x (item_end s parent least depth at q)) fields_end;
@@ -144,27 +143,26 @@ module _ (f : ℕ) (ihm : MembersSound f) (ihf : FieldsSound f) where
         shown = refl;
         rises = λ g. refl;
       }
-  fields_step s parent least depth at b n ns le x size (I.Is name from to k start stop) q e =
-      let j = item_judged s parent least depth at name from to k start stop q in
+  fields_step s parent least depth at b n ns le x size (Ok (Some i)) q e =
+      let j = item_judged s parent least depth at i q in
       let t =
-      then_whole (item_walk (λ t p l d m. walk_from f t p l d m) s parent depth name from to k start stop)
-      (walk_from f s parent (raised least k name) depth stop) e in
-      let v = found_number NotIon s at name j.next (rw n at j.named) in
+      then_whole (item_walk (λ t p l d m. walk_from f t p l d m) s parent depth i)
+      (walk_from f s parent (raised least i.kind i.name) depth i.stop) e in
+      let v = found_number NotIon s at (record { value = i.name; next = j.next }) (rw n at j.named) in
       let x' : Rest s at (v.front ++ v.rest) = record { within = x.within; is = v.joins } in
       let y : Rest s j.next v.rest = rest-next v.front v.rest j.next v.ends x' in
       let c : b ≡ v.front ++ v.rest = rest_unique x x' in
-      let i =
-      item_read f ihm ihf s parent least depth at name from to k start stop j le (omega (arith, rest-length x)) (omega (arith, v.ends))
+      let d =
+      item_read f ihm ihf s parent least depth at i j le (omega (arith, rest-length x)) (omega (arith, v.ends))
       y.within t.0 in
       subst (λ (es : List Event). FieldsRead b parent least depth es) (sym t.2)
-      (subst (λ (u : List ℕ). FieldsRead u parent least depth ((item_walk (λ t p l d m. walk_from f t p l d m) s parent depth name from to k
-      start stop).0
-      ++ (walk_from f s parent (raised least k name) depth stop).0)) (sym c)
-      (fields_item s parent least depth j.next stop k name v.front v.rest
-      (item_walk (λ t p l d m. walk_from f t p l d m) s parent depth name from to k start stop).0
-      (walk_from f s parent (raised least k name) depth stop).0
-      n ns j.rises v.reads y i
-      (λ r z lt. ihf s parent (raised least k name) depth stop r n ns le z (omega (arith, ap length c, length-append v.front v.rest)) t.1)))
+      (subst (λ (u : List ℕ). FieldsRead u parent least depth ((item_walk (λ t p l d m. walk_from f t p l d m) s parent depth i).0
+      ++ (walk_from f s parent (raised least i.kind i.name) depth i.stop).0)) (sym c)
+      (fields_item s parent least depth j.next i.stop i.kind i.name v.front v.rest
+      (item_walk (λ t p l d m. walk_from f t p l d m) s parent depth i).0
+      (walk_from f s parent (raised least i.kind i.name) depth i.stop).0
+      n ns j.rises v.reads y d
+      (λ r z lt. ihf s parent (raised least i.kind i.name) depth i.stop r n ns le z (omega (arith, ap length c, length-append v.front v.rest)) t.1)))
 
 -- with enough fuel, walks over bodies that come to their end show readings
 pub bodies_sound : (f : ℕ) → MembersSound f × FieldsSound f
@@ -221,28 +219,28 @@ stream_item s at stop k name b es ws x (a_marker r y e st pd z) ih =
 
 abbrev StreamSound : ℕ → Type 0
 StreamSound f =
-    (s : List ℕ) (least at : ℕ) (b : List ℕ) → Rest s at b → length b < f → (walk_from f s 0 least 0 at).1 ≡ R.Whole
+    (s : List ℕ) (least at : ℕ) (b : List ℕ) → Rest s at b → length b < f → (walk_from f s 0 least 0 at).1 ≡ Ok tt
     → StreamRead b (walk_from f s 0 least 0 at).0
 
 stream_step : (f : ℕ) → StreamSound f → (s : List ℕ) (least at : ℕ) (b : List ℕ) → Rest s at b → length b < suc f
-    → (i : Found) → item_at s 0 least 0 at ≡ i → (step_walk (λ t p l d m. walk_from f t p l d m) s 0 least 0 at i).1 ≡ R.Whole
+    → (i : Found) → item_at s 0 least 0 at ≡ i → (step_walk (λ t p l d m. walk_from f t p l d m) s 0 least 0 at i).1 ≡ Ok tt
     → StreamRead b (step_walk (λ t p l d m. walk_from f t p l d m) s 0 least 0 at i).0
 unfolding stream_events stream_depth
-stream_step f ih s least at b x size (I.No r) q e = refused_not_whole e
-stream_step f ih s least at b x size I.End q e =
+stream_step f ih s least at b x size (Err r) q e = cc
+stream_step f ih s least at b x size (Ok None) q e =
     record { is = []; reading = rw (nothing_left b x (item_end s 0 least 0 at q)) stream_end; shallow = omega arith; shown = refl }
-stream_step f ih s least at b x size (I.Is name from to k start stop) q e =
-    let j = item_judged s 0 least 0 at name from to k start stop q in
-    let t = then_whole (item_walk (λ t p l d m. walk_from f t p l d m) s 0 0 name from to k start stop) (walk_from f s 0 (raised least k name) 0 stop) e in
-    let here : at ≡ j.next = (number_injective j.named).1 in
-    let i =
-    item_read f (bodies_sound f).0 (bodies_sound f).1 s 0 least 0 at name from to k start stop j (omega arith)
+stream_step f ih s least at b x size (Ok (Some i)) q e =
+    let j = item_judged s 0 least 0 at i q in
+    let t = then_whole (item_walk (λ t p l d m. walk_from f t p l d m) s 0 0 i) (walk_from f s 0 (raised least i.kind i.name) 0 i.stop) e in
+    let here : at ≡ j.next = headed_here j refl in
+    let d =
+    item_read f (bodies_sound f).0 (bodies_sound f).1 s 0 least 0 at i j (omega arith)
     (omega (arith, rest-length x)) (omega arith) (omega (arith, j.inside)) t.0 in
     subst (λ (es : List Event). StreamRead b es) (sym t.2)
-    (stream_item s j.next stop k name b (item_walk (λ t p l d m. walk_from f t p l d m) s 0 0 name from to k start stop).0
-    (walk_from f s 0 (raised least k name) 0 stop).0
-    (subst (λ (m : ℕ). Rest s m b) here x) i
-    (λ r y lt. ih s (raised least k name) stop r y (omega arith) t.1))
+    (stream_item s j.next i.stop i.kind i.name b (item_walk (λ t p l d m. walk_from f t p l d m) s 0 0 i).0
+    (walk_from f s 0 (raised least i.kind i.name) 0 i.stop).0
+    (subst (λ (m : ℕ). Rest s m b) here x) d
+    (λ r y lt. ih s (raised least i.kind i.name) i.stop r y (omega arith) t.1))
 
 stream_sound : (f : ℕ) → StreamSound f
 unfolding walk_from
@@ -255,14 +253,14 @@ walk_is : (s : List ℕ) (at : ℕ) → walk s at ≡ walk_from (suc (length s))
 unfolding walk_in
 walk_is s at = rw (le-leb (length s) (length s) (omega arith), take-length s)
 
-starts_within : (f : ℕ) (s : List ℕ) (at : ℕ) → (walk_from (suc f) s 0 0 0 at).1 ≡ R.Whole → at ≤ length s
+starts_within : (f : ℕ) (s : List ℕ) (at : ℕ) → (walk_from (suc f) s 0 0 0 at).1 ≡ Ok tt → at ≤ length s
 unfolding walk_from item_at
-starts_within f s at e = by_cases (ltb (length s) at) (λ p. refused_not_whole (rw p at e)) (λ p. ltb-false (length s) at p)
+starts_within f s at e = by_cases (ltb (length s) at) (λ p. cc) (λ p. ltb-false (length s) at p)
 
 -- A walk that comes to its end shows a reading, with at most 32 containers open at once.
 pub walk_is_reading : WalkIsReading
 walk_is_reading s at e =
-    let w : (walk_from (suc (length s)) s 0 0 0 at).1 ≡ R.Whole = rw (walk_is s at) at e in
+    let w : (walk_from (suc (length s)) s 0 0 0 at).1 ≡ Ok tt = rw (walk_is s at) at e in
     let h : at ≤ length s = starts_within (length s) s at w in
     let m = stream_sound (suc (length s)) s 0 at (drop at s) (record { within = h; is = refl }) (omega (arith, length-drop at s)) w in
     (h, (m.is, (m.reading, (m.shallow, ap (λ (x : Walk). x.0) (walk_is s at) ∙ m.shown))))

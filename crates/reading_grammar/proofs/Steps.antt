@@ -1,5 +1,6 @@
 -- One step of the walk, at a value, at a pad and at a version marker of the grammar.
 -- Assumes nothing.
+use Rattle.std.specs.Prelude.{Ok, Some}
 use Prim.Native.Nat.{ℕ, suc, ◌+◌, ◌/◌, ◌%◌, ◌≤◌, ◌<◌}
 use native.Mathlib.Omega.{arith}
 use mathlib.Core.Path.{◌≡◌, sym, ◌∙◌, ap}
@@ -14,8 +15,6 @@ use Rattle.ion.specs.Value.{Value}
 use Rattle.ion.proofs.Tests.{by_cases}
 use Rattle.reading.specs.declared.Refusal.{Refusal}
 use Rattle.reading.specs.declared.Refusal.TheVariants.{NotIon, CutShort}
-use Rattle.reading.specs.declared.Number.TheVariants as N
-use Rattle.reading.specs.declared.Item.TheVariants as I
 use Rattle.reading.specs.Headers.{header_at, marked, marker_at, top_header_at}
 use Rattle.reading.specs.Scalars.{code_from, body_of, scalar_in}
 use Rattle.reading.specs.Items.{is_pad, opens, is_sorted_struct, is_stream, name_at, head_in, item_at}
@@ -41,7 +40,7 @@ not_deep : (k depth d : ℕ) → (opens k ≡ true → 0 < d) → depth + d ≤ 
 not_deep k depth d g h = by_cases (opens k) (λ p. let z : 0 < d = g p in rw (p, lt-leb 32 depth (omega arith))) (λ p. rw p)
 
 module _ (s : List ℕ) (parent least depth at name next : ℕ) (b : List ℕ) (v : Value) (r : List ℕ) (w : OneFound b v)
-    (inside : at < length s) (named : name_at s parent at ≡ N.Is name next)
+    (inside : at < length s) (named : name_at s parent at ≡ Ok (record { value = name; next = next }))
     (x : Rest s next (b ++ r)) (rises : (is_sorted_struct parent && ltb name least) ≡ false)
     (from to start stop : ℕ) (p : from ≡ next + length w.x) (q : to ≡ from + length w.names) (i : start ≡ to + length w.y)
     (j : stop ≡ start + length w.body) where
@@ -63,7 +62,7 @@ module _ (s : List ℕ) (parent least depth at name next : ℕ) (b : List ℕ) (
   first_byte = ne_eqb (get_or s next 0) 0xE0 (λ e. w.byte (sym (front_byte w.x (w.names ++ (w.y ++ (w.body ++ r))) w.pos apart) ∙ e))
 
   -- the item, where one more container may be open
-  pub item_placed : (opens w.kind && leb 32 depth) ≡ false → item_at s parent least depth at ≡ I.Is name from to w.kind start stop
+  pub item_placed : (opens w.kind && leb 32 depth) ≡ false → item_at s parent least depth at ≡ Ok (Some (record { name = name; sids = from; sids_end = to; kind = w.kind; start = start; stop = stop }))
   unfolding item_at
   item_placed low =
       rw (
@@ -80,17 +79,18 @@ module _ (s : List ℕ) (parent least depth at name next : ℕ) (b : List ℕ) (
       )
 
 module _ (s : List ℕ) (parent least depth at name next : ℕ) (b : List ℕ) (v : Value) (r : List ℕ) (w : OneFound b v)
-    (inside : at < length s) (named : name_at s parent at ≡ N.Is name next)
+    (inside : at < length s) (named : name_at s parent at ≡ Ok (record { value = name; next = next }))
     (x : Rest s next (b ++ r)) (rises : (is_sorted_struct parent && ltb name least) ≡ false) (shallow : depth + tree_depth v ≤ 32)
     (from to start stop : ℕ) (p : from ≡ next + length w.x) (q : to ≡ from + length w.names) (i : start ≡ to + length w.y)
     (j : stop ≡ start + length w.body) where
-  item_found : item_at s parent least depth at ≡ I.Is name from to w.kind start stop
+  item_found : item_at s parent least depth at ≡ Ok (Some (record { name = name; sids = from; sids_end = to; kind = w.kind; start = start; stop = stop }))
   item_found =
       item_placed s parent least depth at name next b v r w inside named x rises from to start stop p q i j
       (not_deep w.kind depth (tree_depth v) w.deep shallow)
 
   item_walks : (f : ℕ) → length b ≤ f
-      → item_walk (λ t k l d m. walk_from f t k l d m) s parent depth name from to w.kind start stop
+      → item_walk (λ t k l d m. walk_from f t k l d m) s parent depth
+      (record { name = name; sids = from; sids_end = to; kind = w.kind; start = start; stop = stop })
       ≡ shows (tree_events (name_in parent name) v)
   item_walks f h =
       let lt : length w.body < f =
@@ -127,14 +127,14 @@ pad_shows-none k body e =
     rw (hi, lo, ne_eqb k 15 (λ q. omega arith))
 
 module _ (s : List ℕ) (parent least depth at name next : ℕ) (b r : List ℕ) (w : PadFound b) (inside : at < length s)
-    (named : name_at s parent at ≡ N.Is name next) (x : Rest s next (b ++ r))
+    (named : name_at s parent at ≡ Ok (record { value = name; next = next })) (x : Rest s next (b ++ r))
     (stop : ℕ) (j : stop ≡ next + length b) where
   pad_byte : eqb (get_or s next 0) 0xE0 ≡ false
   pad_byte =
       ne_eqb (get_or s next 0) 0xE0
       (λ e. let h : w.kind < 15 = ltb-true w.kind 15 w.is.pad in omega (arith, front_byte b r w.pos x, w.byte, h))
 
-  pub pad_item : item_at s parent least depth at ≡ I.Is name (next + w.size) (next + w.size) w.kind (next + w.size) stop
+  pub pad_item : item_at s parent least depth at ≡ Ok (Some (record { name = name; sids = next + w.size; sids_end = next + w.size; kind = w.kind; start = next + w.size; stop = stop }))
   unfolding item_at
   pad_item =
       rw (
@@ -156,7 +156,7 @@ module _ (s : List ℕ) (parent least depth at name next : ℕ) (b r : List ℕ)
 -- ---- a version marker, which only a stream has
 
 pub marker_item : {s : List ℕ} {at : ℕ} (least depth : ℕ) (b : List ℕ) → Rest s at (0xE0 ∷ 0x01 ∷ 0x00 ∷ 0xEA ∷ b)
-    → item_at s 0 least depth at ≡ I.Is 0 (at + 1 + 1 + 1 + 1) (at + 1 + 1 + 1 + 1) 0xE0 (at + 1 + 1 + 1 + 1) (at + 1 + 1 + 1 + 1)
+    → item_at s 0 least depth at ≡ Ok (Some (record { name = 0; sids = at + 1 + 1 + 1 + 1; sids_end = at + 1 + 1 + 1 + 1; kind = 0xE0; start = at + 1 + 1 + 1 + 1; stop = at + 1 + 1 + 1 + 1 }))
 unfolding item_at top_header_at marker_at marked
 marker_item {s} {at} least depth b x =
     rw (le-ltb (length s) at (omega (arith, rest-length x)), ne_eqb at (length s) (λ e. omega (arith, rest-length x)), rest_head x, x.is)

@@ -1,8 +1,9 @@
 -- The other way, at a value in its annotation wrapper: what is found is a wrapper of the grammar, or a bare value.
 -- Assumes nothing.
+use Rattle.std.specs.Prelude.{Result, Ok, Err}
 use Prim.Native.Nat.{ℕ, ◌+◌, ◌/◌, ◌%◌, ◌≤◌, ◌<◌}
 use native.Mathlib.Omega.{arith}
-use mathlib.Core.Path.{◌≡◌, refl, sym, ◌∙◌, ap}
+use mathlib.Core.Path.{◌≡◌, refl, sym, ◌∙◌, ap, subst}
 use mathlib.Core.Logic.{◌≢◌}
 use mathlib.Core.Bool.{true, false, ◌&&◌, ◌||◌, not}
 use mathlib.Core.List.{List, [], ◌∷◌, ◌++◌, append-nil, append_assoc}
@@ -18,10 +19,8 @@ use Rattle.ion.proofs.Tests.{by_cases, both}
 use Rattle.reading.specs.declared.Refusal.{Refusal}
 use Rattle.reading.specs.declared.Refusal.TheVariants.{NotIon}
 use Rattle.reading.specs.declared.Number.{Number}
-use Rattle.reading.specs.declared.Number.TheVariants as N
 use Rattle.reading.specs.declared.Header.{Header as Head}
-use Rattle.reading.specs.declared.Header.TheVariants as H
-use Rattle.reading.specs.declared.Wrapped.TheVariants as W
+use Rattle.reading.specs.declared.Wrapped.{Wrapped}
 use Rattle.reading.specs.Headers.{impossible, var_uint_at, header_at}
 use Rattle.reading.specs.Scalars.{is_some, sids_of}
 use Rattle.reading.specs.Items.{is_pad, is_wrapper, filled, annotated, wrapped_at, unwrapped}
@@ -31,126 +30,129 @@ use Rattle.reading_grammar.proofs.Places.{Rest, rest-length, rest-next, rest-sli
 use Rattle.reading_grammar.proofs.Numbers.{found_number, found_sids}
 use Rattle.reading_grammar.proofs.Framing.{Framing, Framed, header_framed, framing_header}
 
-pub no_wrapped : {X : Type 0} {r : Refusal} {a b c d e : ℕ} → W.No r ≡ W.Is a b c d e → X
-no_wrapped e = absurd (let z : ◌≡◌ {A = ℕ} 0 1 = cc in omega arith)
-
-wrapped_injective : {a b c d e a' b' c' d' e' : ℕ} → W.Is a b c d e ≡ W.Is a' b' c' d' e' → (a ≡ a') × (b ≡ b') × (c ≡ c') × (d ≡ d') × (e ≡ e')
-wrapped_injective e = (cc, cc, cc, cc, cc)
-
 -- ---- the body of a wrapper
 
 sids_none : {l an : List ℕ} → l ⟶ sids an → an ≡ [] → length l ≡ 0
 sids_none sids_end e = refl
 sids_none (sids_next l {b} {an} {a} v r) e = absurd (let z : ◌≡◌ {A = ℕ} 0 1 = cc in omega arith)
 
+-- what a wrapper holds, without its sids
+abbrev headed_by : Wrapped → Head
+headed_by w = record { kind = w.kind; start = w.start; stop = w.stop }
+
 -- the wrapper's body, from `at` to the end of t: the length l of the sids n, and the one value's bytes b
-record Wrapping (t : List ℕ) (at from to k start stop : ℕ) : Type 0 where
+record Wrapping (t : List ℕ) (at : ℕ) (w : Wrapped) : Type 0 where
   l : List ℕ
   n : List ℕ
   b : List ℕ
   an : List ℕ
   here : Rest t at (l ++ (n ++ b))
   sized : VarUInt l (length n)
-  starts : from ≡ at + length l
-  stops : to ≡ from + length n
+  starts : w.sids ≡ at + length l
+  stops : w.sids_end ≡ w.sids + length n
   known : sids_of n ≡ some an
   some_sid : an ≢ []
-  headed : header_at NotIon t to ≡ H.Is k start stop
-  pad : is_pad k ≡ false
-  wrapper : is_wrapper k ≡ false
-  ends : stop ≡ length t
+  headed : header_at NotIon t w.sids_end ≡ Ok (headed_by w)
+  pad : is_pad w.kind ≡ false
+  wrapper : is_wrapper w.kind ≡ false
+  ends : w.stop ≡ length t
 
-module _ (t : List ℕ) (at from to k start stop : ℕ) where
+module _ (t : List ℕ) (at : ℕ) (w : Wrapped) where
   wrapping_filled : (l n b an : List ℕ) (i j : ℕ) → Rest t at (l ++ (n ++ b)) → VarUInt l (length n) → i ≡ at + length l → j ≡ i + length n
       → sids_of n ≡ some an → an ≢ []
-      → (o : Head) → header_at NotIon t j ≡ o → filled t i j o ≡ W.Is from to k start stop → Wrapping t at from to k start stop
-  wrapping_filled l n b an i j x v p q y z (H.No r) u e = no_wrapped e
-  wrapping_filled l n b an i j x v p q y z (H.Is c f g) u e =
-      by_cases (is_pad c || (is_wrapper c || not (eqb g (length t))))
-      (λ m. no_wrapped (rw m at e))
+      → (o : Result Head Refusal) → header_at NotIon t j ≡ o → filled t i j o ≡ Ok w → Wrapping t at w
+  wrapping_filled l n b an i j x v p q y z (Err r) u e = cc
+  wrapping_filled l n b an i j x v p q y z (Ok h) u e =
+      by_cases (is_pad h.kind || (is_wrapper h.kind || not (eqb h.stop (length t))))
+      (λ m. cc)
       (λ m.
-      let d = neither {a = is_pad c} m in
-      let h = neither {a = is_wrapper c} d.1 in
-      let w = wrapped_injective (rw m at e) in
-      record {
+      let d = neither {a = is_pad h.kind} m in
+      let g = neither {a = is_wrapper h.kind} d.1 in
+      let c : record { sids = i; sids_end = j; kind = h.kind; start = h.start; stop = h.stop } ≡ w = cc in
+      subst (λ (x : Wrapped). Wrapping t at x) c
+      (record {
         l = l;
         n = n;
         b = b;
         an = an;
         here = x;
         sized = v;
-        starts = omega (arith, w.0);
-        stops = omega (arith, w.0, w.1);
+        starts = p;
+        stops = q;
         known = y;
         some_sid = z;
-        headed = rw (← w.1, ← w.2, ← w.3, ← w.4) u;
-        pad = rw (← w.2) d.0;
-        wrapper = rw (← w.2) h.0;
-        ends = sym w.4 ∙ eqb-true g (length t) (not-false (eqb g (length t)) h.1);
-      })
+        headed = u;
+        pad = d.0;
+        wrapper = g.0;
+        ends = eqb-true h.stop (length t) (not-false (eqb h.stop (length t)) g.1);
+      }))
 
-  wrapping_annotated : at ≤ length t → (o : Number) → var_uint_at NotIon t at ≡ o → annotated t o ≡ W.Is from to k start stop → Wrapping t at from to k start stop
-  wrapping_annotated le (N.No r) u e = no_wrapped e
-  wrapping_annotated le (N.Is c i) u e =
-      by_cases (leb 1 c && (leb (i + c) (length t) && is_some (sids_of (slice i (i + c) t))))
+  wrapping_annotated : at ≤ length t → (o : Result Number Refusal) → var_uint_at NotIon t at ≡ o → annotated t o ≡ Ok w → Wrapping t at w
+  wrapping_annotated le (Err r) u e = cc
+  wrapping_annotated le (Ok n) u e =
+      by_cases (leb 1 n.value && (leb (n.next + n.value) (length t) && is_some (sids_of (slice n.next (n.next + n.value) t))))
       (λ m.
-      let d = both {a = leb 1 c} m in
-      let g = both {a = leb (i + c) (length t)} d.1 in
-      let v = found_number NotIon t at c i u in
+      let d = both {a = leb 1 n.value} m in
+      let g = both {a = leb (n.next + n.value) (length t)} d.1 in
+      let v = found_number NotIon t at n u in
       let x : Rest t at (v.front ++ v.rest) = record { within = le; is = v.joins } in
-      let fits : c ≤ length v.rest = omega (arith, rest-length x, length-append v.front v.rest, v.ends, leb-true (i + c) (length t) g.0) in
-      let size : length (take c v.rest) ≡ c = length-take-le c v.rest fits in
-      let y : Rest t at (v.front ++ (take c v.rest ++ drop c v.rest)) = rw (take-append-drop c v.rest) x in
-      let z : slice i (i + c) t ≡ take c v.rest =
-      rest-slice (take c v.rest) (drop c v.rest) (i + c) (omega arith)
-      (rest-next v.front (take c v.rest ++ drop c v.rest) i v.ends y) in
-      let k = some_of (sids_of (take c v.rest)) (rw z at g.1) in
-      wrapping_filled v.front (take c v.rest) (drop c v.rest) k.0 i (i + c) y
+      let fits : n.value ≤ length v.rest = omega (arith, rest-length x, length-append v.front v.rest, v.ends, leb-true (n.next + n.value) (length t) g.0) in
+      let size : length (take n.value v.rest) ≡ n.value = length-take-le n.value v.rest fits in
+      let y : Rest t at (v.front ++ (take n.value v.rest ++ drop n.value v.rest)) = rw (take-append-drop n.value v.rest) x in
+      let z : slice n.next (n.next + n.value) t ≡ take n.value v.rest =
+      rest-slice (take n.value v.rest) (drop n.value v.rest) (n.next + n.value) (omega arith)
+      (rest-next v.front (take n.value v.rest ++ drop n.value v.rest) n.next v.ends y) in
+      let k = some_of (sids_of (take n.value v.rest)) (rw z at g.1) in
+      wrapping_filled v.front (take n.value v.rest) (drop n.value v.rest) k.0 n.next (n.next + n.value) y
       (v.reads ∙ ap (λ (j : ℕ). some (j, [])) (sym size)) v.ends (omega arith) k.1
-      (λ q. omega (arith, sids_none (found_sids (take c v.rest) k.0 k.1) q, leb-true 1 c d.0))
-      (header_at NotIon t (i + c)) refl (rw m at e))
-      (λ m. no_wrapped (rw m at e))
+      (λ q. omega (arith, sids_none (found_sids (take n.value v.rest) k.0 k.1) q, leb-true 1 n.value d.0))
+      (header_at NotIon t (n.next + n.value)) refl (rw m at e))
+      (λ m. cc)
 
-  wrapping : at ≤ length t → wrapped_at t at ≡ W.Is from to k start stop → Wrapping t at from to k start stop
+  wrapping : at ≤ length t → wrapped_at t at ≡ Ok w → Wrapping t at w
   unfolding wrapped_at
   wrapping le e = wrapping_annotated le (var_uint_at NotIon t at) refl e
 
 -- ---- a value, in its wrapper or not
 
--- the bytes p from `at` are a value whose type byte k, behind its annotations `an`, stands before `tail` and `body`
-pub record Valued (s : List ℕ) (at from to k start stop : ℕ) : Type 0 where
+-- the bytes p from `at` are a value whose type byte, behind its annotations `an`, stands before `tail` and `body`
+pub record Valued (s : List ℕ) (at : ℕ) (w : Wrapped) : Type 0 where
   pub an : List ℕ
   pub p : List ℕ
   pub rest : List ℕ
   pub tail : List ℕ
   pub body : List ℕ
   pub here : Rest s at (p ++ rest)
-  pub ends : stop ≡ at + length p
+  pub ends : w.stop ≡ at + length p
   pub shorter : length body < length p
-  pub known : annotations (sids_of (slice from to s)) ≡ an
-  pub held : slice start stop s ≡ body
-  pub inner : Rest (take stop s) start body
-  pub possible : impossible (k / 16) (k % 16) ≡ false
-  pub framing : Framing k (length body) tail
-  pub value : (v : Value) → (k ∷ (tail ++ body)) ⟶ bare an v → p ⟶ one v
-  pub pad : is_pad k ≡ true → p ≡ k ∷ (tail ++ body)
+  pub known : annotations (sids_of (slice w.sids w.sids_end s)) ≡ an
+  pub held : slice w.start w.stop s ≡ body
+  pub inner : Rest (take w.stop s) w.start body
+  pub possible : impossible (w.kind / 16) (w.kind % 16) ≡ false
+  pub framing : Framing w.kind (length body) tail
+  pub value : (v : Value) → (w.kind ∷ (tail ++ body)) ⟶ bare an v → p ⟶ one v
+  pub pad : is_pad w.kind ≡ true → p ≡ w.kind ∷ (tail ++ body)
 
-bare_valued : (s : List ℕ) (at k start stop : ℕ) → Framed s at k start stop → Valued s at start start k start stop
+-- a value as it stands: no sids
+abbrev as_it_stands : Head → Wrapped
+as_it_stands h = record { sids = h.start; sids_end = h.start; kind = h.kind; start = h.start; stop = h.stop }
+
+bare_valued : (s : List ℕ) (at : ℕ) (h : Head) → Framed s at h → Valued s at (as_it_stands h)
 unfolding sids_of var_uints
-bare_valued s at k start stop f =
-    let x : Rest s start (f.body ++ f.rest) = rest-next (k ∷ f.tail) (f.body ++ f.rest) start (omega (arith, f.starts)) f.here in
+bare_valued s at h f =
+    let x : Rest s h.start (f.body ++ f.rest) = rest-next (h.kind ∷ f.tail) (f.body ++ f.rest) h.start (omega (arith, f.starts)) f.here in
     record {
       an = [];
-      p = k ∷ (f.tail ++ f.body);
+      p = h.kind ∷ (f.tail ++ f.body);
       rest = f.rest;
       tail = f.tail;
       body = f.body;
       here = rw (append_assoc f.tail f.body f.rest) f.here;
       ends = omega (arith, f.starts, f.stops, length-append f.tail f.body);
       shorter = omega (arith, length-append f.tail f.body);
-      known = rw (slice_empty start s);
-      held = rest-slice f.body f.rest stop f.stops x;
-      inner = rest_within f.body f.rest stop f.stops x;
+      known = rw (slice_empty h.start s);
+      held = rest-slice f.body f.rest h.stop f.stops x;
+      inner = rest_within f.body f.rest h.stop f.stops x;
       possible = f.possible;
       framing = f.framing;
       value = λ v r. is_bare r;
@@ -174,50 +176,49 @@ nothing_left : (b r : List ℕ) → length (b ++ r) ≡ length b → b ++ r ≡ 
 nothing_left b [] e = append-nil b
 nothing_left b (x ∷ r) e = absurd (omega (arith, length-append b (x ∷ r)))
 
-module _ (s : List ℕ) (at c i j from to k start stop : ℕ) (f : Framed s at c i j) (wr : is_wrapper c ≡ true)
-    (w : Wrapping (take j s) i from to k start stop) where
-  in_s : Rest s i (f.body ++ f.rest)
-  in_s = rest-next (c ∷ f.tail) (f.body ++ f.rest) i (omega (arith, f.starts)) f.here
+module _ (s : List ℕ) (at : ℕ) (h : Head) (f : Framed s at h) (wr : is_wrapper h.kind ≡ true) (v : Wrapped) (w : Wrapping (take h.stop s) h.start v) where
+  in_s : Rest s h.start (f.body ++ f.rest)
+  in_s = rest-next (h.kind ∷ f.tail) (f.body ++ f.rest) h.start (omega (arith, f.starts)) f.here
 
-  in_t : Rest (take j s) i f.body
-  in_t = rest_within f.body f.rest j f.stops in_s
+  in_t : Rest (take h.stop s) h.start f.body
+  in_t = rest_within f.body f.rest h.stop f.stops in_s
 
   body_parts : f.body ≡ w.l ++ (w.n ++ w.b)
   body_parts = sym in_t.is ∙ w.here.is
 
-  ends_there : stop ≡ j
+  ends_there : v.stop ≡ h.stop
   ends_there = w.ends ∙ rest-length in_t ∙ sym f.stops
 
-  inner_head : Framed (take j s) to k start stop
-  inner_head = header_framed NotIon (take j s) to k start stop w.headed
+  inner_head : Framed (take h.stop s) v.sids_end (headed_by v)
+  inner_head = header_framed NotIon (take h.stop s) v.sids_end (headed_by v) w.headed
 
-  at_value : Rest (take j s) to w.b
-  at_value = rest-next w.n w.b to w.stops (rest-next w.l (w.n ++ w.b) from w.starts w.here)
+  at_value : Rest (take h.stop s) v.sids_end w.b
+  at_value = rest-next w.n w.b v.sids_end w.stops (rest-next w.l (w.n ++ w.b) v.sids w.starts w.here)
 
-  value_bytes : w.b ≡ k ∷ (inner_head.tail ++ inner_head.body)
+  value_bytes : w.b ≡ v.kind ∷ (inner_head.tail ++ inner_head.body)
   value_bytes =
       let g = inner_head in
-      let e : w.b ≡ k ∷ (g.tail ++ (g.body ++ g.rest)) = sym at_value.is ∙ g.here.is in
+      let e : w.b ≡ v.kind ∷ (g.tail ++ (g.body ++ g.rest)) = sym at_value.is ∙ g.here.is in
       let z : length (g.body ++ g.rest) ≡ length g.body =
       omega (arith, rest-length g.here, g.starts, g.stops, w.ends, length-append g.tail (g.body ++ g.rest)) in
       rw (nothing_left g.body g.rest z) at e
 
-  all_here : Rest s i (w.l ++ (w.n ++ (k ∷ (inner_head.tail ++ (inner_head.body ++ f.rest)))))
+  all_here : Rest s h.start (w.l ++ (w.n ++ (v.kind ∷ (inner_head.tail ++ (inner_head.body ++ f.rest)))))
   all_here = simp append_assoc at (rw value_bytes at (rw body_parts at in_s))
 
-  body_there : Rest s start (inner_head.body ++ f.rest)
+  body_there : Rest s v.start (inner_head.body ++ f.rest)
   body_there =
       let g = inner_head in
-      rest-next (k ∷ g.tail) (g.body ++ f.rest) start (omega (arith, g.starts))
-      (rest-next w.n (k ∷ (g.tail ++ (g.body ++ f.rest))) to w.stops
-      (rest-next w.l (w.n ++ (k ∷ (g.tail ++ (g.body ++ f.rest)))) from w.starts all_here))
+      rest-next (v.kind ∷ g.tail) (g.body ++ f.rest) v.start (omega (arith, g.starts))
+      (rest-next w.n (v.kind ∷ (g.tail ++ (g.body ++ f.rest))) v.sids_end w.stops
+      (rest-next w.l (w.n ++ (v.kind ∷ (g.tail ++ (g.body ++ f.rest)))) v.sids w.starts all_here))
 
-  wrapped_valued : Valued s at from to k start stop
+  wrapped_valued : Valued s at v
   wrapped_valued =
       let g = inner_head in
       record {
         an = w.an;
-        p = c ∷ (f.tail ++ f.body);
+        p = h.kind ∷ (f.tail ++ f.body);
         rest = f.rest;
         tail = g.tail;
         body = g.body;
@@ -235,33 +236,31 @@ module _ (s : List ℕ) (at c i j from to k start stop : ℕ) (f : Framed s at c
             );
         known =
             rw (
-              rest-slice w.n (k ∷ (g.tail ++ (g.body ++ f.rest))) to w.stops
-                  (rest-next w.l (w.n ++ (k ∷ (g.tail ++ (g.body ++ f.rest)))) from w.starts all_here),
+              rest-slice w.n (v.kind ∷ (g.tail ++ (g.body ++ f.rest))) v.sids_end w.stops
+                  (rest-next w.l (w.n ++ (v.kind ∷ (g.tail ++ (g.body ++ f.rest)))) v.sids w.starts all_here),
               w.known,
             );
-        held = rest-slice g.body f.rest stop g.stops body_there;
-        inner = rest_within g.body f.rest stop g.stops body_there;
+        held = rest-slice g.body f.rest v.stop g.stops body_there;
+        inner = rest_within g.body f.rest v.stop g.stops body_there;
         possible = g.possible;
         framing = g.framing;
-        value = λ v r. rw body_parts
-            (annotated_reading (c ∷ f.tail) w.l w.n w.b w.an v (wrapper_head c (rw body_parts at f.framing) wr) w.sized
+        value = λ x r. rw body_parts
+            (annotated_reading (h.kind ∷ f.tail) w.l w.n w.b w.an x (wrapper_head h.kind (rw body_parts at f.framing) wr) w.sized
             (found_sids w.n w.an w.known) w.some_sid (rw value_bytes r));
         pad = λ e. contrary w.pad e;
       }
 
-valued_head : (out : Refusal) (s : List ℕ) (at from to k start stop : ℕ) (o : Head) → header_at out s at ≡ o
-    → unwrapped s o ≡ W.Is from to k start stop → Valued s at from to k start stop
-valued_head out s at from to k start stop (H.No r) q e = no_wrapped e
-valued_head out s at from to k start stop (H.Is c i j) q e =
-    let f = header_framed out s at c i j q in
-    let x : Rest s i (f.body ++ f.rest) = rest-next (c ∷ f.tail) (f.body ++ f.rest) i (omega (arith, f.starts)) f.here in
-    let y : Rest (take j s) i f.body = rest_within f.body f.rest j f.stops x in
-    by_cases (is_wrapper c)
-    (λ m. wrapped_valued s at c i j from to k start stop f m (wrapping (take j s) i from to k start stop y.within (rw m at e)))
+valued_head : (out : Refusal) (s : List ℕ) (at : ℕ) (w : Wrapped) (o : Result Head Refusal) → header_at out s at ≡ o → unwrapped s o ≡ Ok w → Valued s at w
+valued_head out s at w (Err r) q e = cc
+valued_head out s at w (Ok h) q e =
+    let f = header_framed out s at h q in
+    let x : Rest s h.start (f.body ++ f.rest) = rest-next (h.kind ∷ f.tail) (f.body ++ f.rest) h.start (omega (arith, f.starts)) f.here in
+    let y : Rest (take h.stop s) h.start f.body = rest_within f.body f.rest h.stop f.stops x in
+    by_cases (is_wrapper h.kind)
+    (λ m. wrapped_valued s at h f m w (wrapping (take h.stop s) h.start w y.within (rw m at e)))
     (λ m.
-    let w = wrapped_injective (rw m at e) in
-    rw (← w.0, ← w.1, ← w.2, ← w.3, ← w.4) (bare_valued s at c i j f))
+    let c : as_it_stands h ≡ w = cc in
+    subst (λ (z : Wrapped). Valued s at z) c (bare_valued s at h f))
 
-pub found_value : (out : Refusal) (s : List ℕ) (at from to k start stop : ℕ) → unwrapped s (header_at out s at) ≡ W.Is from to k start stop
-    → Valued s at from to k start stop
-found_value out s at from to k start stop e = valued_head out s at from to k start stop (header_at out s at) refl e
+pub found_value : (out : Refusal) (s : List ℕ) (at : ℕ) (w : Wrapped) → unwrapped s (header_at out s at) ≡ Ok w → Valued s at w
+found_value out s at w e = valued_head out s at w (header_at out s at) refl e

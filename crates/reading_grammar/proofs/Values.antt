@@ -1,5 +1,7 @@
 -- One item of a walk that comes to its end: it is a pad, a value or a version marker of the grammar, and the walk shows its events.
 -- Bodies are taken as read. Assumes nothing.
+use Rattle.std.specs.Prelude.{Result, Ok, Err}
+use Rattle.reading.specs.Walk.{Ending}
 use Prim.Native.Nat.{ℕ, ◌+◌, ◌/◌, ◌%◌, ◌≤◌, ◌<◌}
 use native.Mathlib.Omega.{arith}
 use mathlib.Core.Path.{◌≡◌, refl, sym, ◌∙◌, ap}
@@ -16,10 +18,8 @@ use Rattle.ion.specs.Grammar.{sorted, padding, bare, one, members, fields, ◌�
 use Rattle.ion.proofs.Tests.{by_cases, both}
 use Rattle.reading.specs.declared.Refusal.{Refusal}
 use Rattle.reading.specs.declared.Header.{Header as Head}
-use Rattle.reading.specs.declared.Header.TheVariants as H
-use Rattle.reading.specs.declared.Wrapped.TheVariants as W
-use Rattle.reading.specs.declared.Reading.{Reading}
-use Rattle.reading.specs.declared.Reading.TheVariants as R
+use Rattle.reading.specs.declared.Wrapped.{Wrapped}
+use Rattle.reading.specs.declared.Item.{Item}
 use Rattle.reading.specs.Headers.{impossible, header_at, marker_at, top_header_at}
 use Rattle.reading.specs.Scalars.{scalar_in}
 use Rattle.reading.specs.Items.{is_pad, is_marker, opens, is_stream, has_names, is_sorted_struct, reads, head_in, unwrapped}
@@ -32,20 +32,17 @@ use Rattle.reading_grammar.proofs.Places.{Rest, rest-length}
 use Rattle.reading_grammar.proofs.TypeBytes as K
 use Rattle.reading_grammar.proofs.Framing.{Framing}
 use Rattle.reading_grammar.proofs.Derived.{pad_reading, scalar_reading, Opening, opening, list_reading, sexp_reading, struct_reading}
-use Rattle.reading_grammar.proofs.Unwrapped.{Valued, found_value, no_wrapped}
-use Rattle.reading_grammar.proofs.Items.{Judged, marked-bytes}
+use Rattle.reading_grammar.proofs.Unwrapped.{Valued, found_value}
+use Rattle.reading_grammar.proofs.Items.{nameless, Judged, marked-bytes}
 use Rattle.reading_grammar.proofs.Steps.{out_in, pad_shows-none}
 
 -- ---- two walks in a row that come to their end
 
-pub refused_not_whole : {X : Type 0} {r : Refusal} {place : ℕ} → R.Refused r place ≡ R.Whole → X
-refused_not_whole e = absurd (let z : ◌≡◌ {A = ℕ} 0 1 = cc in omega arith)
+before-whole : (es : List Event) (r : Ending) (w : Walk) → (before es r w).1 ≡ Ok tt → (r ≡ Ok tt) × (w.1 ≡ Ok tt) × ((before es r w).0 ≡ es ++ w.0)
+before-whole es (Ok tt) w e = (refl, e, refl)
+before-whole es (Err r) w e = cc
 
-before-whole : (es : List Event) (r : Reading) (w : Walk) → (before es r w).1 ≡ R.Whole → (r ≡ R.Whole) × (w.1 ≡ R.Whole) × ((before es r w).0 ≡ es ++ w.0)
-before-whole es R.Whole w e = (refl, e, refl)
-before-whole es (R.Refused r place) w e = refused_not_whole e
-
-pub then_whole : (v w : Walk) → (v and_then w).1 ≡ R.Whole → (v.1 ≡ R.Whole) × (w.1 ≡ R.Whole) × ((v and_then w).0 ≡ v.0 ++ w.0)
+pub then_whole : (v w : Walk) → (v and_then w).1 ≡ Ok tt → (v.1 ≡ Ok tt) × (w.1 ≡ Ok tt) × ((v and_then w).0 ≡ v.0 ++ w.0)
 then_whole v w e = before-whole v.0 v.1 w e
 
 -- ---- what the walks over bodies show, given their fuel
@@ -66,12 +63,12 @@ pub record FieldsRead (b : List ℕ) (parent least depth : ℕ) (es : List Event
 abbrev pub MembersSound : ℕ → Type 0
 MembersSound f =
     (s : List ℕ) (parent least depth at : ℕ) (b : List ℕ) → has_names parent ≡ false → is_stream parent ≡ false → depth ≤ 32 → Rest s at b → length b < f
-    → (walk_from f s parent least depth at).1 ≡ R.Whole → MembersRead b depth (walk_from f s parent least depth at).0
+    → (walk_from f s parent least depth at).1 ≡ Ok tt → MembersRead b depth (walk_from f s parent least depth at).0
 
 abbrev pub FieldsSound : ℕ → Type 0
 FieldsSound f =
     (s : List ℕ) (parent least depth at : ℕ) (b : List ℕ) → has_names parent ≡ true → is_stream parent ≡ false → depth ≤ 32 → Rest s at b → length b < f
-    → (walk_from f s parent least depth at).1 ≡ R.Whole → FieldsRead b parent least depth (walk_from f s parent least depth at).0
+    → (walk_from f s parent least depth at).1 ≡ Ok tt → FieldsRead b parent least depth (walk_from f s parent least depth at).0
 
 -- ---- one item
 
@@ -92,8 +89,8 @@ record BareRead (q an : List ℕ) (depth : ℕ) (name : Option ℕ) (w : Walk) :
   shallow : depth + tree_depth v ≤ 32
   shown : w.0 ≡ tree_events name v
 
-container_whole : (k : ℕ) (name : Option ℕ) (an : List ℕ) (w : Walk) → (container_walk k name an w).1 ≡ R.Whole
-    → (w.1 ≡ R.Whole) × ((container_walk k name an w).0 ≡ begins name an (container_type k) ∷ (w.0 ++ (ends ∷ [])))
+container_whole : (k : ℕ) (name : Option ℕ) (an : List ℕ) (w : Walk) → (container_walk k name an w).1 ≡ Ok tt
+    → (w.1 ≡ Ok tt) × ((container_walk k name an w).0 ≡ begins name an (container_type k) ∷ (w.0 ++ (ends ∷ [])))
 container_whole k name an w e =
     let a = then_whole (shows (begins name an (container_type k) ∷ [])) (w and_then shows (ends ∷ [])) e in
     let b = then_whole w (shows (ends ∷ [])) a.1 in
@@ -114,7 +111,7 @@ struct_type k l = rw (le-ltb k 0xC0 (omega arith), le-ltb k 0xD0 l)
 
 module _ (f : ℕ) (ihm : MembersSound f) (ihf : FieldsSound f) (an : List ℕ) (k : ℕ) (tail body : List ℕ) (fr : Framing k (length body) tail) (o : Opening k)
     (t : List ℕ) (start depth : ℕ) (name : Option ℕ) (x : Rest t start body) (lt : length body < f) (under : depth < 32)
-    (whole : (container_walk k name an (walk_from f t k 0 (depth + 1) start)).1 ≡ R.Whole) where
+    (whole : (container_walk k name an (walk_from f t k 0 (depth + 1) start)).1 ≡ Ok tt) where
   not_stream : is_stream k ≡ false
   not_stream = ne_eqb k 0 (λ e. omega (arith, o.least))
 
@@ -182,32 +179,32 @@ leaf_read an k tail body depth name can fr le p m n good =
 not_marker : (k : ℕ) → impossible (k / 16) (k % 16) ≡ false → is_marker k ≡ false
 not_marker k can = ne_eqb k 0xE0 (λ e. contrary can (rw e))
 
-module _ (f : ℕ) (ihm : MembersSound f) (ihf : FieldsSound f) (s : List ℕ) (parent depth next name from to k start stop : ℕ)
-    (w : Valued s next from to k start stop)
-    (le : depth ≤ 32) (shallow : (opens k && leb 32 depth) ≡ false) (good : reads k (slice start stop s) ≡ true) (size : length w.p ≤ f) where
-  value_read : is_pad k ≡ false → (item_walk (λ t p l d i. walk_from f t p l d i) s parent depth name from to k start stop).1 ≡ R.Whole
-      → BareRead (k ∷ (w.tail ++ w.body)) w.an depth (name_in parent name)
-      (item_walk (λ t p l d i. walk_from f t p l d i) s parent depth name from to k start stop)
+module _ (f : ℕ) (ihm : MembersSound f) (ihf : FieldsSound f) (s : List ℕ) (parent depth next : ℕ) (i : Item)
+    (w : Valued s next (nameless i))
+    (le : depth ≤ 32) (shallow : (opens i.kind && leb 32 depth) ≡ false) (good : reads i.kind (slice i.start i.stop s) ≡ true) (size : length w.p ≤ f) where
+  value_read : is_pad i.kind ≡ false → (item_walk (λ t p l d m. walk_from f t p l d m) s parent depth i).1 ≡ Ok tt
+      → BareRead (i.kind ∷ (w.tail ++ w.body)) w.an depth (name_in parent i.name)
+      (item_walk (λ t p l d m. walk_from f t p l d m) s parent depth i)
   value_read p e =
-      by_cases (opens k)
+      by_cases (opens i.kind)
       (λ q.
       let u : depth < 32 = leb-false 32 depth (rw q at shallow) in
       let lt : length w.body < f = omega (arith, w.shorter) in
       rw (q, w.known)
-      (container_read f ihm ihf w.an k w.tail w.body w.framing (opening k q) (take stop s) start depth (name_in parent name)
+      (container_read f ihm ihf w.an i.kind w.tail w.body w.framing (opening i.kind q) (take i.stop s) i.start depth (name_in parent i.name)
       w.inner lt u (rw q at e)))
-      (λ q. rw (q, w.known, w.held) (leaf_read w.an k w.tail w.body depth (name_in parent name) w.possible w.framing le p
-      (not_marker k w.possible) q (rw w.held at good)))
+      (λ q. rw (q, w.known, w.held) (leaf_read w.an i.kind w.tail w.body depth (name_in parent i.name) w.possible w.framing le p
+      (not_marker i.kind w.possible) q (rw w.held at good)))
 
-  value_item : (item_walk (λ t p l d i. walk_from f t p l d i) s parent depth name from to k start stop).1 ≡ R.Whole
-      → ItemRead s parent depth next stop k (name_in parent name) (item_walk (λ t p l d i. walk_from f t p l d i) s parent depth name from to k start stop).0
+  value_item : (item_walk (λ t p l d m. walk_from f t p l d m) s parent depth i).1 ≡ Ok tt
+      → ItemRead s parent depth next i.stop i.kind (name_in parent i.name) (item_walk (λ t p l d m. walk_from f t p l d m) s parent depth i).0
   value_item e =
-      by_cases (is_pad k)
+      by_cases (is_pad i.kind)
       (λ p.
-      let c = K.padding k (ltb-true k 15 p) in
+      let c = K.padding i.kind (ltb-true i.kind 15 p) in
       a_pad w.p w.rest w.here w.ends (omega (arith, w.shorter))
-      (rw (w.pad p) (pad_reading k w.tail w.body w.framing p)) p
-      (rw (c.shut, c.marker, pad_shows-none k (slice start stop s) p)))
+      (rw (w.pad p) (pad_reading i.kind w.tail w.body w.framing p)) p
+      (rw (c.shut, c.marker, pad_shows-none i.kind (slice i.start i.stop s) p)))
       (λ p.
       let b = value_read p e in
       a_value w.p w.rest b.v w.here w.ends (omega (arith, w.shorter)) (w.value b.v b.reading) p b.shallow b.shown)
@@ -220,16 +217,16 @@ record MarkerFound (s : List ℕ) (next k stop : ℕ) : Type 0 where
   kind : k ≡ 0xE0
   ends : stop ≡ next + 4
 
-marker-found : (s : List ℕ) (next from to k start stop : ℕ) (o : Head) → marker_at s next ≡ o → unwrapped s o ≡ W.Is from to k start stop
-    → MarkerFound s next k stop
+marker-found : (s : List ℕ) (next : ℕ) (w : Wrapped) (o : Result Head Refusal) → marker_at s next ≡ o → unwrapped s o ≡ Ok w
+    → MarkerFound s next w.kind w.stop
 unfolding marker_at
-marker-found s next from to k start stop (H.No r) q e = no_wrapped e
-marker-found s next from to k start stop (H.Is c i j) q e =
-    let m = marked-bytes (0xE0 ∷ 0x01 ∷ 0x00 ∷ 0xEA ∷ []) next (drop next s) c i j q in
-    let z : W.Is i i 0xE0 i j ≡ W.Is from to k start stop = rw m.2 at e in
-    let k₁ : 0xE0 ≡ k = cc in
-    let k₂ : j ≡ stop = cc in
-    record { rest = m.0; bytes = m.1; kind = sym k₁; ends = omega (arith, m.3) }
+marker-found s next w (Err r) q e = cc
+marker-found s next w (Ok h) q e =
+    let m = marked-bytes (0xE0 ∷ 0x01 ∷ 0x00 ∷ 0xEA ∷ []) next (drop next s) h q in
+    let z : ◌≡◌ {A = Result Wrapped Refusal} (Ok (record { sids = h.start; sids_end = h.start; kind = 0xE0; start = h.start; stop = h.stop })) (Ok w) = rw m.2 at e in
+    let k : 0xE0 ≡ w.kind = cc z in
+    let p : h.stop ≡ w.stop = cc z in
+    record { rest = m.0; bytes = m.1; kind = sym k; ends = omega (arith, m.3) }
 
 stream_marker_head : (s : List ℕ) (parent next : ℕ) → (is_stream parent && eqb (get_or s next 0) 0xE0) ≡ true → head_in s parent next ≡ marker_at s next
 unfolding top_header_at
@@ -241,17 +238,16 @@ other_head s parent next e = by_cases (is_stream parent) (λ p. rw (p, (rw p at 
 
 -- ---- one item of a walk that comes to its end
 
-module _ (f : ℕ) (ihm : MembersSound f) (ihf : FieldsSound f) (s : List ℕ) (parent least depth at name from to k start stop : ℕ)
-    (j : Judged s parent least depth at name from to k start stop)
+module _ (f : ℕ) (ihm : MembersSound f) (ihf : FieldsSound f) (s : List ℕ) (parent least depth at : ℕ) (i : Item) (j : Judged s parent least depth at i)
     (le : depth ≤ 32) (size : length s ≤ at + f) (after : at ≤ j.next) (within : j.next ≤ length s) where
-  pub item_read : (item_walk (λ t p l d i. walk_from f t p l d i) s parent depth name from to k start stop).1 ≡ R.Whole
-      → ItemRead s parent depth j.next stop k (name_in parent name) (item_walk (λ t p l d i. walk_from f t p l d i) s parent depth name from to k start stop).0
+  pub item_read : (item_walk (λ t p l d m. walk_from f t p l d m) s parent depth i).1 ≡ Ok tt
+      → ItemRead s parent depth j.next i.stop i.kind (name_in parent i.name) (item_walk (λ t p l d m. walk_from f t p l d m) s parent depth i).0
   item_read e =
       by_cases (is_stream parent && eqb (get_or s j.next 0) 0xE0)
       (λ p.
-      let m = marker-found s j.next from to k start stop (marker_at s j.next) refl (rw (stream_marker_head s parent j.next p) at j.unwraps) in
+      let m = marker-found s j.next (nameless i) (marker_at s j.next) refl (rw (stream_marker_head s parent j.next p) at j.unwraps) in
       a_marker m.rest (record { within = within; is = m.bytes }) m.ends (both {a = is_stream parent} p).0 (rw m.kind) (rw m.kind))
       (λ p.
-      let w = found_value (out_in parent) s j.next from to k start stop (rw (other_head s parent j.next p) at j.unwraps) in
-      value_item f ihm ihf s parent depth j.next name from to k start stop w le j.shallow j.good
+      let w = found_value (out_in parent) s j.next (nameless i) (rw (other_head s parent j.next p) at j.unwraps) in
+      value_item f ihm ihf s parent depth j.next i w le j.shallow j.good
       (omega (arith, rest-length w.here, length-append w.p w.rest)) e)

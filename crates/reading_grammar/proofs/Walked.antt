@@ -1,5 +1,7 @@
 -- Every reading is what the walk shows: recursion over the grammar's productions.
 -- Assumes nothing.
+use Rattle.std.specs.Prelude.{Ok}
+use Rattle.reading.specs.Walk.{Ending, refused}
 use Prim.Native.Nat.{ℕ, zero, suc, ◌+◌, ◌≤◌, ◌<◌}
 use native.Mathlib.Omega.{arith}
 use mathlib.Core.Path.{◌≡◌, refl, sym, ◌∙◌, ap}
@@ -20,8 +22,6 @@ use Rattle.ion.proofs.Tests.{by_cases, both}
 use Rattle.ion.proofs.Fields.{var_uint_pos}
 use Rattle.reading.specs.declared.Refusal.{Refusal}
 use Rattle.reading.specs.declared.Refusal.TheVariants.{NotIon}
-use Rattle.reading.specs.declared.Number.TheVariants as N
-use Rattle.reading.specs.declared.Reading.TheVariants as R
 use Rattle.reading.specs.Items.{is_sorted_struct, has_names, name_at, item_at, most_open}
 use Rattle.reading.specs.Walk.{Event, tree_events, member_events, field_events, stream_events, tree_depth, members_depth, fields_depth, stream_depth, higher}
 use Rattle.reading.specs.Walk.{Walk, shows, name_in, walk_from, walk_in, walk}
@@ -70,7 +70,7 @@ one_length {b} w = omega (arith, ap length w.joins, length-append w.x (w.names +
 
 -- a value behind its name, and all that follows
 value_step : (f : ℕ) (s : List ℕ) (parent least depth at name next : ℕ) (p b : List ℕ) (v : Value) (es : List Event) → OneFound p v
-    → at < length s → name_at s parent at ≡ N.Is name next → Rest s next (p ++ b)
+    → at < length s → name_at s parent at ≡ Ok (record { value = name; next = next }) → Rest s next (p ++ b)
     → (is_sorted_struct parent && ltb name least) ≡ false → depth + tree_depth v ≤ 32 → length p ≤ f
     → (Rest s (next + length p) b → walk_from f s parent name depth (next + length p) ≡ shows es)
     → walk_from (suc f) s parent least depth at ≡ shows (tree_events (name_in parent name) v ++ es)
@@ -89,14 +89,14 @@ value_step f s parent least depth at name next p b v es w inside named x rises s
 
 -- a pad behind its name, and all that follows
 pad_step : (f : ℕ) (s : List ℕ) (parent least depth at name next : ℕ) (p b : List ℕ) (es : List Event) → PadFound p → at < length s
-    → name_at s parent at ≡ N.Is name next → Rest s next (p ++ b)
+    → name_at s parent at ≡ Ok (record { value = name; next = next }) → Rest s next (p ++ b)
     → (Rest s (next + length p) b → walk_from f s parent least depth (next + length p) ≡ shows es) → walk_from (suc f) s parent least depth at ≡ shows es
 pad_step f s parent least depth at name next p b es w inside named x rest =
     step_pad s parent least depth at name next p b w inside named x (next + length p) refl f es (rest (rest-next p b (next + length p) refl x))
 
 -- ---- members
 
-pub no_name : (s : List ℕ) (parent at : ℕ) → has_names parent ≡ false → name_at s parent at ≡ N.Is 0 at
+pub no_name : (s : List ℕ) (parent at : ℕ) → has_names parent ≡ false → name_at s parent at ≡ Ok (record { value = 0; next = at })
 no_name s parent at e = rw e
 
 found-members_pad : (p b : List ℕ) (vs : Members Scalar) → PadFound p → MembersFound b vs → MembersFound (p ++ b) vs
@@ -119,7 +119,7 @@ found-members-next p b v vs w ih (suc f) s parent least depth at n t u x lt le =
 -- ---- fields
 
 pub name_found : (s : List ℕ) (parent at k next : ℕ) (l r : List ℕ) → has_names parent ≡ true → VarUInt l k → next ≡ at + length l
-    → Rest s at (l ++ r) → name_at s parent at ≡ N.Is k next
+    → Rest s at (l ++ r) → name_at s parent at ≡ Ok (record { value = k; next = next })
 name_found s parent at k next l r n e p x = rw (n, number-found NotIon l r next e p x)
 
 found-fields_pad : (l p b : List ℕ) (k : ℕ) (fs : Fields Scalar) → VarUInt l k → PadFound p → FieldsFound b fs → FieldsFound (l ++ (p ++ b)) fs
@@ -230,8 +230,7 @@ reading_is_walked s at is h r le =
 
 -- Where the walk is refused, no reading has at most 32 containers open.
 pub refused_is_no_reading : (s : List ℕ) (at : ℕ) (is : List (Item Scalar)) (r : Refusal) (place : ℕ) → at ≤ length s
-    → (walk s at).1 ≡ R.Refused r place → Reads (drop at s) is → stream_depth is ≤ most_open → ⊥
+    → (walk s at).1 ≡ refused r place → Reads (drop at s) is → stream_depth is ≤ most_open → ⊥
 refused_is_no_reading s at is r place h e x le =
-    let w : R.Whole ≡ R.Refused r place = sym (ap (λ (y : Walk). y.1) (reading_is_walked s at is h x le)) ∙ e in
-    let z : ◌≡◌ {A = ℕ} 0 1 = cc in
-    omega arith
+    let w : ◌≡◌ {A = Ending} (Ok tt) (refused r place) = sym (ap (λ (y : Walk). y.1) (reading_is_walked s at is h x le)) ∙ e in
+    absurd (cc)

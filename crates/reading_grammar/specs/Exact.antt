@@ -1,9 +1,8 @@
 -- What the walk has to do with the grammar (document 02, Item 1): the statements. The proofs are in proofs/{Walked,Read}.antt.
 -- Assumes nothing.
-use Rattle.std.specs.Prelude.{ℕ, ◌≤◌, ◌≡◌, List, length, drop}
+use Rattle.std.specs.Prelude.{ℕ, ◌≤◌, ◌≡◌, List, length, drop, Ok}
 use Rattle.ion.specs.Value.{Scalar, Item}
 use Rattle.ion.specs.Grammar.{Reads}
-use Rattle.reading.specs.declared.Reading.TheVariants as R
 use Rattle.reading.specs.Items.{most_open}
 use Rattle.reading.specs.Walk.{stream_events, stream_depth, shows, walk}
 
@@ -15,5 +14,5 @@ ReadingIsWalked =
 
 -- A walk that comes to its end shows a reading, with at most 32 containers open at once.
 abbrev pub WalkIsReading : Type 0
-WalkIsReading = (s : List ℕ) (at : ℕ) → (walk s at).1 ≡ R.Whole
+WalkIsReading = (s : List ℕ) (at : ℕ) → (walk s at).1 ≡ Ok tt
     → (at ≤ length s) × ((is : List (Item Scalar)) × (Reads (drop at s) is × ((stream_depth is ≤ most_open) × ((walk s at).0 ≡ stream_events is))))

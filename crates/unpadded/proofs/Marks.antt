@@ -2,7 +2,7 @@
 -- Assumes nothing.
 use Prim.Native.Nat.{ℕ, zero, suc, ◌/◌, ◌%◌, ◌^◌, ◌<◌}
 use native.Mathlib.Omega.{arith}
-use mathlib.Core.Path.{◌≡◌, refl, sym, ◌∙◌}
+use mathlib.Core.Path.{◌≡◌, refl, sym, ◌∙◌, ap}
 use mathlib.Core.Logic.{◌≢◌}
 use mathlib.Core.Bool.{Bool, true, false, cond}
 use mathlib.Core.List.{List, [], ◌∷◌}
@@ -16,16 +16,35 @@ use Rattle.ion.specs.Value.{Signed, signed, Scalar, null, decimal, symbol, strin
 use Rattle.ion.specs.Chain.{◌>>=◌, check}
 use Rattle.ion.specs.Fields.{uint, int_field, var_int, number}
 use Rattle.ion.specs.Text.{utf8}
-use Rattle.ion.specs.Scalars.{int_of, decimal_of, scalar_of}
+use Rattle.ion.specs.Scalars.{int_of, decimal_of, timestamp_of, scalar_of}
 use Rattle.ion.proofs.Tests.{by_cases}
 use Rattle.mark.specs.OutOfCalendar.{is_marked}
 use Rattle.reading.specs.Scalars.{code_from, bool_of, float_in, body_of, scalar_in}
-use Rattle.reading.specs.Bodies.{mark_in, shown_in}
+use Rattle.std.specs.Prelude.{Result, Ok, Err, MatchResult}
+use Rattle.reading.specs.declared.Shown.{Shown}
+use Rattle.reading.specs.declared.Refusal.{Refusal}
+use Rattle.reading.specs.declared.Timestamp.{Timestamp}
+use Rattle.reading.specs.Bodies.{timestamp_in, mark_in, shown_with, shown_in}
+use Rattle.reading.specs.Told.{timestamp_told, mark_shown}
+use Rattle.reading.proofs.Whole.{timestamp_whole}
+
+-- what is shown of a body has the mark of the timestamp that it is
+shown_mark : (b : List ℕ) → mark_shown (shown_in b) ≡ mark_in (timestamp_of b)
+unfolding shown_in scalar_of
+shown_mark b = go (timestamp_in b) (timestamp_whole b)
+  where
+    go : (t : Result Timestamp Refusal) → timestamp_of b ≡ timestamp_told b t → mark_shown (shown_with (mark_in (timestamp_of b)) t) ≡ mark_in (timestamp_of b)
+    go (Ok t) e = refl
+    go (Err r) e = sym (ap mark_in e)
+
+pub told_mark : (b : List ℕ) (x : Result Shown Refusal) (r : Bool) → x ≡ shown_in b → MatchResult x (λ t. r ≡ t.marked) (λ _. r ≡ false) → r ≡ mark_shown (shown_in b)
+told_mark b (Ok t) r e h = h ∙ ap mark_shown e
+told_mark b (Err f) r e h = h ∙ ap mark_shown e
 
 -- a timestamp that is not null
-pub timestamp_mark : (kind : ℕ) (body : List ℕ) → kind / 16 ≡ 6 → kind % 16 < 15 → (shown_in body).marked ≡ mark_in (scalar_in kind body)
-unfolding scalar_in code_from body_of scalar_of shown_in
-timestamp_mark kind body h l = rw (h, ne_eqb (kind % 16) 15 (λ e. omega arith)) refl
+pub timestamp_mark : (kind : ℕ) (body : List ℕ) → kind / 16 ≡ 6 → kind % 16 < 15 → mark_shown (shown_in body) ≡ mark_in (scalar_in kind body)
+unfolding scalar_in code_from body_of scalar_of
+timestamp_mark kind body h l = rw (h, ne_eqb (kind % 16) 15 (λ e. omega arith)) (shown_mark body)
 
 -- ---- the others
 

@@ -1,24 +1,22 @@
 -- Whether the items from a place on read, none of them a NOP pad and none an out-of-calendar timestamp, containers entered: by what the reader
 -- answers at each place. The crate unpadded_grammar shows that the grammar says the same.
 -- Assumes nothing.
-use Rattle.std.specs.Prelude.{ℕ, zero, suc, ◌+◌, Bool, false, cond, ◌&&◌, ◌||◌, not, List, eqb, length, take}
+use Rattle.std.specs.Prelude.{ℕ, zero, suc, ◌+◌, Bool, false, cond, ◌&&◌, ◌||◌, not, List, eqb, length, take, Ok, Err, Some, None}
 use Rattle.std.proofs.Math.Seq.{slice}
-use Rattle.reading.specs.declared.Item.{Item}
-use Rattle.reading.specs.declared.Item.TheVariants as I
 use Rattle.reading.specs.Scalars.{scalar_in}
 use Rattle.reading.specs.Bodies.{mark_in}
-use Rattle.reading.specs.Items.{is_pad, is_marker, opens, item_at}
+use Rattle.reading.specs.Items.{is_pad, is_marker, opens, Found, item_at}
 
 -- a scalar has no mark; what a container holds is asked of the items inside, given how to go on from a place
 abbrev pub content_is : (List ℕ → ℕ → ℕ → ℕ → ℕ → Bool) → List ℕ → ℕ → ℕ → ℕ → ℕ → Bool
 content_is go s depth b start stop = cond (opens b) (go (take stop s) b 0 (depth + 1) start) (not (mark_in (scalar_in b (slice start stop s))))
 
 -- an item that is no pad raises the least name to its own
-abbrev pub step_is : (List ℕ → ℕ → ℕ → ℕ → ℕ → Bool) → List ℕ → ℕ → ℕ → ℕ → Item → Bool
-step_is go s parent least depth I.End = false
-step_is go s parent least depth (I.No r) = false
-step_is go s parent least depth (I.Is name from to b start stop) =
-    not (is_pad b) && (content_is go s depth b start stop && go s parent name depth stop)
+abbrev pub step_is : (List ℕ → ℕ → ℕ → ℕ → ℕ → Bool) → List ℕ → ℕ → ℕ → ℕ → Found → Bool
+step_is go s parent least depth (Err r) = false
+step_is go s parent least depth (Ok None) = false
+step_is go s parent least depth (Ok (Some i)) =
+    not (is_pad i.kind) && (content_is go s depth i.kind i.start i.stop && go s parent i.name depth i.stop)
 
 -- with the parent, the least name and the open containers as `item_at` has them; f bounds the items
 unfoldable pub unpadded_from : ℕ → List ℕ → ℕ → ℕ → ℕ → ℕ → Bool
@@ -30,10 +28,10 @@ abbrev pub content_by : ℕ → List ℕ → ℕ → ℕ → ℕ → ℕ → Boo
 content_by f s depth b start stop = content_is (λ t p l d i. unpadded_from f t p l d i) s depth b start stop
 
 -- the first item is all of the bytes, and no version marker
-abbrev pub is_whole : List ℕ → Item → Bool
-is_whole s I.End = false
-is_whole s (I.No r) = false
-is_whole s (I.Is name from to b start stop) = eqb stop (length s) && not (is_marker b)
+abbrev pub is_whole : List ℕ → Found → Bool
+is_whole s (Err r) = false
+is_whole s (Ok None) = false
+is_whole s (Ok (Some i)) = eqb i.stop (length s) && not (is_marker i.kind)
 
 -- One value, without pad and mark.
 unfoldable pub is_one_value : List ℕ → Bool

@@ -11,9 +11,9 @@ use lib.Seq.{slice}
 use borrow.Author.Tests.{lt-leb, eq-eqb, ne_eqb}
 use Rattle.ion.specs.Value.{Scalar}
 use Rattle.reading.specs.declared.Item.{Item}
-use Rattle.reading.specs.declared.Item.TheVariants as I
+use Rattle.std.specs.Prelude.{Ok, Err, Some, None}
 use Rattle.reading.specs.Scalars.{scalar_in}
-use Rattle.reading.specs.Items.{is_pad, opens, item_at}
+use Rattle.reading.specs.Items.{is_pad, opens, Found, item_at}
 use Rattle.reading.specs.Walk.{higher}
 use Rattle.mark.specs.OutOfCalendar.{is_marked}
 use Rattle.unpadded.specs.Rule.{unpadded_from}
@@ -36,9 +36,9 @@ content_by rule mark inner f s depth k start stop =
 -- what it says at an item
 abbrev pub StepsBy : Rule → (Scalar → Bool) → (ℕ → ℕ) → Type 0
 StepsBy rule mark inner =
-    (f : ℕ) (s : List ℕ) (parent least depth at name from to k start stop : ℕ) → at < length s
-    → item_at s parent least depth at ≡ I.Is name from to k start stop
-    → rule (suc f) s parent least depth at ≡ (not (is_pad k) && (content_by rule mark inner f s depth k start stop && rule f s parent name depth stop))
+    (f : ℕ) (s : List ℕ) (parent least depth at : ℕ) (i : Item) → at < length s → item_at s parent least depth at ≡ Ok (Some i)
+    → rule (suc f) s parent least depth at
+    ≡ (not (is_pad i.kind) && (content_by rule mark inner f s depth i.kind i.start i.stop && rule f s parent i.name depth i.stop))
 
 -- A rule with its mark. Fits k d: with k containers open there is room for d more at once.
 pub record Asked : Type 1 where
@@ -61,8 +61,8 @@ unpadded_ends f s parent least depth at e = rw (eq-eqb at (length s) e)
 
 pub unpadded_steps : StepsBy unpadded_from (λ x. is_marked x) (λ k. k + 1)
 unfolding unpadded_from
-unpadded_steps f s parent least depth at name from to k start stop h e =
-    rw (ne_eqb at (length s) (λ q. omega arith), e, marked_by_mark (scalar_in k (slice start stop s)))
+unpadded_steps f s parent least depth at i h e =
+    rw (ne_eqb at (length s) (λ q. omega arith), e, marked_by_mark (scalar_in i.kind (slice i.start i.stop s)))
 
 unfoldable pub unpadded : Asked
 unpadded = record {
@@ -80,11 +80,11 @@ unpadded = record {
 
 -- ---- the same without marks and without a limit to the containers open at once
 
-abbrev pub padless_step : (List ℕ → ℕ → ℕ → ℕ → ℕ → Bool) → List ℕ → ℕ → ℕ → Item → Bool
-padless_step go s parent depth I.End = false
-padless_step go s parent depth (I.No r) = false
-padless_step go s parent depth (I.Is name from to b start stop) =
-    not (is_pad b) && (cond (opens b) (go (take stop s) b 0 depth start) true && go s parent name depth stop)
+abbrev pub padless_step : (List ℕ → ℕ → ℕ → ℕ → ℕ → Bool) → List ℕ → ℕ → ℕ → Found → Bool
+padless_step go s parent depth (Err r) = false
+padless_step go s parent depth (Ok None) = false
+padless_step go s parent depth (Ok (Some i)) =
+    not (is_pad i.kind) && (cond (opens i.kind) (go (take i.stop s) i.kind 0 depth i.start) true && go s parent i.name depth i.stop)
 
 unfoldable pub padless_from : ℕ → List ℕ → ℕ → ℕ → ℕ → ℕ → Bool
 padless_from zero s parent least depth at = false
@@ -97,8 +97,8 @@ padless_ends f s parent least depth at e = rw (eq-eqb at (length s) e)
 
 pub padless_steps : StepsBy padless_from (λ x. false) (λ k. k)
 unfolding padless_from
-padless_steps f s parent least depth at name from to k start stop h e =
-    rw (ne_eqb at (length s) (λ q. omega arith), e, marked_by-never (scalar_in k (slice start stop s)))
+padless_steps f s parent least depth at i h e =
+    rw (ne_eqb at (length s) (λ q. omega arith), e, marked_by-never (scalar_in i.kind (slice i.start i.stop s)))
 
 unfoldable pub padless : Asked
 padless = record {

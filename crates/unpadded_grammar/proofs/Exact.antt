@@ -14,10 +14,9 @@ use Rattle.ion.specs.Value.{Scalar, Value, Item, value, leaves}
 use Rattle.ion.specs.Grammar.{padding, one, stream, ◌⟶◌, Reads, stream_end, stream_pad, stream_marker, stream_next}
 use Rattle.ion.proofs.Tests.{both, and-true}
 use Rattle.mark.specs.OutOfCalendar.{none_marked}
-use Rattle.reading.specs.declared.Item.{Item as Found}
-use Rattle.reading.specs.declared.Item.TheVariants as I
-use Rattle.reading.specs.declared.Reading.TheVariants as R
-use Rattle.reading.specs.Items.{is_pad, is_marker, opens, raised, item_at}
+use Rattle.std.specs.Prelude.{Ok, Err, Some, None}
+use Rattle.reading.specs.declared.Item.{Item as Placed}
+use Rattle.reading.specs.Items.{is_pad, is_marker, opens, raised, Found, item_at}
 use Rattle.reading.specs.Walk.{Event, tree_depth, stream_depth, item_walk, step_walk, walk_from}
 use Rattle.unpadded.specs.Rule.{unpadded_from, is_whole, is_one_value}
 use Rattle.reading_grammar.proofs.Tests.{contrary}
@@ -25,9 +24,8 @@ use Rattle.reading_grammar.proofs.Places.{Rest, rest-next}
 use Rattle.reading_grammar.proofs.One.{OneFound}
 use Rattle.reading_grammar.proofs.Steps.{item_placed, marker_item}
 use Rattle.reading_grammar.proofs.Walked.{higher_within, one_length, found}
-use Rattle.reading_grammar.proofs.Items.{item_judged}
+use Rattle.reading_grammar.proofs.Items.{item_judged, headed_here}
 use Rattle.reading_grammar.proofs.Values.{then_whole, ItemRead, a_pad, a_value, a_marker, item_read}
-use Rattle.reading_grammar.proofs.Numbers.{number_injective}
 use Rattle.reading_grammar.proofs.Read.{rest_unique, nothing_left, bodies_sound}
 use Rattle.unpadded_grammar.specs.Pads.{has_no_pad}
 use Rattle.unpadded_grammar.specs.Exact.{FoundIsOne, OneIsFound, SamePads}
@@ -63,50 +61,49 @@ record Valued (b : List ℕ) : Type 0 where
   reading : Reads b (value v ∷ [])
   low : stream_depth (value v ∷ []) ≤ 32
 
-kind_same : {a c d e g h a' c' d' e' g' h' : ℕ} → I.Is a c d e g h ≡ I.Is a' c' d' e' g' h' → e ≡ e'
-kind_same q = cc
+kind_same : (j i : Placed) → ◌≡◌ {A = Found} (Ok (Some j)) (Ok (Some i)) → j.kind ≡ i.kind
+kind_same j i q = let e : j ≡ i = cc in ap (λ (x : Placed). x.kind) e
 
-module _ (b : List ℕ) (name from to k start stop : ℕ) (q : item_at b 0 0 0 0 ≡ I.Is name from to k start stop)
-    (end : stop ≡ length b) (content : is_pad k ≡ false) (plain : is_marker k ≡ false) where
-  item_valued : {n : Option ℕ} {es : List Event} → ItemRead b 0 0 0 stop k n es → Valued b
+module _ (b : List ℕ) (i : Placed) (q : item_at b 0 0 0 0 ≡ Ok (Some i))
+    (end : i.stop ≡ length b) (content : is_pad i.kind ≡ false) (plain : is_marker i.kind ≡ false) where
+  item_valued : {n : Option ℕ} {es : List Event} → ItemRead b 0 0 0 i.stop i.kind n es → Valued b
   unfolding stream_depth
   item_valued (a_pad p r y e pos rd pd z) = contrary content pd
   item_valued (a_value p r v y e pos rd pd sh z) =
-      let rest : r ≡ [] = nothing_left r (rest-next p r stop e y) end in
+      let rest : r ≡ [] = nothing_left r (rest-next p r i.stop e y) end in
       let tail : r ⟶ stream [] = rw rest stream_end in
       record {
         v = v;
         reading = subst (λ (u : List ℕ). u ⟶ stream (value v ∷ [])) (sym (rest_unique (from_first b) y)) (stream_next rd tail);
         low = higher_within (tree_depth v) 0 32 (omega arith) (omega arith);
       }
-  item_valued (a_marker r y e st pd z) = contrary plain (eq-eqb k 0xE0 (sym (kind_same (sym (marker_item 0 0 r y) ∙ q))))
+  item_valued (a_marker r y e st pd z) = contrary plain (eq-eqb i.kind 0xE0 (sym (kind_same _ i (sym (marker_item 0 0 r y) ∙ q))))
 
-  walked_valued : (walk_from (suc (length b)) b 0 0 0 0).1 ≡ R.Whole → Valued b
+  walked_valued : (walk_from (suc (length b)) b 0 0 0 0).1 ≡ Ok tt → Valued b
   unfolding walk_from
   walked_valued e =
       let f : ℕ = length b in
-      let j = item_judged b 0 0 0 0 name from to k start stop q in
-      let w : (step_walk (λ t p l d m. walk_from f t p l d m) b 0 0 0 0 (I.Is name from to k start stop)).1 ≡ R.Whole = rw q at e in
-      let t = then_whole (item_walk (λ t p l d m. walk_from f t p l d m) b 0 0 name from to k start stop) (walk_from f b 0 (raised 0 k name) 0 stop) w in
-      let here : 0 ≡ j.next = (number_injective j.named).1 in
+      let j = item_judged b 0 0 0 0 i q in
+      let w : (step_walk (λ t p l d m. walk_from f t p l d m) b 0 0 0 0 (Ok (Some i))).1 ≡ Ok tt = rw q at e in
+      let t = then_whole (item_walk (λ t p l d m. walk_from f t p l d m) b 0 0 i) (walk_from f b 0 (raised 0 i.kind i.name) 0 i.stop) w in
+      let here : 0 ≡ j.next = headed_here j refl in
       let ih = bodies_sound f in
-      let i =
-      item_read f ih.0 ih.1 b 0 0 0 0 name from to k start stop j (omega arith) (omega arith) (omega arith) (omega (arith, here)) t.0 in
-      item_valued (rw (← here) at i)
+      let r = item_read f ih.0 ih.1 b 0 0 0 0 i j (omega arith) (omega arith) (omega arith) (omega (arith, here)) t.0 in
+      item_valued (rw (← here) at r)
 
 -- an item that the rule passes is no pad
-rule_content : (b : List ℕ) (name from to k start stop : ℕ) → item_at b 0 0 0 0 ≡ I.Is name from to k start stop
-    → unpadded_from (suc (length b)) b 0 0 0 0 ≡ true → is_pad k ≡ false
-rule_content b name from to k start stop q e =
-    let j = item_judged b 0 0 0 0 name from to k start stop q in
-    not-true (is_pad k) (both {a = not (is_pad k)} (sym (unpadded_steps (length b) b 0 0 0 0 name from to k start stop j.inside q) ∙ e)).0
+rule_content : (b : List ℕ) (i : Placed) → item_at b 0 0 0 0 ≡ Ok (Some i)
+    → unpadded_from (suc (length b)) b 0 0 0 0 ≡ true → is_pad i.kind ≡ false
+rule_content b i q e =
+    let j = item_judged b 0 0 0 0 i q in
+    not-true (is_pad i.kind) (both {a = not (is_pad i.kind)} (sym (unpadded_steps (length b) b 0 0 0 0 i j.inside q) ∙ e)).0
 
-rule_valued : (b : List ℕ) (i : Found) → item_at b 0 0 0 0 ≡ i → is_whole b i ≡ true → unpadded_from (suc (length b)) b 0 0 0 0 ≡ true → Valued b
-rule_valued b I.End q e r = contrary refl e
-rule_valued b (I.No x) q e r = contrary refl e
-rule_valued b (I.Is name from to k start stop) q e r =
-    let z = both {a = eqb stop (length b)} e in
-    walked_valued b name from to k start stop q (eqb-true stop (length b) z.0) (rule_content b name from to k start stop q r) (not-true (is_marker k) z.1)
+rule_valued : (b : List ℕ) (found : Found) → item_at b 0 0 0 0 ≡ found → is_whole b found ≡ true → unpadded_from (suc (length b)) b 0 0 0 0 ≡ true → Valued b
+rule_valued b (Err x) q e r = contrary refl e
+rule_valued b (Ok None) q e r = contrary refl e
+rule_valued b (Ok (Some i)) q e r =
+    let z = both {a = eqb i.stop (length b)} e in
+    walked_valued b i q (eqb-true i.stop (length b) z.0) (rule_content b i q r) (not-true (is_marker i.kind) z.1)
     (rule_ends (suc (length b)) b 0 0 0 0 r)
 
 -- The rule finds values without pad and mark.

@@ -19,7 +19,8 @@ use Rattle.ion.specs.Grammar.{pad, is-null, is_false, is_true, is_zero, is_float
 use Rattle.ion.specs.Grammar.{is-sequence, is_struct, is_sorted, is_bare, is_annotated, sids_end, sids_next}
 use Rattle.ion.specs.Grammar.{members_end, members_pad, members-next, fields_end, fields_pad, fields-next, stream_end, stream_pad, stream_marker, stream_next}
 use Rattle.ion.proofs.Tests.{by_cases, both}
-use Rattle.reading.specs.declared.Number.TheVariants as N
+use Rattle.reading.specs.declared.Item.{Item as Found}
+use Rattle.std.specs.Prelude.{Ok}
 use Rattle.reading.specs.Scalars.{code_from, body_of, scalar_in, sids_of}
 use Rattle.reading.specs.Items.{opens, has_names, is_sorted_struct, name_at}
 use Rattle.reading.specs.Walk.{Walk, shows, leaf, leaf_events, tree_events, tree_depth, members_depth, fields_depth, stream_depth}
@@ -184,7 +185,7 @@ one_size w =
 
 -- a value behind its name, and all that follows
 value_rule : (a : Asked) (f : ℕ) (s : List ℕ) (parent least depth at name next : ℕ) (b r : List ℕ) (v : Value) (p rest : Bool) → OneRule a b v p
-    → at < length s → name_at s parent at ≡ N.Is name next → Rest s next (b ++ r) → (is_sorted_struct parent && ltb name least) ≡ false → a.Fits depth (tree_depth v)
+    → at < length s → name_at s parent at ≡ Ok (record { value = name; next = next }) → Rest s next (b ++ r) → (is_sorted_struct parent && ltb name least) ≡ false → a.Fits depth (tree_depth v)
     → length b ≤ f → (Rest s (next + length b) r → a.rule f s parent name depth (next + length b) ≡ rest)
     → a.rule (suc f) s parent least depth at ≡ ((p && none_by a.mark (tree_leaves v)) && rest)
 value_rule a f s parent least depth at name next b r v p rest w inside named x rises fit le go =
@@ -194,10 +195,11 @@ value_rule a f s parent least depth at name next b r v p rest w inside named x r
     let start : ℕ = next + length o.x + length o.names + length o.y in
     let stop : ℕ = next + length b in
     let j : stop ≡ start + length o.body = omega (arith, one_size o) in
+    let i : Found = record { name = name; sids = from; sids_end = to; kind = o.kind; start = start; stop = stop } in
     let low : (opens o.kind && leb 32 depth) ≡ false = fits_open a o.kind depth (tree_depth v) o.deep fit in
     let here : Rest s start (o.body ++ r) = body_here s parent least depth at name next b v r o inside named x rises from to start stop refl refl refl j in
     rw (
-      a.steps f s parent least depth at name from to o.kind start stop inside
+      a.steps f s parent least depth at i inside
           (item_placed s parent least depth at name next b v r o inside named x rises from to start stop refl refl refl j low),
       o.pad,
       body-slice s parent least depth at name next b v r o inside named x rises from to start stop refl refl refl j,
@@ -207,10 +209,12 @@ value_rule a f s parent least depth at name next b r v p rest w inside named x r
 
 -- a pad behind its name
 pad_rule : (a : Asked) (f : ℕ) (s : List ℕ) (parent least depth at name next : ℕ) (b r : List ℕ) → PadFound b → at < length s
-    → name_at s parent at ≡ N.Is name next → Rest s next (b ++ r) → a.rule (suc f) s parent least depth at ≡ false
+    → name_at s parent at ≡ Ok (record { value = name; next = next }) → Rest s next (b ++ r) → a.rule (suc f) s parent least depth at ≡ false
 pad_rule a f s parent least depth at name next b r w inside named x =
+    let i : Found =
+    record { name = name; sids = next + w.size; sids_end = next + w.size; kind = w.kind; start = next + w.size; stop = next + length b } in
     rw (
-      a.steps f s parent least depth at name (next + w.size) (next + w.size) w.kind (next + w.size) (next + length b) inside
+      a.steps f s parent least depth at i inside
           (pad_item s parent least depth at name next b r w inside named x (next + length b) refl),
       w.is.pad,
     )
@@ -286,7 +290,8 @@ unfolding leaves stream_depth scalar_in code_from body_of
 stream_marker_rule a b is c ih zero s least at x lt fit = absurd (omega arith)
 stream_marker_rule a b is c ih (suc f) s least at x lt fit =
     let next : ℕ = at + 1 + 1 + 1 + 1 in
-    a.steps f s 0 least 0 at 0 next next 0xE0 next next (omega (arith, rest-length x)) (marker_item least 0 b x)
+    let i : Found = record { name = 0; sids = next; sids_end = next; kind = 0xE0; start = next; stop = next } in
+    a.steps f s 0 least 0 at i (omega (arith, rest-length x)) (marker_item least 0 b x)
     ∙ ih f s 0 next (rest-next (0xE0 ∷ 0x01 ∷ 0x00 ∷ 0xEA ∷ []) b next (omega arith) x) (omega arith) fit
 
 -- ---- all productions

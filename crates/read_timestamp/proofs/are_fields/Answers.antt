@@ -3,10 +3,9 @@
 use Rattle.read_timestamp.proofs.Tested.{fields_to_month, fields-from_day}
 use Rattle.read_timestamp.proofs.are_fields.Goals as goal
 
-pub returns-then-count-lt3 : goal.returns-then-count-lt3
-returns-then-count-lt3 c = let a = c.args in fields_to_month a.year a.month a.day a.hour a.minute a.second a.count c.if-count-lt3.true
+pub returns-then-f-lt3 : goal.returns-then-f-lt3
+returns-then-f-lt3 c = let f = c.args.f in fields_to_month f.year f.month f.day f.hour f.minute f.second f.count c.if-f-lt3.true
 
 pub returns : goal.returns
-returns c = let a = c.args in
-    rw c.is_date.ensures (fields-from_day a.year a.month a.day a.hour a.minute a.second a.count
-    c.if-count-lt3.false c.requires)
+returns c = let f = c.args.f in
+    rw c.is_date.ensures (fields-from_day f.year f.month f.day f.hour f.minute f.second f.count c.if-f-lt3.false c.requires)

@@ -1,68 +1,30 @@
 -- `read_timestamp::fields_at` meets its contract: the fields so far are in the array; each turn adds one.
 -- Assumes nothing.
-use Prim.Native.Nat.{◌<◌}
 use native.Mathlib.Omega.{arith}
-use mathlib.Core.Path.{sym, ◌∙◌}
-use lib.Dec.{ltb}
-use lib.ListN.{length}
-use borrow.Author.Tests.{ltb-true}
-use Rattle.ion.proofs.Tests.{both}
-use Rattle.read_bodies.proofs.VarFields.{var_uint_is, var_uint-none}
+use mathlib.Core.Path.{refl, sym, ◌∙◌}
+use Rattle.std.proofs.lemmas.List.{set-get_or}
+use Rattle.std.proofs.lemmas.Result.{err_from_is_err_and}
 use Rattle.read_timestamp.proofs.Gathered.{gathered_none, gathered_more, gathered_no, gathered_all}
 use Rattle.read_timestamp.proofs.fields_at.Goals as goal
+use Rattle.read_timestamp.proofs.fields_at.Goals.{else-loop-field-test, then-loop-field-test+then-body-next}
 
-pub loop-count-init : goal.loop-count-init
-loop-count-init c = gathered_none _ _ c.requires
+pub loop-field-init : goal.loop-field-init
+loop-field-init c = (refl, gathered_none _ _ c.requires)
 
-pub returns-in_default : goal.returns-in_default
-returns-in_default c =
-    let inside : (c.loop-count.count < 6) × (c.loop-count.i < length c.args.body.now) =
-    let b = both {a = ltb c.loop-count.count 6} c.loop-count-test.true in
-    (ltb-true c.loop-count.count 6 b.0, ltb-true c.loop-count.i (length c.args.body.now) b.1) in
-    let a = c.args in let h = inside in
-    gathered_no a.body.now a.at c.loop-count.f c.loop-count.count c.loop-count.i c.loop-count.invariant h.0 h.1
-    (var_uint-none a.body.now c.loop-count.i _ (sym c.var_uint-field.ensures ∙ c.in_default.is))
+pub returns-in_err-number : goal.returns-in_err-number
+returns-in_err-number c =
+    let p = err_from_is_err_and c.from_residual.result c.from_residual.ensures.1 in
+    let l = c.loop-field in
+    rw (p.1, p.2) (gathered_no c.args.body.now c.args.at l.field-items l.count l.next l.invariant.1 (omega arith) (omega arith) _ (sym c.var_uint.ensures ∙ c.in_err-number.was))
 
-pub offset_bounds-f-count : goal.offset_bounds-f-count
-offset_bounds-f-count c =
-    let inside : (c.loop-count.count < 6) × (c.loop-count.i < length c.args.body.now) =
-    let b = both {a = ltb c.loop-count.count 6} c.loop-count-test.true in
-    (ltb-true c.loop-count.count 6 b.0, ltb-true c.loop-count.i (length c.args.body.now) b.1) in
-    let h = inside in omega arith
-
-pub bounds-f-count : goal.bounds-f-count
-bounds-f-count c =
-    let inside : (c.loop-count.count < 6) × (c.loop-count.i < length c.args.body.now) =
-    let b = both {a = ltb c.loop-count.count 6} c.loop-count-test.true in
-    (ltb-true c.loop-count.count 6 b.0, ltb-true c.loop-count.i (length c.args.body.now) b.1) in
-    inside.0
-
-pub overflow_add-count : goal.overflow_add-count
-overflow_add-count c =
-    let inside : (c.loop-count.count < 6) × (c.loop-count.i < length c.args.body.now) =
-    let b = both {a = ltb c.loop-count.count 6} c.loop-count-test.true in
-    (ltb-true c.loop-count.count 6 b.0, ltb-true c.loop-count.i (length c.args.body.now) b.1) in
-    let h = inside in omega arith
-
-pub loop-count-smaller : goal.loop-count-smaller
-loop-count-smaller c =
-    let inside : (c.loop-count.count < 6) × (c.loop-count.i < length c.args.body.now) =
-    let b = both {a = ltb c.loop-count.count 6} c.loop-count-test.true in
-    (ltb-true c.loop-count.count 6 b.0, ltb-true c.loop-count.i (length c.args.body.now) b.1) in
-    let h = inside in omega arith
-
-pub loop-count-preserved : goal.loop-count-preserved
-loop-count-preserved c =
-    let inside : (c.loop-count.count < 6) × (c.loop-count.i < length c.args.body.now) =
-    let b = both {a = ltb c.loop-count.count 6} c.loop-count-test.true in
-    (ltb-true c.loop-count.count 6 b.0, ltb-true c.loop-count.i (length c.args.body.now) b.1) in
-    let a = c.args in let h = inside in gathered_more a.body.now a.at c.loop-count.f c.loop-count.count c.loop-count.i c.loop-count.invariant h.0
-    h.1 c.in-Is.value c.in-Is.next
-    (var_uint_is a.body.now c.loop-count.i c.in-Is.value c.in-Is.next (sym c.var_uint-field.ensures ∙ c.in-Is.is))
-
-pub overflow_cast-result : goal.overflow_cast-result
-overflow_cast-result c = let e = c.loop-count.invariant.sum in omega arith
+pub loop-field-preserved : goal.loop-field-preserved
+loop-field-preserved c = let l = c.loop-field in
+    (omega arith, rw (← l.invariant.0) (gathered_more c.args.body.now c.args.at l.field-items l.count l.next l.invariant.1 (omega arith) (omega arith) _ _ (sym c.var_uint.ensures ∙ c.in_ok-number.was)))
 
 pub returns : goal.returns
-returns c = let a = c.args in
-    gathered_all a.body.now a.at c.loop-count.f c.loop-count.count c.loop-count.i c.loop-count.invariant c.loop-count-test.false
+returns c = let l = c.loop-field in
+    elim c.loop-field-test.branch [
+      | else-loop-field-test w ↦ rw w.f-is (gathered_all c.args.body.now c.args.at l.field-items l.count l.next l.invariant.1 (λ k. absurd (omega arith)))
+      | then-loop-field-test+then-body-next w ↦
+          rw (w.f-is, set-get_or) (gathered_all c.args.body.now c.args.at l.field-items l.count l.next l.invariant.1 (λ k. w.if-body-next.true))
+    ]

@@ -1,6 +1,7 @@
 -- `read_timestamp::is_date` meets its contract: by the calendar's table, for years and months that it has.
 -- Assumes nothing.
 use native.Mathlib.Omega.{arith}
+use mathlib.Core.Path.{◌∙◌}
 use Rattle.read_timestamp.proofs.Tested.{date_past, date_years, date_days}
 use Rattle.read_timestamp.proofs.is_date.Goals as goal
 
@@ -15,4 +16,4 @@ overflow_cast-month c = let a = c.args in let h = date_years a.year a.month c.if
 
 pub returns : goal.returns
 returns c = let a = c.args in
-    date_days a.year a.month a.day c.days_in_month-days.result c.if-year-month.false c.days_in_month-days.ensures
+    date_days a.year a.month a.day c.from.result c.if-year-month.false (c.from.ensures ∙ c.days_in_month-days.ensures)

@@ -1,12 +1,12 @@
 -- The items of a body by what the rule says of the item at each place; what an item holds, by its type byte. Assumes nothing.
 use Rattle.std.proofs.Common.{ℕ, ◌-◌, true, false, List, sym, ap, ◌∙◌, arith}
-use Rattle.std.specs.Prelude.{not}
+use Rattle.std.specs.Prelude.{not, Ok}
 use Rattle.std.proofs.Math.Seq.{length-take-le}
 use Rattle.reading.specs.Scalars.{scalar_in}
 use Rattle.reading.specs.Bodies.{mark_in}
 use Rattle.read_items.proofs.Bounds.{item_bounds}
 use Rattle.read_items.proofs.Parts.{part_slice}
-use Rattle.unpadded.proofs.Steps.{at-end, no_item, at_pad, wrong_content, goes_past, content_inside, content_leaf}
+use Rattle.unpadded.proofs.Steps.{at-end, refused, no_item, at_pad, wrong_content, goes_past, content_inside, content_leaf}
 use Rattle.unpadded.proofs.+are_unpadded_is_content.Goals as goal
 
 -- ---- the items
@@ -17,86 +17,92 @@ are_unpadded-loop-i-init t c = (omega arith, omega arith, λ r k. k)
 pub are_unpadded-returns-in_default : goal.are_unpadded-returns-in_default
 are_unpadded-returns-in_default t c =
     let a = c.args in
-    c.loop-i.invariant.2 false (λ g h. no_item g (omega arith) a.s.now a.parent c.loop-i.low a.depth c.loop-i.i (omega arith)
-    c.item-found.result c.item-found.ensures c.in_default.not-Is)
+    c.loop-i.invariant.2 false (λ g h. refused g (omega arith) a.s.now a.holder.kind c.loop-i.least a.holder.depth c.loop-i.i (omega arith) _
+    (sym c.item.ensures ∙ c.in_default.is))
+
+pub are_unpadded-returns-in_default-found : goal.are_unpadded-returns-in_default-found
+are_unpadded-returns-in_default-found t c =
+    let a = c.args in
+    c.loop-i.invariant.2 false (λ g h. no_item g (omega arith) a.s.now a.holder.kind c.loop-i.least a.holder.depth c.loop-i.i (omega arith)
+    (sym c.item.ensures ∙ c.in-Ok.is ∙ ap Ok c.in_default-found.is))
 
 pub are_unpadded-returns-then-is_pad : goal.are_unpadded-returns-then-is_pad
 are_unpadded-returns-then-is_pad t c =
     let a = c.args in
-    let is = sym c.item-found.ensures ∙ c.in-Is.is in
-    c.loop-i.invariant.2 false (λ g h. at_pad g (omega arith) a.s.now a.parent c.loop-i.low a.depth c.loop-i.i (omega arith) _ _ _ _ _ _ is
+    let is = sym c.item.ensures ∙ c.in-Ok.is ∙ ap Ok c.in-Some.is in
+    c.loop-i.invariant.2 false (λ g h. at_pad g (omega arith) a.s.now a.holder.kind c.loop-i.least a.holder.depth c.loop-i.i (omega arith) _ is
     (sym c.is_pad.ensures ∙ c.if-is_pad.true))
 
 pub are_unpadded-is_content-requires : goal.are_unpadded-is_content-requires
 are_unpadded-is_content-requires t c =
     let a = c.args in
-    let p = item_bounds a.s.now a.parent c.loop-i.low a.depth c.loop-i.i _ _ _ _ _ _ (sym c.item-found.ensures ∙ c.in-Is.is) in
+    let p = item_bounds a.s.now a.holder.kind c.loop-i.least a.holder.depth c.loop-i.i _ (sym c.item.ensures ∙ c.in-Ok.is ∙ ap Ok c.in-Some.is) in
     let w = p.held in
-    (omega (arith, w.after, w.sids, w.before, w.body, w.within), (w.body, (w.within, p.room)))
+    (omega (arith, w.after, w.behind, w.before, w.body, w.within), (w.body, (w.within, p.room)))
 
 pub are_unpadded-returns-then-not-is_content : goal.are_unpadded-returns-then-not-is_content
 are_unpadded-returns-then-not-is_content t c =
     let a = c.args in
-    let is = sym c.item-found.ensures ∙ c.in-Is.is in
-    let p = item_bounds a.s.now a.parent c.loop-i.low a.depth c.loop-i.i _ _ _ _ _ _ is in
+    let is = sym c.item.ensures ∙ c.in-Ok.is ∙ ap Ok c.in-Some.is in
+    let p = item_bounds a.s.now a.holder.kind c.loop-i.least a.holder.depth c.loop-i.i _ is in
     let w = p.held in
     c.loop-i.invariant.2 false (λ g h.
-    wrong_content g (omega arith) a.s.now a.parent c.loop-i.low a.depth c.loop-i.i (omega arith) _ _ _ _ _ _ is
+    wrong_content g (omega arith) a.s.now a.holder.kind c.loop-i.least a.holder.depth c.loop-i.i (omega arith) _ is
     (sym c.is_pad.ensures ∙ c.if-is_pad.false)
-    (sym c.if-not-is_content.true ∙ c.is_content.ensures (g - 1) (omega (arith, w.after, w.sids, w.before, w.body, w.within))))
+    (sym c.if-not-is_content.true ∙ c.is_content.ensures (g - 1) (omega (arith, w.after, w.behind, w.before, w.body, w.within))))
 
 pub are_unpadded-loop-i-smaller : goal.are_unpadded-loop-i-smaller
 are_unpadded-loop-i-smaller t c =
     let a = c.args in
-    let p = item_bounds a.s.now a.parent c.loop-i.low a.depth c.loop-i.i _ _ _ _ _ _ (sym c.item-found.ensures ∙ c.in-Is.is) in
+    let p = item_bounds a.s.now a.holder.kind c.loop-i.least a.holder.depth c.loop-i.i _ (sym c.item.ensures ∙ c.in-Ok.is ∙ ap Ok c.in-Some.is) in
     let w = p.held in
-    omega (arith, w.after, w.sids, w.before, w.body, w.within)
+    omega (arith, w.after, w.behind, w.before, w.body, w.within)
 
 pub are_unpadded-loop-i-preserved : goal.are_unpadded-loop-i-preserved
 are_unpadded-loop-i-preserved t c =
     let a = c.args in
-    let is = sym c.item-found.ensures ∙ c.in-Is.is in
-    let p = item_bounds a.s.now a.parent c.loop-i.low a.depth c.loop-i.i _ _ _ _ _ _ is in
+    let is = sym c.item.ensures ∙ c.in-Ok.is ∙ ap Ok c.in-Some.is in
+    let p = item_bounds a.s.now a.holder.kind c.loop-i.least a.holder.depth c.loop-i.i _ is in
     let w = p.held in (
-      omega (arith, w.after, w.sids, w.before, w.body),
+      omega (arith, w.after, w.behind, w.before, w.body),
       w.within,
       λ r q. c.loop-i.invariant.2 r (λ g h.
-          goes_past g (omega arith) a.s.now a.parent c.loop-i.low a.depth c.loop-i.i (omega arith) _ _ _ _ _ _ is
+          goes_past g (omega arith) a.s.now a.holder.kind c.loop-i.least a.holder.depth c.loop-i.i (omega arith) _ is
           (sym c.is_pad.ensures ∙ c.if-is_pad.false) r
-          (sym c.if-not-is_content.false ∙ c.is_content.ensures (g - 1) (omega (arith, w.after, w.sids, w.before, w.body, w.within)))
-          (q (g - 1) (omega (arith, w.after, w.sids, w.before, w.body, w.within)))),
+          (sym c.if-not-is_content.false ∙ c.is_content.ensures (g - 1) (omega (arith, w.after, w.behind, w.before, w.body, w.within)))
+          (q (g - 1) (omega (arith, w.after, w.behind, w.before, w.body, w.within)))),
     )
 
 pub are_unpadded-returns : goal.are_unpadded-returns
 are_unpadded-returns t c =
     let a = c.args in
-    c.loop-i.invariant.2 true (λ g h. at-end g (omega arith) a.s.now a.parent c.loop-i.low a.depth c.loop-i.i (omega arith))
+    c.loop-i.invariant.2 true (λ g h. at-end g (omega arith) a.s.now a.holder.kind c.loop-i.least a.holder.depth c.loop-i.i (omega arith))
 
 -- ---- what an item holds
 
 pub is_content-slice_bounds-are_unpadded-end : goal.is_content-slice_bounds-are_unpadded-end
-is_content-slice_bounds-are_unpadded-end t c = sym (length-take-le c.args.stop c.args.s.now c.requires.1.0)
+is_content-slice_bounds-are_unpadded-end t c = sym (length-take-le c.args.item.stop c.args.s.now c.requires.1.0)
 
-pub is_content-overflow_add-depth : goal.is_content-overflow_add-depth
-is_content-overflow_add-depth t c =
+pub is_content-overflow_add-inside : goal.is_content-overflow_add-inside
+is_content-overflow_add-inside t c =
     let h = c.requires.1.1 (sym c.is_container.ensures ∙ c.if-is_container.true) in
     omega (arith, h)
 
 pub is_content-are_unpadded-requires : goal.is_content-are_unpadded-requires
 is_content-are_unpadded-requires t c =
-    let prefix = length-take-le c.args.stop c.args.s.now c.requires.1.0 in
+    let prefix = length-take-le c.args.item.stop c.args.s.now c.requires.1.0 in
     (omega (arith, prefix), omega (arith, prefix))
 
 pub is_content-returns-then-is_container : goal.is_content-returns-then-is_container
 is_content-returns-then-is_container t c = λ f h.
     let a = c.args in
-    let prefix = length-take-le a.stop a.s.now c.requires.1.0 in
-    c.are_unpadded.ensures f (omega (arith, prefix)) ∙ content_inside f a.s.now a.depth a.kind a.start a.stop
+    let prefix = length-take-le a.item.stop a.s.now c.requires.1.0 in
+    c.are_unpadded.ensures f (omega (arith, prefix)) ∙ content_inside f a.s.now a.depth a.item.kind a.item.start a.item.stop
     (sym c.is_container.ensures ∙ c.if-is_container.true)
 
 pub is_content-returns : goal.is_content-returns
 is_content-returns t c = λ f h.
     let a = c.args in
     ap not (c.has_mark.ensures
-    ∙ ap (λ (l : List ℕ). mark_in (scalar_in a.kind l)) (part_slice a.s.now a.start a.stop c.requires.0 c.requires.1.0))
-    ∙ content_leaf f a.s.now a.depth a.kind a.start a.stop (sym c.is_container.ensures ∙ c.if-is_container.false)
+    ∙ ap (λ (l : List ℕ). mark_in (scalar_in a.item.kind l)) (part_slice a.s.now a.item.start a.item.stop c.requires.0 c.requires.1.0))
+    ∙ content_leaf f a.s.now a.depth a.item.kind a.item.start a.item.stop (sym c.is_container.ensures ∙ c.if-is_container.false)
