@@ -1,5 +1,6 @@
 -- The state that stored bytes spell: what was stored in the head, in a container or as a count, and all else as it was.
 -- Assumes nothing.
+use Rattle.std.proofs.Common.{Option}
 use Prim.Native.Nat.{ℕ, zero, suc, ◌+◌, ◌*◌, ◌/◌, ◌%◌, ◌^◌, ◌<◌, ◌≤◌}
 use native.Mathlib.Omega.{arith}
 use native.Mathlib.Nat.{mod-eq_of_lt}
@@ -69,15 +70,15 @@ same-four b c at f =
 placed_kept : (b : List ℕ) (at p : ℕ) (xs : List ℕ) → p + 4 ≤ at → four (placed b at xs).1 p ≡ four b p
 placed_kept b at p xs h =
     ⊎_elim
-    (λ q. ap (λ (x : ℕ × List ℕ). four x.1 p) q.1 ∙ same-four (laid b at xs) b p (λ k i j. byte_before b at xs q.0 k (omega arith)))
-    (λ q. ap (λ (x : ℕ × List ℕ). four x.1 p) q.1)
+    (λ q. ap (λ (x : Option ℕ × List ℕ). four x.1 p) q.1 ∙ same-four (laid b at xs) b p (λ k i j. byte_before b at xs q.0 k (omega arith)))
+    (λ q. ap (λ (x : Option ℕ × List ℕ). four x.1 p) q.1)
     (placed_or b at xs)
 
 length-placed : (b : List ℕ) (at : ℕ) (xs : List ℕ) → length (placed b at xs).1 ≡ length b
 length-placed b at xs =
     ⊎_elim
-    (λ q. ap (λ (x : ℕ × List ℕ). length x.1) q.1 ∙ length-laid b at xs q.0)
-    (λ q. ap (λ (x : ℕ × List ℕ). length x.1) q.1)
+    (λ q. ap (λ (x : Option ℕ × List ℕ). length x.1) q.1 ∙ length-laid b at xs q.0)
+    (λ q. ap (λ (x : Option ℕ × List ℕ). length x.1) q.1)
     (placed_or b at xs)
 
 -- those behind leave it
@@ -93,7 +94,7 @@ unfolding numbers_laid
 number-laid [] n ns at p b e h k =
     let f = placed-fits b at (four_bytes n) (omega arith) in
     numbers_kept (at + 4) p ns (placed b at (four_bytes n)).1 (omega arith)
-    ∙ (ap (λ (x : ℕ × List ℕ). four x.1 p) f ∙ (four_within b at (four_bytes n) (omega arith) p 0 (omega arith) (omega arith) ∙ four_back n k))
+    ∙ (ap (λ (x : Option ℕ × List ℕ). four x.1 p) f ∙ (four_within b at (four_bytes n) (omega arith) p 0 (omega arith) (omega arith) ∙ four_back n k))
 number-laid (m ∷ ms) n ns at p b e h k =
     number-laid ms n ns (at + 4) p (placed b at (four_bytes m)).1 (omega arith) (omega (arith, length-placed b at (four_bytes m))) k
 

@@ -13,12 +13,13 @@ use mir.Val.{bool_byte}
 use borrow.Author.Tests.{eq-eqb, ne_eqb, eqb-true, eqb-false, lt-ltb, le-ltb, lt-leb, le-leb, leb-true, leb-false, ltb-true, ltb-false}
 use Rattle.ion.proofs.Tests.{by_cases}
 use Rattle.buffer.specs.Laid.{laid, placed}
-use Rattle.buffer.proofs.Laid.{laid_snoc, length-laid, laid_more}
+use Rattle.ion.proofs.Tests.{both}
+use Rattle.buffer.proofs.Laid.{leb_iff, laid_snoc, length-laid, laid_more}
 use Rattle.machine.specs.declared.Container.{Container}
 use Rattle.machine.specs.declared.State.{State}
 use Rattle.machine.specs.Machine.{most_open, longest_buffer, no_container, innermost_first, open_containers, in_struct, outer, with_member, counted}
 use Rattle.machine.specs.Machine.{container_fits, containers_fit, fits, place_verdict, is_accepted}
-use Rattle.place.proofs.Laws.{innermost_step, innermost-none, chain_step, fits_overused, fits_overopen}
+use Rattle.place.proofs.Laws.{same_test, innermost_step, innermost-none, chain_step, fits_overused, fits_overopen}
 use Rattle.state_bytes.specs.StateBytes.{head_size, record_size, state_size, four, place_of, container_at, containers_from, unfit_state, state_of}
 use Rattle.state_bytes.specs.StateBytes.{four_bytes, flag, stored_head, stored_container, stored_members, stored_count, numbers_laid}
 
@@ -98,6 +99,51 @@ struct_below b d h k u =
 
 pub outer_step : (l : List Container) (n : ℕ) → 0 < n → in_struct (innermost_first l (n - 1)) ≡ in_struct (outer (innermost_first l n))
 outer_step l n h = rw (innermost_step l n h)
+
+-- ---- whether it fits
+
+-- the codes with their halves exchanged are 11, 12 and 13
+module _ (code : ℕ) where
+  abbrev exchanged : ℕ
+  exchanged = code / 16 + code % 16 * 16
+
+  named : (leb 11 exchanged && leb exchanged 13) ≡ true → (eqb code 0xB0 || (eqb code 0xC0 || eqb code 0xD0)) ≡ true
+  named e =
+      let p = leb-true 11 exchanged (both {a = leb 11 exchanged} e).0 in
+      let q = leb-true exchanged 13 (both {a = leb 11 exchanged} e).1 in
+      let z : code % 16 ≡ 0 = omega (arith, q) in
+      let m : code ≡ 16 * (code / 16) = omega arith in
+      by_cases (eqb code 0xB0) (λ s. rw s)
+      (λ s. by_cases (eqb code 0xC0) (λ t. rw (s, t)) (λ t. rw (s, t) (eq-eqb code 0xD0 (omega (arith, p, q, eqb-false code 0xB0 s, eqb-false code 0xC0 t)))))
+
+  among : (n : ℕ) → code ≡ 16 * n → 11 ≤ n → n ≤ 13 → (leb 11 exchanged && leb exchanged 13) ≡ true
+  among n e p q = rw (le-leb 11 exchanged (omega arith), le-leb exchanged 13 (omega arith))
+
+  pub exchanged_code : (leb 11 exchanged && leb exchanged 13) ≡ (eqb code 0xB0 || (eqb code 0xC0 || eqb code 0xD0))
+  exchanged_code =
+      same_test (leb 11 exchanged && leb exchanged 13) (eqb code 0xB0 || (eqb code 0xC0 || eqb code 0xD0)) named
+      (λ e.
+      by_cases (eqb code 0xB0) (λ s. among 11 (eqb-true code 0xB0 s) (omega arith) (omega arith))
+      (λ s. by_cases (eqb code 0xC0) (λ t. among 12 (eqb-true code 0xC0 t) (omega arith) (omega arith))
+      (λ t. among 13 (eqb-true code 0xD0 (rw (s, t) at e)) (omega arith) (omega arith))))
+
+-- members within what is left of the limit
+pub within : (end members limit : ℕ) → (leb end limit && leb members (limit - end)) ≡ leb (end + members) limit
+within end members limit =
+    by_cases (leb end limit)
+    (λ p. let h = leb-true end limit p in rw p (leb_iff members (limit - end) (end + members) limit (λ k. omega arith) (λ k. omega arith)))
+    (λ p. rw (p, lt-leb (end + members) limit (omega (arith, leb-false end limit p))))
+
+-- a header that is the start or lies four beyond it
+pub apart : (header start : ℕ) → (not (eqb header start) && ltb header (start + 4)) ≡ false → (eqb header start || leb (start + 4) header) ≡ true
+apart header start e =
+    by_cases (eqb header start) (λ p. rw p)
+    (λ p. let q : ltb header (start + 4) ≡ false = rw p at e in rw (p, le-leb (start + 4) header (ltb-false header (start + 4) q)))
+
+pub between : (header start : ℕ) → (not (eqb header start) && ltb header (start + 4)) ≡ true → (eqb header start || leb (start + 4) header) ≡ false
+between header start e =
+    by_cases (eqb header start) (λ p. let q : false ≡ true = rw p at e in absurd (false≢true q))
+    (λ p. let q : ltb header (start + 4) ≡ true = rw p at e in rw (p, lt-leb (start + 4) header (ltb-true header (start + 4) q)))
 
 -- ---- the containers, one by one
 

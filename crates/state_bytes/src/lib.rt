@@ -1,16 +1,18 @@
 // A writer's state as lent bytes, and the checks by place on them. No State is made: what lies in an array at a computed place would be copied at every call.
 #![tactic(auto)]
 
-ghost use Rattle.std.specs.Prelude.{◌≡◌, false, not, ◌&&◌, ◌∷◌, [], ◌+◌, ◌-◌, ◌*◌, ◌^◌, ◌≤◌, ◌<◌, leb, length};
+ghost use Rattle.std.specs.Prelude.{◌≡◌, false, not, ◌&&◌, ◌||◌, ◌∷◌, [], ◌+◌, ◌-◌, ◌*◌, ◌^◌, ◌≤◌, ◌<◌, eqb, leb, length};
 ghost use Rattle.buffer.specs.Laid.{laid, placed};
+ghost use Rattle.ion.specs.Value.{list_code, sexp_code, struct_code};
+ghost use Rattle.encoding.specs.Headers.{type_byte};
 ghost use Rattle.machine.specs.Machine.{most_open, innermost_first, open_containers, in_struct, outer};
-ghost use Rattle.machine.specs.Machine.{counted, longest_buffer, containers_fit, place_verdict, is_accepted};
+ghost use Rattle.machine.specs.Machine.{counted, longest_buffer, container_fits, containers_fit, place_verdict, is_accepted};
 ghost use Rattle.machine.specs.Numbers.{verdict_of};
 ghost use Rattle.place.specs.Misplaced.{misplaced};
 ghost use Rattle.state_bytes.specs.StateBytes.{state_size, four, place_of, container_at, state_of, four_bytes, stored_head, stored_container};
 ghost use Rattle.state_bytes.specs.StateBytes.{stored_count, numbers_laid};
 
-use machine::{Container, LONGEST_BUFFER, MOST_OPEN, Refusal, STRUCT};
+use machine::{Container, LIST, LONGEST_BUFFER, MOST_OPEN, Refusal, STRUCT};
 use place::{CallKind, Standing};
 
 // The head, the record of a container, and the state whole.
@@ -102,6 +104,33 @@ impl Standing for StateBytes<'_> {
     }
 }
 
+// Whether it is a container's type code. With the high and the low four bits exchanged these are neighbours, so that one comparison does for three.
+fn is_code(code: u8) -> bool
+    ensures { result ≡ (eqb code (type_byte list_code) || (eqb code (type_byte sexp_code) || eqb code (type_byte struct_code))) }
+{
+    let exchanged = code / 16 + code % 16 * 16;
+    (LIST / 16 <= exchanged) & (exchanged <= STRUCT / 16)
+}
+
+// Whether the container i fits, with what follows it starting at `limit`. Every call comes by here, and `place::container_fits` takes more steps: it subtracts,
+// since its numbers may be of 64 bits. Here they come from four bytes each, and no sum wraps.
+fn container_fits(st: &[u8; STATE_SIZE], i: usize, limit: usize) -> bool
+    requires { i < most_open }
+    ensures { result ≡ container_fits limit (container_at st.now (place_of i)) }
+{
+    let at = HEAD_SIZE + RECORD_SIZE * i;
+    let start = get_four(st, at) as usize;
+    let header = get_four(st, at + HEADER) as usize;
+    let members = get_four(st, at + MEMBERS) as usize;
+    if limit < header + 2 + members {
+        return false;
+    }
+    if (header != start) & (header < start + 4) {
+        return false;
+    }
+    is_code(st[at + CODE])
+}
+
 // From the innermost container outwards: each has to end before the next begins.
 fn containers_fit(st: &[u8; STATE_SIZE], used: usize, depth: usize) -> bool
     requires { depth ≤ most_open }
@@ -109,11 +138,10 @@ fn containers_fit(st: &[u8; STATE_SIZE], used: usize, depth: usize) -> bool
 {
     let mut limit = used;
     for i in (0..depth).rev() {
-        let c = get_container(st, i);
-        if !place::container_fits(c, limit) {
+        if !container_fits(st, i, limit) {
             return false;
         }
-        limit = c.start;
+        limit = get_four(st, HEAD_SIZE + RECORD_SIZE * i) as usize;
     }
     true
 }
@@ -138,6 +166,7 @@ fn innermost_is_struct(st: &[u8; STATE_SIZE], depth: usize) -> bool
 }
 
 // Whether none of the lines 1 to 3 fails.
+#[inline(always)]
 fn passes(st: &[u8; STATE_SIZE], room: usize, call: CallKind) -> bool
     ensures { result ≡ is_accepted (place_verdict (state_of st.now) room (misplaced call (state_of st.now))) }
 {
@@ -155,6 +184,7 @@ fn passes(st: &[u8; STATE_SIZE], room: usize, call: CallKind) -> bool
 }
 
 // The first of the lines 1 to 3 that fails. Most calls pass: that is asked first, and which line fails only where it is no.
+#[inline(always)]
 pub fn check(st: &[u8], room: usize, call: CallKind) -> Result<(), Refusal>
     ensures { verdict_of result ≡ place_verdict (state_of st.now) room (misplaced call (state_of st.now)) }
 {
