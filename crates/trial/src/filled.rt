@@ -1,4 +1,4 @@
-// An array whose first bytes are in use.
+// An array whose first bytes are in use, since nothing allocates.
 ghost use Rattle.std.specs.Prelude.{◌≡◌, ◌+◌, ◌*◌, ◌≤◌, length, min};
 
 use std::fmt;

@@ -159,7 +159,7 @@ pub(crate) enum Scalar<'a> {
     F32(u32),
     F64(u64),
     Decimal(&'a [u8], i64),
-    // As its words.
+    // As its words: with its fields here, every value would be as large, and a short line takes half as long again.
     Timestamp(&'a [u8]),
     Symbol(Name),
     String(&'a [u8]),

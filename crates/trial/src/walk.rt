@@ -23,7 +23,7 @@ enum Due {
     Bracket,
 }
 
-// What is due, the next on top.
+// What is due, the next on top. An array, since nothing allocates.
 #[derive(Drop)]
 struct Stack {
     items: [Due; TOO_LONG],

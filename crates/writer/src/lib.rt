@@ -14,7 +14,7 @@ use machine::{Closed, Container, LONGEST_BUFFER, MARKER, MOST_OPEN, Refusal, Ref
 use place::{CallKind, Standing};
 pub use steps::ContainerType;
 pub use value_writer::{
-    write_blob, write_bool, write_clob, write_decimal, write_f32, write_f32_bits, write_f64,
+    write, write_blob, write_bool, write_clob, write_decimal, write_f32, write_f32_bits, write_f64,
     write_f64_bits, write_i64, write_int, write_null, write_string, write_symbol, write_timestamp,
 };
 
