@@ -4,7 +4,6 @@ use Rattle.std.proofs.Common.{◌≡◌, ℕ, ◌<◌, ◌≤◌, false, List, O
 use borrow.Author.Tests.{eq-eqb, ne_eqb}
 use Rattle.encoding.specs.Headers.{marker_bytes}
 use Rattle.buffer.specs.Laid.{laid, placed}
-use Rattle.buffer.proofs.Laid.{placed-some}
 use Rattle.machine.specs.Machine.{longest_buffer, Outcome}
 use Rattle.steps.specs.Start.{start_run}
 use Rattle.steps.proofs.Started as run
@@ -48,4 +47,4 @@ module _ (st b : List ℕ) (h : length st ≡ state_size) where
         → (z m : List ℕ) → z ≡ replicate (length st) 0 → m ≡ stored_head n 0 false z → entered_as 0 m l ≡ start_entered st b
     start_put n e z m p q =
         let x : m ≡ empty_bytes n = q ∙ ap (stored_head n 0 false) (p ∙ ap (λ (k : ℕ). replicate k 0) h) in
-        rw (x, (placed-some b 0 marker_bytes n l e).1) (start_entry _ (run.start_put b k l n e))
+        rw x (start_entry _ (run.start_put b k l n e))

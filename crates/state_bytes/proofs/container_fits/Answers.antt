@@ -1,6 +1,6 @@
 -- `state_bytes::container_fits` meets its contract: the lines of the definition, the limit first.
 -- Assumes nothing.
-use Rattle.std.proofs.Common.{◌+◌, arith, le-leb}
+use Rattle.std.proofs.Common.{◌+◌, le-leb}
 use borrow.Author.Tests.{lt-leb}
 use mathlib.Core.Bool.{and-false, and-true}
 use Rattle.machine.specs.Machine.{container_fits}
