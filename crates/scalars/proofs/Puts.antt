@@ -3,12 +3,11 @@
 use Prim.Native.Nat.{ℕ, ◌<◌}
 use mathlib.Core.Path.{◌≡◌, refl, sym, ◌∙◌, ap}
 use mathlib.Core.Bool.{Bool, true, false}
-use mathlib.Core.List.{List, [], ◌∷◌, ◌++◌}
-use native.Mathlib.Omega.{arith}
+use mathlib.Core.List.{List, [], ◌∷◌}
 use lib.IntN.{ℤ, pos, negsuc}
 use lib.ListN.{length}
 use Rattle.std.specs.Prelude.{Option, Some, None}
-use Rattle.encoding.specs.Argument.{Argument, write_i64, argument_bytes, argument_checks, any_holds, checked_bytes}
+use Rattle.encoding.specs.Argument.{Argument, write_i64, argument_checks, any_holds, checked_bytes}
 use Rattle.encoding.proofs.Least.{argument_some}
 use Rattle.decimal.proofs.Values.{checked_bytes_refused, checked_bytes_accepted}
 use Rattle.machine.specs.Machine.{refused}

@@ -16,8 +16,8 @@ ghost use Rattle.timestamp.specs.Arguments.{argument_of};
 ghost use Rattle.scalars.specs.Types.{type_of};
 ghost use Rattle.scalars.specs.Refused.{own_refusal};
 
-use decimal::MAX_BODY;
 pub use decimal::Decimal;
+use decimal::MAX_BODY;
 use floats::Float;
 use machine::Refusal;
 pub use timestamp::Timestamp;

@@ -10,7 +10,7 @@ use Rattle.std.specs.Prelude.{Option, Some, None}
 use Rattle.std.proofs.lemmas.Option.{none-some, same_Some}
 use Rattle.ion.proofs.Tests.{by_cases}
 use Rattle.encoding.specs.Headers.{annotated_bytes}
-use Rattle.encoding.specs.Argument.{Argument, argument_bytes, argument_checks, any_holds, checked_bytes}
+use Rattle.encoding.specs.Argument.{Argument, argument_checks, any_holds, checked_bytes}
 use Rattle.encoding.proofs.Least.{argument_some}
 use Rattle.decimal.proofs.Values.{checked_bytes_refused, checked_bytes_accepted}
 use Rattle.buffer.specs.Laid.{placed, written, size_of}

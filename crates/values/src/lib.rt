@@ -7,10 +7,17 @@ ghost use Rattle.buffer.specs.Laid.{written};
 ghost use Rattle.annotations.specs.Sids.{sids_of};
 ghost use Rattle.values.specs.Values.{annotated_checked};
 
-pub use scalars::{Blob, Clob, Decimal, F32Bits, F64Bits, Int, IonType, Symbol, Text, Timestamp, WriteAsIon};
+pub use scalars::{
+    Blob, Clob, Decimal, F32Bits, F64Bits, Int, IonType, Symbol, Text, Timestamp, WriteAsIon,
+};
 
 // The value with its annotations. Nothing is put where one of the value's own checks refuses it.
-pub fn write<V: WriteAsIon>(buf: &mut [u8], at: usize, annotations: &[u8], value: V) -> Option<usize>
+pub fn write<V: WriteAsIon>(
+    buf: &mut [u8],
+    at: usize,
+    annotations: &[u8],
+    value: V,
+) -> Option<usize>
     ensures { ◌≡◌ {A = Option ℕ × List ℕ} (result, buf.new)
         (written buf.old at (annotated_checked (sids_of annotations.now) (V.argument value))) }
 {

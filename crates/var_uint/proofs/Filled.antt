@@ -8,7 +8,6 @@ use native.Mathlib.Nat.{add-zero}
 use lib.ListN.{length, drop, set, get_or, length-drop}
 use lib.Seq.{drop-cons, drop-length}
 use Rattle.std.specs.Prelude.{Option, Some, None}
-use Rattle.std.proofs.lemmas.Option.{same_Some}
 use Rattle.buffer.specs.Laid.{laid, placed}
 use Rattle.buffer.proofs.Laid.{laid_cons, placed-fits, placed_full, placed_nil}
 use Rattle.var_uint.specs.Filled.{filled}

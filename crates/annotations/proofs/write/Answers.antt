@@ -1,5 +1,5 @@
 -- Room for the whole, and then it is put. Assumes nothing.
-use mathlib.Core.Path.{sym, ap}
+use mathlib.Core.Path.{sym}
 use native.Mathlib.Omega.{arith}
 use Rattle.encoding.specs.Headers.{annotation_bytes}
 use Rattle.buffer.proofs.Laid.{placed_full, no_room}

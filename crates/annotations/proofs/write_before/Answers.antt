@@ -1,6 +1,6 @@
 -- `annotations::write_before` meets its contract: room for the annotations and what follows them, and then they are put.
 -- Assumes nothing.
-use mathlib.Core.Path.{sym, ◌∙◌, ap}
+use mathlib.Core.Path.{sym, ◌∙◌}
 use native.Mathlib.Omega.{arith}
 use Rattle.encoding.specs.Headers.{annotation_bytes}
 use Rattle.buffer.proofs.Laid.{no_room, room}

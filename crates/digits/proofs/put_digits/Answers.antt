@@ -1,5 +1,5 @@
 -- Each turn lays one digit more before those that are laid. Assumes nothing.
-use mathlib.Core.Path.{◌≡◌, refl, sym, ◌∙◌, ap}
+use mathlib.Core.Path.{◌≡◌, sym, ◌∙◌, ap}
 use mathlib.Core.List.{[], ◌∷◌, append-nil}
 use Prim.Native.Nat.{suc, ◌+◌, ◌-◌, ◌%◌}
 use native.Mathlib.Omega.{arith}

@@ -10,7 +10,6 @@ use mir.Val.{bool_byte}
 use lib.ListN.{length, take, drop, get_or}
 use Rattle.encoding.specs.Fields.{trimmed, int_bytes}
 use Rattle.buffer.specs.Laid.{placed}
-use Rattle.buffer.proofs.Laid.{placed_nil}
 use Rattle.encoding.proofs.Trimmed.{trimmed_cons, trimmed-part, rest_part}
 use Rattle.encoding.proofs.Signs.{bool_byte-most, top_bit_is, int_zero, int_negative_zero, int_clear, int_taken}
 use Rattle.int.proofs.write.Goals as goal

@@ -1,12 +1,11 @@
 -- A header, and the bytes behind it. Assumes nothing.
 use native.Mathlib.Omega.{arith}
-use Prim.Native.Nat.{◌+◌, ◌*◌, ◌/◌, ◌≤◌}
+use Prim.Native.Nat.{◌*◌, ◌/◌}
 use mathlib.Core.Path.{refl, sym, ◌∙◌}
-use lib.ListN.{length}
 use Rattle.encoding.specs.Headers.{framed_bytes}
 use Rattle.encoding.proofs.Headers.{length-framed}
 use Rattle.buffer.proofs.Laid.{no_room, placed_full, room}
-use Rattle.decimal.proofs.Values.{body_room, header_count, no_body, no_header, placed-framed, value_count}
+use Rattle.decimal.proofs.Values.{header_count, no_body, no_header, placed-framed, value_count}
 use Rattle.scalars.proofs.Bytes.{written_framed}
 use Rattle.scalars.proofs.write_bytes.Goals as goal
 

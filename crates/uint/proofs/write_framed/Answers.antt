@@ -9,7 +9,7 @@ use lib.ListN.{length, set}
 use Rattle.std.specs.Prelude.{Option, Some, None}
 use Rattle.encoding.specs.Fields.{uint_bytes}
 use Rattle.encoding.specs.Headers.{framed_bytes}
-use Rattle.encoding.proofs.Sizes.{uint-zero, uint_least, uint-most}
+use Rattle.encoding.proofs.Sizes.{uint-zero, uint-most}
 use Rattle.encoding.proofs.Headers.{framed_short}
 use Rattle.buffer.specs.Laid.{placed}
 use Rattle.buffer.proofs.Laid.{placed_cons, placed_cons_none, placed_full, placed-some}

@@ -1,9 +1,7 @@
 -- The value, or its size, what stands before a value of that size, and the value behind it. Assumes nothing.
-use Prim.Native.Nat.{ℕ, ◌+◌}
+use Prim.Native.Nat.{ℕ}
 use native.Mathlib.Omega.{arith}
-use mathlib.Core.Path.{◌≡◌, sym, ◌∙◌, ap}
-use mathlib.Core.List.{List}
-use lib.ListN.{length}
+use mathlib.Core.Path.{sym, ◌∙◌, ap}
 use Rattle.std.specs.Prelude.{Option}
 use Rattle.values.proofs.Annotated.{no_wrapper, unsized, wrapped, wrapped_put, wrapped_within, wrapper_room}
 use Rattle.values.proofs.Checked.{unannotated}
@@ -34,8 +32,11 @@ returns-in_err-body g c = let a = c.args in
 
 pub overflow_add-result : goal.overflow_add-result
 overflow_add-result g c = let a = c.args in
-    omega (arith, wrapped_within a.buf.now a.at a.annotations.now (omega arith) (g.V.WriteAsIon.argument a.value) _ (sym c.in_ok-size.was ∙ c.size.ensures) _ _ c.in_ok-wrapper.ensures
-    _ _ c.in_ok-body.ensures)
+    omega (
+      arith,
+      wrapped_within a.buf.now a.at a.annotations.now (omega arith) (g.V.WriteAsIon.argument a.value) _ (sym c.in_ok-size.was ∙ c.size.ensures) _ _ c.in_ok-wrapper.ensures
+          _ _ c.in_ok-body.ensures,
+    )
 
 pub returns : goal.returns
 returns g c = let a = c.args in

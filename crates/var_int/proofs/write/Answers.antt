@@ -9,7 +9,7 @@ use native.Mathlib.Omega.{arith}
 use mir.Val.{bool_byte}
 use lib.ListN.{length, set, length-set}
 use Rattle.ion.specs.Value.{signed}
-use Rattle.std.specs.Prelude.{Option, Some, None}
+use Rattle.std.specs.Prelude.{Option, Some}
 use Rattle.encoding.specs.Digits.{low_digits, digit_count}
 use Rattle.encoding.specs.Fields.{sign_bit, var_int_groups, var_int_bytes}
 use Rattle.encoding.proofs.Digits.{low_digits-first, digit_count-zero}

@@ -1,14 +1,12 @@
 -- Each turn makes one store more, of the byte before. Assumes nothing.
-use mathlib.Core.Path.{◌≡◌, refl, sym, ◌∙◌, ap}
-use mathlib.Core.List.{List}
+use mathlib.Core.Path.{◌≡◌, sym, ◌∙◌, ap}
 use Prim.Native.Nat.{ℕ, suc, ◌+◌, ◌-◌}
 use native.Mathlib.Omega.{arith}
-use lib.ListN.{length, set}
+use lib.ListN.{length}
 use Rattle.encoding.specs.Fields.{var_uint_bytes}
 use Rattle.buffer.proofs.Laid.{no_room, room}
-use Rattle.var_uint.specs.Filled.{filled}
 use Rattle.var_uint.proofs.Filled.{filled-same, filled_none, filled_full, filled_next}
-use Rattle.var_uint.proofs.Groups.{all_to_come, flagged, next-byte, less_to_come}
+use Rattle.var_uint.proofs.Groups.{all_to_come, next-byte, less_to_come}
 use Rattle.var_uint.proofs.fill.Goals as goal
 
 pub returns-then-not-has_room : goal.returns-then-not-has_room

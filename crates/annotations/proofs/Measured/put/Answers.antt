@@ -1,9 +1,8 @@
 -- The sum, and the sids behind it. By the law of two placed runs. Assumes nothing.
-use Prim.Native.Nat.{ℕ, ◌+◌, ◌≤◌}
+use Prim.Native.Nat.{ℕ}
 use native.Mathlib.Omega.{arith}
 use mathlib.Core.Path.{◌∙◌, ap}
 use mathlib.Core.List.{◌++◌}
-use lib.ListN.{length}
 use Rattle.encoding.specs.Fields.{var_uint_bytes, var_uints_bytes}
 use Rattle.encoding.specs.Headers.{annotation_bytes}
 use Rattle.buffer.specs.Laid.{placed}

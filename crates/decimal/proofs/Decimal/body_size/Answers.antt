@@ -2,12 +2,9 @@
 use native.Mathlib.Omega.{arith}
 use mathlib.Core.Bool.{false}
 use borrow.Author.Rules.{rules}
-use lib.IntN.{nat_abs}
-use mathlib.Core.Path.{◌≡◌, ◌∙◌, ap}
+use mathlib.Core.Path.{◌≡◌}
 use mir.Syntax.{w64}
-use mir.ValLaws.{to_z-of_z}
 use mir.Val.{of_z, to_z}
-use lib.ListN.{length}
 use Rattle.encoding.proofs.Signs.{int_trimmed-most}
 use Rattle.encoding.proofs.Sizes.{var_int-most}
 use Rattle.decimal.proofs.Decimals.{size_none, size_some}

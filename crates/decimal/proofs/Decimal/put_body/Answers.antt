@@ -1,5 +1,5 @@
 -- The exponent and the coefficient side by side, for both of which there is room. Assumes nothing.
-use Prim.Native.Nat.{ℕ, ◌+◌, ◌≤◌}
+use Prim.Native.Nat.{ℕ}
 use native.Mathlib.Omega.{arith}
 use mathlib.Core.Path.{◌≡◌, sym, ◌∙◌}
 use mathlib.Core.Bool.{Bool, not}
@@ -8,12 +8,10 @@ use borrow.Author.Rules.{rules}
 use mir.Syntax.{w64}
 use mir.Val.{of_z, to_z}
 use lib.IntN.{ℤ, nat_abs}
-use lib.ListN.{length}
 use lib.Signed.{non_neg}
 use Rattle.std.specs.Prelude.{Option}
 use Rattle.ion.specs.Value.{signed}
 use Rattle.encoding.specs.Fields.{var_int_bytes, signed_of}
-use Rattle.encoding.specs.Decimal.{decimal_body}
 use Rattle.encoding.proofs.Signs.{signed_of_is}
 use Rattle.buffer.specs.Laid.{placed}
 use Rattle.buffer.proofs.Laid.{placed_nil}

@@ -1,10 +1,5 @@
 -- None where check 8 refuses, else header and body. Assumes nothing.
 use native.Mathlib.Omega.{arith}
-use mathlib.Core.Path.{◌∙◌, ap, sym}
-use Rattle.std.specs.Prelude.{Option, Some}
-use Rattle.encoding.specs.Argument.{write_decimal, checked_bytes}
-use Rattle.encoding.proofs.Headers.{length-framed}
-use Rattle.buffer.specs.Laid.{size_of}
 use Rattle.decimal.proofs.Decimals.{refused, sized, value_fits}
 use Rattle.decimal.proofs.Decimal.size.Goals as goal
 

@@ -1,5 +1,4 @@
 -- Nothing where check 8 refuses or the room is short, else header and body side by side. Assumes nothing.
-use Prim.Native.Nat.{◌+◌}
 use native.Mathlib.Omega.{arith}
 use Rattle.buffer.proofs.Laid.{no_room, room}
 use Rattle.decimal.proofs.Decimals.{refused, value_fits, full, header_put, behind, body_is_put, whole, whole_count}

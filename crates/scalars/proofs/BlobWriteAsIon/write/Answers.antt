@@ -1,6 +1,5 @@
 -- Its bytes, which no check refuses, are put. Assumes nothing.
 use mathlib.Core.Path.{◌∙◌, ap, sym}
-use Rattle.encoding.specs.Argument.{write_blob}
 use Rattle.buffer.specs.Laid.{written}
 use Rattle.scalars.proofs.Bytes.{blob_bytes}
 use Rattle.scalars.proofs.BlobWriteAsIon.write.Goals as goal

@@ -1,7 +1,7 @@
 -- Its bytes, which no check refuses, are put. Assumes nothing.
 use Prim.Native.Nat.{ℕ, ◌+◌}
 use mathlib.Core.Path.{refl, ◌∙◌, ap}
-use mathlib.Core.List.{List, [], ◌∷◌}
+use mathlib.Core.List.{[], ◌∷◌}
 use Rattle.encoding.specs.Argument.{write_bool}
 use Rattle.buffer.specs.Laid.{placed}
 use Rattle.scalars.proofs.Bytes.{bool_bytes}

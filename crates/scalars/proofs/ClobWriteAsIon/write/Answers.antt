@@ -1,6 +1,5 @@
 -- Its bytes, which no check refuses, are put. Assumes nothing.
 use mathlib.Core.Path.{◌∙◌, ap, sym}
-use Rattle.encoding.specs.Argument.{write_clob}
 use Rattle.buffer.specs.Laid.{written}
 use Rattle.scalars.proofs.Bytes.{clob_bytes}
 use Rattle.scalars.proofs.ClobWriteAsIon.write.Goals as goal

@@ -1,7 +1,7 @@
 -- Its bytes, which no check refuses, are counted. Assumes nothing.
 use mathlib.Core.Path.{refl}
 use Rattle.encoding.specs.Argument.{write_f64}
-use Rattle.std.specs.Float.{binary32, binary64}
+use Rattle.std.specs.Float.{binary64}
 use Rattle.std.specs.Float.Ieee.{to_bits}
 use Rattle.scalars.proofs.Bytes.{f64_bytes}
 use Rattle.scalars.proofs.Puts.{sized_by}

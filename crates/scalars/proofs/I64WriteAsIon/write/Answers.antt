@@ -1,5 +1,5 @@
 -- The sign is in the type byte, and the magnitude is a UInt. Assumes nothing.
-use mathlib.Core.Path.{◌≡◌, refl, sym, ◌∙◌, ap}
+use mathlib.Core.Path.{◌≡◌, sym, ◌∙◌, ap}
 use borrow.Author.Rules.{rules}
 use lib.IntN.{ℤ, nat_abs}
 use mathlib.Core.Bool.{not}

@@ -1,5 +1,4 @@
 -- None for negative zero; else header and body, which has one byte for zero. Assumes nothing.
-use native.Mathlib.Omega.{arith}
 use mathlib.Core.Path.{sym, ◌∙◌}
 use Rattle.encoding.specs.Argument.{write_int}
 use Rattle.encoding.specs.Fields.{or_zero, trimmed}
