@@ -20,9 +20,7 @@ fn field_name(state: &mut [u8], buf: &mut [u8], sid: u64) -> Result<(), Refusal>
 {
     state_bytes::check(state, buf.len(), CallKind::Name)?;
     let used = StateBytes(state).used();
-    let Some(put) = var_uint::write(buf, used, sid) else {
-        return Err(Refusal::NoRoom);
-    };
+    let put = var_uint::write(buf, used, sid).ok_or(Refusal::NoRoom)?;
     state_bytes::grow(state, put, true);
     Ok(())
 }
@@ -52,9 +50,7 @@ fn open(
     if MOST_OPEN <= depth {
         return Err(Refusal::TooDeep);
     }
-    let Some(put) = containers::open(buf, used, annotations) else {
-        return Err(Refusal::NoRoom);
-    };
+    let put = containers::open(buf, used, annotations).ok_or(Refusal::NoRoom)?;
     let container = Container {
         start: used,
         header: used + (put - 2),
@@ -96,9 +92,7 @@ fn close(state: &mut [u8], buf: &mut [u8], closed: &mut [u8]) -> Result<(), Refu
     let used = s.used();
     let outer = s.depth() - 1;
     let c = s.container(outer);
-    let Some(closing) = containers::close(buf, used, c) else {
-        return Err(Refusal::NoRoom);
-    };
+    let closing = containers::close(buf, used, c).ok_or(Refusal::NoRoom)?;
     state_bytes::answer(closed, closing.used - c.start, c.members, closing.moved);
     state_bytes::count(state, outer);
     state_bytes::store(state, closing.used, outer, false);

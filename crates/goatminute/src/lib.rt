@@ -38,9 +38,7 @@ fn start(state: &mut [u8], buf: &mut [u8]) -> Result<(), Refusal>
     if LONGEST_BUFFER < buf.len() {
         return Err(Refusal::BufferTooLong);
     }
-    let Some(put) = buffer::copy(buf, 0, &MARKER) else {
-        return Err(Refusal::NoRoom);
-    };
+    let put = buffer::copy(buf, 0, &MARKER).ok_or(Refusal::NoRoom)?;
     state_bytes::store(state, put, 0, false);
     Ok(())
 }
@@ -59,9 +57,7 @@ fn version_marker(state: &mut [u8], buf: &mut [u8]) -> Result<(), Refusal>
     let s = StateBytes(state);
     let used = s.used();
     let waits = s.waits();
-    let Some(put) = buffer::copy(buf, used, &MARKER) else {
-        return Err(Refusal::NoRoom);
-    };
+    let put = buffer::copy(buf, used, &MARKER).ok_or(Refusal::NoRoom)?;
     state_bytes::grow(state, put, waits);
     Ok(())
 }

@@ -1,1 +1,2 @@
+pub mod NoRoom
 pub mod Values

@@ -28,12 +28,10 @@ pub fn write<V: WriteAsIon>(
     ensures { outcome_of result buf.new ≡ run (write (sids_of annotations.now) (V.argument value)) (config s buf.old) }
 {
     steps::check(s, buf.len(), CallKind::Value)?;
-    let Some(put) = values::write(buf, s.used, annotations, value) else {
-        return Err(Refused {
-            why: value.refusal(),
-            state: s,
-        });
-    };
+    let put = values::write(buf, s.used, annotations, value).ok_or_else(|| Refused {
+        why: value.refusal(),
+        state: s,
+    })?;
     Ok(steps::counted(steps::grown(s, put, false)))
 }
 

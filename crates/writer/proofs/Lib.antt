@@ -1,1 +1,2 @@
 pub mod Innermost
+pub mod NoRoom

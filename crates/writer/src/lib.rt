@@ -18,22 +18,21 @@ pub use value_writer::{
     write_f64_bits, write_i64, write_int, write_null, write_string, write_symbol, write_timestamp,
 };
 
+// A refused call: it hands the state back as it was given.
+fn refused(why: Refusal, state: State) -> Refused
+    ensures { result ≡ record { why = why; state = state } }
+{
+    Refused { why, state }
+}
+
 // A start: an empty state over a lent buffer that begins with a version marker.
 pub fn start(buf: &mut [u8]) -> Result<State, Refused>
     ensures { outcome_of result buf.new ≡ start_run buf.old }
 {
     if LONGEST_BUFFER < buf.len() {
-        return Err(Refused {
-            why: Refusal::BufferTooLong,
-            state: State::empty(0),
-        });
+        return Err(refused(Refusal::BufferTooLong, State::empty(0)));
     }
-    let Some(put) = buffer::copy(buf, 0, &MARKER) else {
-        return Err(Refused {
-            why: Refusal::NoRoom,
-            state: State::empty(0),
-        });
-    };
+    let put = buffer::copy(buf, 0, &MARKER).ok_or(refused(Refusal::NoRoom, State::empty(0)))?;
     Ok(State::empty(put))
 }
 
@@ -42,12 +41,7 @@ pub fn field_name(s: State, buf: &mut [u8], sid: u64) -> Result<State, Refused>
     ensures { outcome_of result buf.new ≡ run (name sid) (config s buf.old) }
 {
     steps::check(s, buf.len(), CallKind::Name)?;
-    let Some(put) = var_uint::write(buf, s.used, sid) else {
-        return Err(Refused {
-            why: Refusal::NoRoom,
-            state: s,
-        });
-    };
+    let put = var_uint::write(buf, s.used, sid).ok_or(refused(Refusal::NoRoom, s))?;
     Ok(steps::grown(s, put, true))
 }
 
@@ -87,17 +81,9 @@ pub fn open(
 {
     steps::check(s, buf.len(), CallKind::Value)?;
     if MOST_OPEN <= s.depth {
-        return Err(Refused {
-            why: Refusal::TooDeep,
-            state: s,
-        });
+        return Err(refused(Refusal::TooDeep, s));
     }
-    let Some(put) = containers::open(buf, s.used, annotations) else {
-        return Err(Refused {
-            why: Refusal::NoRoom,
-            state: s,
-        });
-    };
+    let put = containers::open(buf, s.used, annotations).ok_or(refused(Refusal::NoRoom, s))?;
     Ok(opened(s, put, kind.into()))
 }
 
@@ -108,12 +94,7 @@ pub fn close(s: State, buf: &mut [u8]) -> Result<Closed, Refused>
     steps::check(s, buf.len(), CallKind::Closing)?;
     let outer = s.depth - 1;
     let c = s.container(outer);
-    let Some(closing) = containers::close(buf, s.used, c) else {
-        return Err(Refused {
-            why: Refusal::NoRoom,
-            state: s,
-        });
-    };
+    let closing = containers::close(buf, s.used, c).ok_or(refused(Refusal::NoRoom, s))?;
     let left = State {
         used: closing.used,
         depth: outer,
@@ -149,12 +130,7 @@ pub fn version_marker(s: State, buf: &mut [u8]) -> Result<State, Refused>
     ensures { outcome_of result buf.new ≡ run version_marker (config s buf.old) }
 {
     steps::check(s, buf.len(), CallKind::Top)?;
-    let Some(put) = buffer::copy(buf, s.used, &MARKER) else {
-        return Err(Refused {
-            why: Refusal::NoRoom,
-            state: s,
-        });
-    };
+    let put = buffer::copy(buf, s.used, &MARKER).ok_or(refused(Refusal::NoRoom, s))?;
     Ok(steps::grown(s, put, s.waiting))
 }
 

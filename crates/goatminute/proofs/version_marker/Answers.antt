@@ -10,6 +10,7 @@ use Rattle.steps.proofs.Run.{room_line}
 use Rattle.state_bytes.specs.StateBytes.{state_of}
 use Rattle.entry_steps.proofs.Entered.{refused_place}
 use Rattle.entry_steps.proofs.Calls.{end_full, end_put}
+use Rattle.entry_containers.proofs.NoRoom.{why_none}
 use Rattle.goatminute.proofs.version_marker.Goals as goal
 
 pub returns-in_err-check : goal.returns-in_err-check
@@ -21,12 +22,15 @@ returns-in_err-check c =
     (refused_place version_marker a.state.now a.buf.now (misplaced Top s) (room_line version_marker s a.buf.now) refl c.in_err-check.field-0.0
     c.in_err-check.ensures)
 
-pub returns-in_default : goal.returns-in_default
-returns-in_default c =
+pub returns-in_err-put : goal.returns-in_err-put
+returns-in_err-put c =
     let a = c.args in
     let s = state_of a.state.now in
-    end_full version_marker a.state.now a.buf.now (misplaced Top s) marker_bytes s.waiting refl (λ s. refl) refl refl
-    c.in_ok-check.ensures c.copy.new.buf (rw c.used-used.ensures at c.in_default.ensures)
+    let p = err_from_is_err_and c.from_residual-in_err-put.result c.from_residual-in_err-put.ensures.1 in
+    let none = c.in_err-put.ensures.ok_part in
+    rw (p.1, p.2, why_none _ _ _ c.in_err-put.ensures.value none)
+    (end_full version_marker a.state.now a.buf.now (misplaced Top s) marker_bytes s.waiting refl (λ s. refl) refl refl
+    c.in_ok-check.ensures c.copy.new.buf (rw (none, c.used-used.ensures) at c.copy.ensures))
 
 pub returns : goal.returns
 returns c =
@@ -34,4 +38,4 @@ returns c =
     let s = state_of a.state.now in
     rw (c.grow.ensures, c.waits-waits.ensures)
     (end_put version_marker a.state.now a.buf.now (misplaced Top s) marker_bytes s.waiting refl (λ s. refl) refl refl
-    c.in_ok-check.ensures c.copy.new.buf c.in-Some.put (rw c.used-used.ensures at c.in-Some.ensures))
+    c.in_ok-check.ensures c.copy.new.buf c.in_ok-put.put (rw (c.in_ok-put.ensures.ok_part, c.used-used.ensures) at c.copy.ensures))

@@ -12,6 +12,7 @@ use Rattle.steps.specs.Kinds.{kind_of}
 use Rattle.buffer.proofs.Laid.{placed-some}
 use Rattle.steps.proofs.Run.{outcome, refused_place, passed-place}
 use Rattle.steps.proofs.Containers.{opening_lines, opened_state, reserve_least, opening_refused, opening_accepted, opening_deep}
+use Rattle.writer.proofs.NoRoom.{why_none}
 use Rattle.writer.proofs.open.Goals as goal
 
 pub returns-in_err-check : goal.returns-in_err-check
@@ -31,22 +32,25 @@ returns-then-s-ge-MOST_OPEN c =
     let b = a.buf.now in
     let an = sids_of a.annotations.now in
     let past = passed-place (opening an (kind_of a.kind)) s b (misplaced Value s) (opening_lines an s b) refl c.in_ok-check.ensures in
-    opening_deep an (kind_of a.kind) s b past c.if-s-ge-MOST_OPEN.true
+    rw c.refused.ensures (opening_deep an (kind_of a.kind) s b past c.if-s-ge-MOST_OPEN.true)
 
-pub returns-in_default : goal.returns-in_default
-returns-in_default c =
+pub returns-in_err-put : goal.returns-in_err-put
+returns-in_err-put c =
     let a = c.args in
     let s = a.s in
     let b = a.buf.now in
     let an = sids_of a.annotations.now in
     let past = passed-place (opening an (kind_of a.kind)) s b (misplaced Value s) (opening_lines an s b) refl c.in_ok-check.ensures in
-    opening_refused an (kind_of a.kind) s b c.open.new.buf past c.if-s-ge-MOST_OPEN.false c.in_default.ensures
+    let p = err_from_is_err_and c.from_residual-in_err-put.result c.from_residual-in_err-put.ensures.1 in
+    let none = c.in_err-put.ensures.ok_part in
+    rw (p.1, p.2, why_none _ _ _ c.in_err-put.ensures.value none, c.refused-2.ensures)
+    (opening_refused an (kind_of a.kind) s b c.open.new.buf past c.if-s-ge-MOST_OPEN.false (rw none at c.open.ensures))
 
 pub opened-requires : goal.opened-requires
 opened-requires c =
     let a = c.args in
     let an = sids_of a.annotations.now in
-    let w = placed-some a.buf.now a.s.used (reserve an) c.in-Some.put c.open.new.buf c.in-Some.ensures in
+    let w = placed-some a.buf.now a.s.used (reserve an) c.in_ok-put.put c.open.new.buf (rw c.in_ok-put.ensures.ok_part at c.open.ensures) in
     (c.if-s-ge-MOST_OPEN.false, omega (arith, w.1, reserve_least an), omega (arith, w.0, w.1))
 
 pub returns : goal.returns
@@ -54,9 +58,9 @@ returns c =
     let a = c.args in
     let s = a.s in
     let b = a.buf.now in
-    let n = c.in-Some.put in
+    let n = c.in_ok-put.put in
     let l = c.open.new.buf in
     let an = sids_of a.annotations.now in
     let past = passed-place (opening an (kind_of a.kind)) s b (misplaced Value s) (opening_lines an s b) refl c.in_ok-check.ensures in
     ap (λ (x : State). outcome accepted x l) (c.opened.ensures ∙ ap (opened_state s n) c.into.ensures)
-    ∙ opening_accepted an (kind_of a.kind) s b l past c.if-s-ge-MOST_OPEN.false n c.in-Some.ensures
+    ∙ opening_accepted an (kind_of a.kind) s b l past c.if-s-ge-MOST_OPEN.false n (rw c.in_ok-put.ensures.ok_part at c.open.ensures)

@@ -7,6 +7,7 @@ use Rattle.machine.specs.Call.{version_marker}
 use Rattle.place.specs.declared.CallKind.TheVariants.{Top}
 use Rattle.place.specs.Misplaced.{misplaced}
 use Rattle.steps.proofs.Run.{room_line, refused_place, passed-place, end_refused, end_grown}
+use Rattle.writer.proofs.NoRoom.{why_none}
 use Rattle.writer.proofs.version_marker.Goals as goal
 
 pub returns-in_err-check : goal.returns-in_err-check
@@ -17,16 +18,20 @@ returns-in_err-check c =
     rw (p.1, p.2)
     (refused_place version_marker s b (misplaced Top s) (room_line version_marker s b) refl c.in_err-check.field-0.0 c.in_err-check.ensures)
 
-pub returns-in_default : goal.returns-in_default
-returns-in_default c =
+pub returns-in_err-put : goal.returns-in_err-put
+returns-in_err-put c =
     let s = c.args.s in
     let b = c.args.buf.now in
     let past = passed-place version_marker s b (misplaced Top s) (room_line version_marker s b) refl c.in_ok-check.ensures in
-    end_refused version_marker s b marker_bytes c.copy.new.buf past c.in_default.ensures
+    let p = err_from_is_err_and c.from_residual-in_err-put.result c.from_residual-in_err-put.ensures.1 in
+    let none = c.in_err-put.ensures.ok_part in
+    rw (p.1, p.2, why_none _ _ _ c.in_err-put.ensures.value none, c.refused.ensures)
+    (end_refused version_marker s b marker_bytes c.copy.new.buf past (rw none at c.copy.ensures))
 
 pub returns : goal.returns
 returns c =
     let s = c.args.s in
     let b = c.args.buf.now in
     let past = passed-place version_marker s b (misplaced Top s) (room_line version_marker s b) refl c.in_ok-check.ensures in
-    rw c.grown.ensures (end_grown version_marker s b marker_bytes c.copy.new.buf past (omega arith) s.waiting refl refl c.in-Some.put c.in-Some.ensures)
+    rw c.grown.ensures (end_grown version_marker s b marker_bytes c.copy.new.buf past (omega arith) s.waiting refl refl c.in_ok-put.put
+    (rw c.in_ok-put.ensures.ok_part at c.copy.ensures))
