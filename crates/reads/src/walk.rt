@@ -132,7 +132,8 @@ struct Holder {
     least: u64,
 }
 
-// Where a walk stands: the position, and what holds it, the stream first and then the containers that were entered.
+// Where a walk stands: the position, and what holds it, the stream first and then the containers that were entered. The stream is never left, so the
+// depth is an index into the array; of the kit's `ArrayVec` each look at the last would have to show that there is one.
 #[derive(Drop)]
 struct Walk {
     position: usize,

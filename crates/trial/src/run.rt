@@ -78,7 +78,12 @@ impl Writer {
         let bytes = self.spelled.used();
         answered(match value {
             Scalar::Null(of) => goatminute::gm_write_null(state, buf, annotations, of as u8),
-            Scalar::Bool(value) => goatminute::gm_write_bool(state, buf, annotations, u8::from(value)),
+            Scalar::Bool(value) => goatminute::gm_write_bool(
+                state,
+                buf,
+                annotations,
+                u8::from(value),
+            ),
             Scalar::I64(value) => goatminute::gm_write_i64(state, buf, annotations, value),
             Scalar::Int(word) => goatminute::gm_write_int(
                 state,
