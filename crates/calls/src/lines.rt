@@ -44,7 +44,7 @@ impl From<Result<Closed, Refused>> for Got {
             Err(refused) => (u8::from(refused.why), refused.state, Figures::default()),
         };
         Got {
-            answer: number as usize,
+            answer: usize::from(number),
             used: state.used,
             depth: state.depth,
             waiting: state.waiting,
@@ -61,7 +61,7 @@ impl fmt::Display for Got {
             members,
             moved,
         } = self.figures;
-        write!(f, "{} {size} {members} {moved}", self.waiting as u8)
+        write!(f, "{} {size} {members} {moved}", u8::from(self.waiting))
     }
 }
 

@@ -180,15 +180,16 @@ impl<'a> Call<'a> {
         }
     }
 
-    // Makes a call that closes no container.
-    fn write(self, state: State, buf: &mut [u8]) -> Result<State, Refused> {
+    // Makes the call.
+    pub(crate) fn make(self, state: State, buf: &mut [u8]) -> Result<Closed, Refused> {
         let mut annotations = [0u8; 256];
         let n = hex::bytes(self.sids, &mut annotations);
         let annotations = &annotations[..n];
         let mut bytes = [BODY; 65536];
         let m = self.put_bytes(&mut bytes);
         let bytes = &bytes[..m];
-        match self.function {
+        let state = match self.function {
+            Function::Close => return writer::close(state, buf),
             Function::Start => writer::start(buf),
             Function::Name => writer::field_name(state, buf, self.number()),
             Function::Abandon => writer::abandon(state, buf),
@@ -215,18 +216,10 @@ impl<'a> Call<'a> {
             Function::String => writer::write_string(state, buf, annotations, bytes),
             Function::Clob => writer::write_clob(state, buf, annotations, bytes),
             Function::Blob => writer::write_blob(state, buf, annotations, bytes),
-            Function::Close | Function::Empty => writer::empty(state, buf),
-        }
-    }
-
-    // Makes the call.
-    pub(crate) fn make(self, state: State, buf: &mut [u8]) -> Result<Closed, Refused> {
-        if matches!(self.function, Function::Close) {
-            return writer::close(state, buf);
-        }
-        let state = self.write(state, buf)?;
+            Function::Empty => writer::empty(state, buf),
+        };
         Ok(Closed {
-            state,
+            state: state?,
             size: 0,
             members: 0,
             moved: 0,

@@ -13,6 +13,7 @@ const BLOCK: usize = 65536;
 // How many bytes may wait where a line, of at most six digits and a line feed, is put behind them.
 const MOST_WAITING: usize = 65529;
 
+// An array and a count: the digits are put into the room behind those that wait, which the kit's `ArrayVec` does not lend.
 #[derive(Drop)]
 pub(crate) struct Lines {
     bytes: [u8; BLOCK],

@@ -21,7 +21,7 @@ impl TryFrom<u8> for Size {
     fn try_from(digit: u8) -> Result<Self, NoSize> {
         match digit {
             b'1'..=b'3' => Ok(Size {
-                bytes: (digit - b'0') as usize,
+                bytes: usize::from(digit - b'0'),
             }),
             _ => Err(NoSize),
         }

@@ -5,12 +5,32 @@ use entry_reading::{gm_read_decimal, gm_read_symbol, gm_read_timestamp};
 use std::fmt;
 
 // "Typed Value Formats": a type byte is the type code and four low bits, of which 15 is a null.
-const NULL: u8 = 15;
+pub(crate) const NULL: u8 = 15;
 
-// A negative int's code is another of type int.
+const BOOL: u8 = 1;
+
 const INT: u8 = 2;
 
+// Another code of type int.
 const NEGATIVE_INT: u8 = 3;
+
+const FLOAT: u8 = 4;
+
+const DECIMAL: u8 = 5;
+
+const TIMESTAMP: u8 = 6;
+
+const SYMBOL: u8 = 7;
+
+const STRING: u8 = 8;
+
+const CLOB: u8 = 9;
+
+const BLOB: u8 = 10;
+
+const LIST: u8 = 11;
+
+const SEXP: u8 = 12;
 
 #[derive(Clone, Copy)]
 struct Decimal<'a> {
@@ -82,9 +102,6 @@ struct Fraction<'a> {
 
 impl fmt::Display for Fraction<'_> {
     fn fmt<W: fmt::Write>(&self, f: &mut fmt::Formatter<W>) -> fmt::Result {
-        if self.digits == 0 {
-            return Ok(());
-        }
         write!(f, "{},{}", self.digits, self.coefficient.magnitude)
     }
 }
@@ -93,7 +110,7 @@ impl fmt::Display for Fraction<'_> {
 struct Timestamp<'a> {
     offset: Offset,
     fields: Fields,
-    fraction: Fraction<'a>,
+    fraction: Option<Fraction<'a>>,
     out_of_calendar: bool,
 }
 
@@ -122,16 +139,17 @@ impl<'a> TryFrom<&'a [u8]> for Timestamp<'a> {
             negative: negative != 0,
             magnitude: minutes,
         };
+        let fraction = Fraction {
+            digits,
+            coefficient: Int::from(behind(body, coefficient as usize)),
+        };
         Ok(Timestamp {
             offset: Offset((known != 0).then_some(offset)),
             fields: Fields {
                 all: [year, month, day, hour, minute, second],
                 count: count as usize,
             },
-            fraction: Fraction {
-                digits,
-                coefficient: Int::from(behind(body, coefficient as usize)),
-            },
+            fraction: (digits != 0).then_some(fraction),
             out_of_calendar: marked != 0,
         })
     }
@@ -139,7 +157,10 @@ impl<'a> TryFrom<&'a [u8]> for Timestamp<'a> {
 
 impl fmt::Display for Timestamp<'_> {
     fn fmt<W: fmt::Write>(&self, f: &mut fmt::Formatter<W>) -> fmt::Result {
-        write!(f, "t{}:{}:{}", self.offset, self.fields, self.fraction)?;
+        write!(f, "t{}:{}:", self.offset, self.fields)?;
+        if let Some(fraction) = self.fraction {
+            write!(f, "{fraction}")?;
+        }
         if self.out_of_calendar {
             f.write_str(" out-of-calendar")?;
         }
@@ -192,18 +213,18 @@ impl fmt::Display for Value<'_> {
         match (self.kind / 16, self.kind % 16) {
             (NEGATIVE_INT, NULL) => write!(f, "n{INT}"),
             (code, NULL) => write!(f, "n{code}"),
-            (1, bit) => write!(f, "b{bit}"),
+            (BOOL, bit) => write!(f, "b{bit}"),
             (INT, _) => write!(f, "i+{}", uint(body)),
             (NEGATIVE_INT, _) => write!(f, "i-{}", uint(body)),
-            (4, _) => write!(f, "f{}", Hex(body)),
-            (5, _) => write_read(f, Decimal::try_from(body)),
-            (6, _) => write_read(f, Timestamp::try_from(body)),
-            (7, _) => write_read(f, Sid::try_from(body)),
-            (8, _) => write!(f, "u{}", Hex(body)),
-            (9, _) => write!(f, "c{}", Hex(body)),
-            (10, _) => write!(f, "o{}", Hex(body)),
-            (11, _) => f.write_str("["),
-            (12, _) => f.write_str("("),
+            (FLOAT, _) => write!(f, "f{}", Hex(body)),
+            (DECIMAL, _) => write_read(f, Decimal::try_from(body)),
+            (TIMESTAMP, _) => write_read(f, Timestamp::try_from(body)),
+            (SYMBOL, _) => write_read(f, Sid::try_from(body)),
+            (STRING, _) => write!(f, "u{}", Hex(body)),
+            (CLOB, _) => write!(f, "c{}", Hex(body)),
+            (BLOB, _) => write!(f, "o{}", Hex(body)),
+            (LIST, _) => f.write_str("["),
+            (SEXP, _) => f.write_str("("),
             // What is no code of a value is a struct's here.
             _ => f.write_str("{"),
         }

@@ -2,7 +2,7 @@
 ghost use Rattle.std.specs.Prelude.{◌≡◌, ◌≤◌, length};
 
 use crate::refusal::{Refusal, answered};
-use crate::values::Value;
+use crate::values::{NULL, Value};
 use entry_reading::{gm_read_item, gm_read_rest, gm_read_sid};
 use std::{fmt, io};
 
@@ -15,6 +15,16 @@ const MARKER: u8 = 0xE0;
 
 const NO_MORE: u8 = 0xFF;
 
+// Type bytes: the least of a list and of a struct, and a struct's null, the last of the containers.
+const LIST: u8 = 0xB0;
+
+const STRUCT: u8 = 0xD0;
+
+const NULL_STRUCT: u8 = 0xDF;
+
+// What stands for the stream where a container's type byte is asked for.
+const STREAM: u8 = 0;
+
 // The bytes between two places, as far as the stream has them.
 fn part(stream: &[u8], from: usize, to: usize) -> &[u8] {
     let end = to.min(stream.len());
@@ -22,7 +32,7 @@ fn part(stream: &[u8], from: usize, to: usize) -> &[u8] {
 }
 
 fn is_struct(kind: u8) -> bool {
-    (0xD0..0xDF).contains(&kind)
+    (STRUCT..NULL_STRUCT).contains(&kind)
 }
 
 // An item: its name in a struct, where the sids of its annotations stand, its type byte, and where its body stands.
@@ -58,7 +68,7 @@ impl Item {
 
     // A list, an s-expression or a struct that is not null.
     fn opens(&self) -> bool {
-        (0xB0..0xDF).contains(&self.kind) && self.kind % 16 != 15
+        (LIST..NULL_STRUCT).contains(&self.kind) && self.kind % 16 != NULL
     }
 }
 
@@ -114,7 +124,7 @@ fn print_item(rt: &impl Print, stream: &[u8], holder: Holder, item: Item) -> io:
     print!(rt; "{annotations}{value} ")
 }
 
-// What holds an item, a container or the stream: where it ends, its type byte, which is 0 for the stream, and the least name that may follow in it.
+// What holds an item, a container or the stream: where it ends, its type byte, `STREAM` for the stream, and the least name that may follow in it.
 #[derive(Clone, Copy)]
 struct Holder {
     end: usize,
@@ -122,7 +132,8 @@ struct Holder {
     least: u64,
 }
 
-// Where a walk stands: the position, and what holds it, the stream first and then the containers that were entered.
+// Where a walk stands: the position, and what holds it, the stream first and then the containers that were entered. The stream is never left, so the
+// depth is an index into the array; of the kit's `ArrayVec` each look at the last would have to show that there is one.
 #[derive(Drop)]
 struct Walk {
     position: usize,
@@ -135,7 +146,7 @@ impl Walk {
     fn new(end: usize, position: usize) -> Self {
         let stream = Holder {
             end,
-            kind: 0,
+            kind: STREAM,
             least: 0,
         };
         Walk {
@@ -254,7 +265,7 @@ fn walked(rt: &impl Print, stream: &[u8], position: usize) -> io::Result<Ending>
 // How `gm_read_rest` says that a walk ends.
 fn rest(stream: &[u8], position: usize) -> Ending {
     let mut numbers = [0u64; 1];
-    let answer = answered(gm_read_rest(stream, stream.len(), 0, 0, 0, position, &mut numbers));
+    let answer = answered(gm_read_rest(stream, stream.len(), STREAM, 0, 0, position, &mut numbers));
     let [place] = numbers;
     match answer {
         Ok(()) => Ending::Whole,

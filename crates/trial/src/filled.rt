@@ -1,4 +1,4 @@
-// An array whose first bytes are in use, since nothing allocates.
+// An array whose first bytes are in use, since nothing allocates. Digits are put into the room behind them, which the kit's `ArrayVec` does not lend.
 ghost use Rattle.std.specs.Prelude.{◌≡◌, ◌+◌, ◌*◌, ◌≤◌, length, min};
 
 use std::fmt;

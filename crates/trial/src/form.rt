@@ -49,7 +49,7 @@ impl TryFrom<&[u8]> for Type {
     }
 }
 
-// The last field that a timestamp has.
+// The last field that a timestamp has, by the numbers that the call takes.
 #[derive(Clone, Copy)]
 pub(crate) enum Precision {
     Year,

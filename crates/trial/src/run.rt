@@ -54,9 +54,9 @@ impl Writer {
             value.hour,
             value.minute,
             value.second,
-            value.offset.is_some() as u8,
+            u8::from(value.offset.is_some()),
             value.offset.unwrap_or(0),
-            value.fraction.is_some() as u8,
+            u8::from(value.fraction.is_some()),
             fraction.digits,
             fraction.coefficient,
         )
@@ -78,13 +78,18 @@ impl Writer {
         let bytes = self.spelled.used();
         answered(match value {
             Scalar::Null(of) => goatminute::gm_write_null(state, buf, annotations, of as u8),
-            Scalar::Bool(value) => goatminute::gm_write_bool(state, buf, annotations, value as u8),
+            Scalar::Bool(value) => goatminute::gm_write_bool(
+                state,
+                buf,
+                annotations,
+                u8::from(value),
+            ),
             Scalar::I64(value) => goatminute::gm_write_i64(state, buf, annotations, value),
             Scalar::Int(word) => goatminute::gm_write_int(
                 state,
                 buf,
                 annotations,
-                has_minus(word) as u8,
+                u8::from(has_minus(word)),
                 bytes,
             ),
             Scalar::F32(bits) => goatminute::gm_write_f32(state, buf, annotations, bits),
@@ -93,7 +98,7 @@ impl Writer {
                 state,
                 buf,
                 annotations,
-                has_minus(word) as u8,
+                u8::from(has_minus(word)),
                 bytes,
                 exponent,
             ),

@@ -23,7 +23,8 @@ enum Due {
     Bracket,
 }
 
-// What is due, the next on top. An array, since nothing allocates.
+// What is due, the next on top. An array and a depth: the kit's `ArrayVec` proves as well, but it blanks what it drops, and a file of short lines
+// takes 3 in 100 longer.
 #[derive(Drop)]
 struct Stack {
     items: [Due; TOO_LONG],

@@ -7,6 +7,7 @@ use words::{hex, numbers};
 
 pub(crate) const AT: usize = 3;
 
+// The program `calls` reads its words by the same short methods: the functions that the two name differ, so that a type for both would need a trait.
 #[derive(Clone, Copy)]
 pub(crate) struct Call<'a> {
     function: Function,

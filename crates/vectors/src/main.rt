@@ -125,7 +125,7 @@ fn count_lines(rt: &HostRuntime, text: &[u8]) -> io::Result<Counts> {
         if !vector.is_empty() {
             let is_right = answer(rt, vector)?;
             counts.vectors += 1;
-            counts.right += is_right as usize;
+            counts.right += usize::from(is_right);
         }
     }
     Ok(counts)
