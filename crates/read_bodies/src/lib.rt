@@ -57,10 +57,10 @@ fn with_sign(negative: bool, number: Number) -> Result<VarInt, Refusal>
 pub fn var_int(b: &[u8], at: usize) -> Result<VarInt, Refusal>
     ensures { result ≡ var_int_at b.now at }
 {
-    if b.len() <= at {
+    let Some(&first) = b.get(at) else {
         return Err(Refusal::NotIon);
-    }
-    let first = u64::from(b[at]);
+    };
+    let first = u64::from(first);
     let negative = first / 64 % 2 == 1;
     if 0x7F < first {
         return Ok(VarInt {
@@ -75,13 +75,12 @@ pub fn var_int(b: &[u8], at: usize) -> Result<VarInt, Refusal>
 // ---- "UInt and Int Fields"
 
 // The big-endian number whose digits before `at` make `acc`, where 64 bits hold it.
-#[tactic(auto, using(crate::proofs::Digits::a_digit))]
 pub fn small_from(b: &[u8], at: usize, acc: u64) -> Option<u64>
     ensures { result ≡ small_from b.now at acc }
 {
     let mut value = acc;
-    for i in at..b.len() {
-        value = value.checked_mul(256)? + u64::from(b[i]);
+    for byte in b.iter().skip(at) {
+        value = value.checked_mul(256)? + u64::from(*byte);
     }
     Some(value)
 }

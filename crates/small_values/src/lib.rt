@@ -41,10 +41,5 @@ fn is_value(size: usize, number: u32) -> bool
 pub fn next(size: usize, from: u32) -> Option<u32>
     ensures { result ≡ next_value size from }
 {
-    for number in from..limit(size) {
-        if is_value(size, number) {
-            return Some(number);
-        }
-    }
-    None
+    (from..limit(size)).find(|number| is_value(size, *number))
 }

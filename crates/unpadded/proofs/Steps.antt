@@ -2,37 +2,42 @@
 -- Assumes nothing.
 use Prim.Native.Nat.{ℕ, suc, ◌+◌, ◌-◌, ◌≤◌, ◌<◌}
 use native.Mathlib.Omega.{arith}
-use mathlib.Core.Path.{◌≡◌, refl}
-use mathlib.Core.Bool.{Bool, true, false, not}
+use mathlib.Core.Path.{◌≡◌, refl, subst}
+use mathlib.Core.Bool.{Bool, true, false, not, ◌||◌}
 use mathlib.Core.List.{List}
+use lib.Dec.{eqb}
 use lib.ListN.{length, take}
 use lib.Seq.{slice}
-use borrow.Author.Tests.{eq-eqb, ne_eqb}
+use borrow.Author.Tests.{ne_eqb}
 use Rattle.reading.specs.declared.Item.{Item}
-use Rattle.reading.specs.declared.Refusal.{Refusal}
 use Rattle.std.specs.Prelude.{Ok, Err, Some, None}
 use Rattle.reading.specs.Items.{is_pad, opens, Found, item_at}
 use Rattle.reading.specs.Scalars.{scalar_in}
 use Rattle.reading.specs.Bodies.{mark_in}
 use Rattle.read_items.proofs.Fuel.{fuelled}
-use Rattle.unpadded.specs.Rule.{unpadded_from, content_by, is_whole, is_one_value}
+use Rattle.unpadded.specs.Rule.{step_is, unpadded_from, content_by, is_whole, is_one_value}
+
+-- nothing is there to read, or what is there does not read
+abbrev pub NoItem : Found → Type 0
+NoItem (Err r) = Unit {0}
+NoItem (Ok None) = Unit {0}
+NoItem (Ok (Some i)) = ⊥
+
+ends_there : (go : List ℕ → ℕ → ℕ → ℕ → ℕ → Bool) (s : List ℕ) (parent least depth : ℕ) (found : Found) (b : Bool) → NoItem found
+    → b ≡ b || step_is go s parent least depth found
+ends_there go s parent least depth (Err r) false no_one = refl
+ends_there go s parent least depth (Err r) true no_one = refl
+ends_there go s parent least depth (Ok None) false no_one = refl
+ends_there go s parent least depth (Ok None) true no_one = refl
+ends_there go s parent least depth (Ok (Some i)) b no_one = absurd no_one
 
 module _ (f : ℕ) (some : 1 ≤ f) (s : List ℕ) (parent least depth at : ℕ) where
-  pub at-end : at ≡ length s → true ≡ unpadded_from f s parent least depth at
+  pub no_item : (found : Found) → found ≡ item_at s parent least depth at → NoItem found → eqb at (length s) ≡ unpadded_from f s parent least depth at
   unfolding unpadded_from
-  at-end e = fuelled (λ g. true ≡ unpadded_from g s parent least depth at) f some (λ g p. rw (eq-eqb at (length s) e) refl)
+  no_item found is e = fuelled (λ g. eqb at (length s) ≡ unpadded_from g s parent least depth at) f some
+      (λ g p. ends_there (λ t p l d i. unpadded_from g t p l d i) s parent least depth (item_at s parent least depth at) (eqb at (length s)) (subst NoItem is e))
 
   module _ (inside : at < length s) where
-    pub refused : (r : Refusal) → item_at s parent least depth at ≡ Err r → false ≡ unpadded_from f s parent least depth at
-    unfolding unpadded_from
-    refused r e = fuelled (λ g. false ≡ unpadded_from g s parent least depth at) f some
-        (λ g p. rw (ne_eqb at (length s) (λ q. omega arith), e) refl)
-
-    pub no_item : item_at s parent least depth at ≡ Ok None → false ≡ unpadded_from f s parent least depth at
-    unfolding unpadded_from
-    no_item e = fuelled (λ g. false ≡ unpadded_from g s parent least depth at) f some
-        (λ g p. rw (ne_eqb at (length s) (λ q. omega arith), e) refl)
-
     module _ (i : Item) (is : item_at s parent least depth at ≡ Ok (Some i)) where
       pub at_pad : is_pad i.kind ≡ true → false ≡ unpadded_from f s parent least depth at
       unfolding unpadded_from

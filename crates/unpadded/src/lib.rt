@@ -58,23 +58,14 @@ fn are_unpadded(s: &[u8], holder: Holder, at: usize) -> bool
 {
     let mut i = at;
     let mut least = holder.least;
-    while i < s.len() {
-        let Ok(found) = read_items::item(s, Holder { least, ..holder }, i) else {
-            return false;
-        };
-        let Some(item) = found else {
-            return false;
-        };
-        if read_items::is_pad(item.kind) {
-            return false;
-        }
-        if !is_content(s, holder.depth, item) {
+    while let Ok(Some(item)) = read_items::item(s, Holder { least, ..holder }, i) {
+        if read_items::is_pad(item.kind) || !is_content(s, holder.depth, item) {
             return false;
         }
         least = item.name;
         i = item.stop;
     }
-    true
+    i == s.len()
 }
 
 // The first item is all of the bytes, and no version marker.
@@ -83,8 +74,7 @@ fn is_whole(s: &[u8], found: Result<Option<Item>, Refusal>) -> bool
 {
     match found {
         Ok(Some(item)) => (item.stop == s.len()) & !(item.kind == MARKER),
-        Ok(None) => false,
-        Err(_) => false,
+        _ => false,
     }
 }
 

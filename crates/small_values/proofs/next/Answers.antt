@@ -1,30 +1,19 @@
--- `small_values::next` meets its contract: whatever is next from `number` on is next from the beginning.
+-- `small_values::next` meets its contract: the first number whose string passes.
 -- Assumes nothing.
-use Prim.Native.Nat.{◌<◌, ◌≤◌}
-use native.Mathlib.Omega.{arith}
-use mathlib.Core.Path.{sym, ◌∙◌}
-use Rattle.small_values.specs.Listing as S
-use Rattle.small_values.proofs.Steps.{asked, next_here, next-later, next_end, value_is, no_value}
+use Rattle.std.proofs.Common.{rules, tests, ◌≡◌, true, false, arith}
+use Rattle.std.proofs.lemmas.Iterator.{first_from_Range, serves_from_Range}
+use Rattle.encoding.specs.Digits.{low_digits}
+use Rattle.unpadded.specs.Rule.{is_one_value}
+use Rattle.small_values.proofs.Steps.{asked, found}
 use Rattle.small_values.proofs.next.Goals as goal
 
-pub is_value-requires : goal.is_value-requires
-is_value-requires c = asked c.args.size c.loop-number.number (omega (arith, c.limit-number-end.ensures))
-
-pub returns-then-is_value : goal.returns-then-is_value
-returns-then-is_value c =
-    let n = c.args.size in
-    let y = c.loop-number.number in
-    let below : y < S.limit n = omega (arith, c.limit-number-end.ensures) in
-    sym (value_is n c.args.from y (c.loop-number.invariant ∙ next_here n y below (sym c.is_value.ensures ∙ c.if-is_value.true)) below)
-
-pub loop-number-preserved : goal.loop-number-preserved
-loop-number-preserved c =
-    let below : c.loop-number.number < S.limit c.args.size = omega (arith, c.limit-number-end.ensures) in
-    c.loop-number.invariant ∙ next-later c.args.size c.loop-number.number below (sym c.is_value.ensures ∙ c.if-is_value.false)
+pub find-requires-clause-callable : goal.find-requires-clause-callable
+find-requires-clause-callable c = serves_from_Range (λ x q k. search (rules, tests)) (λ x low high. let small = asked c.args.size x (omega (arith, c.limit.ensures)) in search rules)
 
 pub returns : goal.returns
 returns c =
     let n = c.args.size in
-    let y = c.loop-number.number in
-    let past : S.limit n ≤ y = omega (arith, c.limit-number-end.ensures) in
-    sym (no_value n c.args.from y (c.loop-number.invariant ∙ next_end n y past) past)
+    found n c.args.from c.limit.result c.limit.ensures c.find.result
+    (first_from_Range _ _ _ _ (λ i. is_one_value (low_digits 256 n i) ≡ true) (λ i. is_one_value (low_digits 256 n i) ≡ false) c.find.ensures.ran
+    (λ x q k. search (rules, tests))
+    (λ x q k. (search rules, search (rules, tests))))

@@ -1,73 +1,62 @@
 -- The items of a body by what the rule says of the item at each place; what an item holds, by its type byte. Assumes nothing.
-use Rattle.std.proofs.Common.{ℕ, ◌-◌, true, false, List, sym, ap, ◌∙◌, arith}
-use Rattle.std.specs.Prelude.{not, Ok}
+use Rattle.std.proofs.Common.{rules, ◌≡◌, ℕ, ◌-◌, ◌<◌, length, false, List, sym, ap, ◌∙◌, arith}
+use Rattle.std.specs.Prelude.{not, Ok, Err, None}
 use Rattle.std.proofs.Math.Seq.{length-take-le}
 use Rattle.reading.specs.Scalars.{scalar_in}
 use Rattle.reading.specs.Bodies.{mark_in}
 use Rattle.read_items.proofs.Bounds.{item_bounds}
 use Rattle.read_items.proofs.Parts.{part_slice}
-use Rattle.unpadded.proofs.Steps.{at-end, refused, no_item, at_pad, wrong_content, goes_past, content_inside, content_leaf}
+use Rattle.unpadded.proofs.Steps.{no_item, at_pad, wrong_content, goes_past, content_inside, content_leaf}
 use Rattle.unpadded.proofs.+are_unpadded_is_content.Goals as goal
+use Rattle.unpadded.proofs.+are_unpadded_is_content.Goals.{are_unpadded-then-is_pad-via-then-is_pad, are_unpadded-then-is_pad-via-else-is_pad+then-not-is_content, are_unpadded-in_default, are_unpadded-in_default-2}
 
 -- ---- the items
 
-pub are_unpadded-loop-i-init : goal.are_unpadded-loop-i-init
-are_unpadded-loop-i-init t c = (omega arith, omega arith, λ r k. k)
-
-pub are_unpadded-returns-in_default : goal.are_unpadded-returns-in_default
-are_unpadded-returns-in_default t c =
-    let a = c.args in
-    c.loop-i.invariant.2 false (λ g h. refused g (omega arith) a.s.now a.holder.kind c.loop-i.least a.holder.depth c.loop-i.i (omega arith) _
-    (sym c.item.ensures ∙ c.in_default.is))
-
-pub are_unpadded-returns-in_default-found : goal.are_unpadded-returns-in_default-found
-are_unpadded-returns-in_default-found t c =
-    let a = c.args in
-    c.loop-i.invariant.2 false (λ g h. no_item g (omega arith) a.s.now a.holder.kind c.loop-i.least a.holder.depth c.loop-i.i (omega arith)
-    (sym c.item.ensures ∙ c.in-Ok.is ∙ ap Ok c.in_default-found.is))
-
-pub are_unpadded-returns-then-is_pad : goal.are_unpadded-returns-then-is_pad
-are_unpadded-returns-then-is_pad t c =
-    let a = c.args in
-    let is = sym c.item.ensures ∙ c.in-Ok.is ∙ ap Ok c.in-Some.is in
-    c.loop-i.invariant.2 false (λ g h. at_pad g (omega arith) a.s.now a.holder.kind c.loop-i.least a.holder.depth c.loop-i.i (omega arith) _ is
-    (sym c.is_pad.ensures ∙ c.if-is_pad.true))
+pub are_unpadded-loop-item-init : goal.are_unpadded-loop-item-init
+are_unpadded-loop-item-init t c = (omega arith, omega arith, λ r k. k)
 
 pub are_unpadded-is_content-requires : goal.are_unpadded-is_content-requires
 are_unpadded-is_content-requires t c =
     let a = c.args in
-    let p = item_bounds a.s.now a.holder.kind c.loop-i.least a.holder.depth c.loop-i.i _ (sym c.item.ensures ∙ c.in-Ok.is ∙ ap Ok c.in-Some.is) in
+    let is = sym c.item.ensures ∙ c.in-Ok-Some.is ∙ ap Ok c.in-Ok-Some.field-0-is in
+    let p = item_bounds a.s.now a.holder.kind c.loop-item.least a.holder.depth c.loop-item.i _ is in
     let w = p.held in
     (omega (arith, w.after, w.behind, w.before, w.body, w.within), (w.body, (w.within, p.room)))
 
-pub are_unpadded-returns-then-not-is_content : goal.are_unpadded-returns-then-not-is_content
-are_unpadded-returns-then-not-is_content t c =
+pub are_unpadded-returns-then-is_pad : goal.are_unpadded-returns-then-is_pad
+are_unpadded-returns-then-is_pad t c =
     let a = c.args in
-    let is = sym c.item.ensures ∙ c.in-Ok.is ∙ ap Ok c.in-Some.is in
-    let p = item_bounds a.s.now a.holder.kind c.loop-i.least a.holder.depth c.loop-i.i _ is in
+    let is = sym c.item.ensures ∙ c.in-Ok-Some.is ∙ ap Ok c.in-Ok-Some.field-0-is in
+    let p = item_bounds a.s.now a.holder.kind c.loop-item.least a.holder.depth c.loop-item.i _ is in
     let w = p.held in
-    c.loop-i.invariant.2 false (λ g h.
-    wrong_content g (omega arith) a.s.now a.holder.kind c.loop-i.least a.holder.depth c.loop-i.i (omega arith) _ is
-    (sym c.is_pad.ensures ∙ c.if-is_pad.false)
-    (sym c.if-not-is_content.true ∙ c.is_content.ensures (g - 1) (omega (arith, w.after, w.behind, w.before, w.body, w.within))))
+    let inside : c.loop-item.i < length a.s.now = omega (arith, w.after, w.behind, w.before, w.body, w.within) in
+    elim c.then-is_pad.branch [
+      | are_unpadded-then-is_pad-via-then-is_pad b ↦ c.loop-item.invariant.2 false (λ g h.
+          at_pad g (omega arith) a.s.now a.holder.kind c.loop-item.least a.holder.depth c.loop-item.i inside _ is
+          (sym c.is_pad.ensures ∙ b.if-is_pad.true))
+      | are_unpadded-then-is_pad-via-else-is_pad+then-not-is_content b ↦ c.loop-item.invariant.2 false (λ g h.
+          wrong_content g (omega arith) a.s.now a.holder.kind c.loop-item.least a.holder.depth c.loop-item.i inside _ is
+          (sym c.is_pad.ensures ∙ b.if-is_pad.false)
+          (sym b.if-not-is_content.true ∙ b.is_content.ensures (g - 1) (omega (arith, w.after, w.behind, w.before, w.body, w.within))))
+    ]
 
-pub are_unpadded-loop-i-smaller : goal.are_unpadded-loop-i-smaller
-are_unpadded-loop-i-smaller t c =
+pub are_unpadded-loop-item-smaller : goal.are_unpadded-loop-item-smaller
+are_unpadded-loop-item-smaller t c =
     let a = c.args in
-    let p = item_bounds a.s.now a.holder.kind c.loop-i.least a.holder.depth c.loop-i.i _ (sym c.item.ensures ∙ c.in-Ok.is ∙ ap Ok c.in-Some.is) in
-    let w = p.held in
+    let is = sym c.item.ensures ∙ c.in-Ok-Some.is ∙ ap Ok c.in-Ok-Some.field-0-is in
+    let w = (item_bounds a.s.now a.holder.kind c.loop-item.least a.holder.depth c.loop-item.i _ is).held in
     omega (arith, w.after, w.behind, w.before, w.body, w.within)
 
-pub are_unpadded-loop-i-preserved : goal.are_unpadded-loop-i-preserved
-are_unpadded-loop-i-preserved t c =
+pub are_unpadded-loop-item-preserved : goal.are_unpadded-loop-item-preserved
+are_unpadded-loop-item-preserved t c =
     let a = c.args in
-    let is = sym c.item.ensures ∙ c.in-Ok.is ∙ ap Ok c.in-Some.is in
-    let p = item_bounds a.s.now a.holder.kind c.loop-i.least a.holder.depth c.loop-i.i _ is in
-    let w = p.held in (
+    let is = sym c.item.ensures ∙ c.in-Ok-Some.is ∙ ap Ok c.in-Ok-Some.field-0-is in
+    let w = (item_bounds a.s.now a.holder.kind c.loop-item.least a.holder.depth c.loop-item.i _ is).held in
+    let inside : c.loop-item.i < length a.s.now = omega (arith, w.after, w.behind, w.before, w.body, w.within) in (
       omega (arith, w.after, w.behind, w.before, w.body),
       w.within,
-      λ r q. c.loop-i.invariant.2 r (λ g h.
-          goes_past g (omega arith) a.s.now a.holder.kind c.loop-i.least a.holder.depth c.loop-i.i (omega arith) _ is
+      λ r q. c.loop-item.invariant.2 r (λ g h.
+          goes_past g (omega arith) a.s.now a.holder.kind c.loop-item.least a.holder.depth c.loop-item.i inside _ is
           (sym c.is_pad.ensures ∙ c.if-is_pad.false) r
           (sym c.if-not-is_content.false ∙ c.is_content.ensures (g - 1) (omega (arith, w.after, w.behind, w.before, w.body, w.within)))
           (q (g - 1) (omega (arith, w.after, w.behind, w.before, w.body, w.within)))),
@@ -76,7 +65,13 @@ are_unpadded-loop-i-preserved t c =
 pub are_unpadded-returns : goal.are_unpadded-returns
 are_unpadded-returns t c =
     let a = c.args in
-    c.loop-i.invariant.2 true (λ g h. at-end g (omega arith) a.s.now a.holder.kind c.loop-i.least a.holder.depth c.loop-i.i (omega arith))
+    elim c.match-item.branch [
+      | are_unpadded-in_default b ↦ c.loop-item.invariant.2 _ (λ g h.
+          no_item g (omega arith) a.s.now a.holder.kind c.loop-item.least a.holder.depth c.loop-item.i (Ok None)
+          (let none : b.in_default.field-0 ≡ None = search rules in ap Ok (sym none) ∙ sym b.in_default.is ∙ c.item.ensures) tt)
+      | are_unpadded-in_default-2 b ↦ c.loop-item.invariant.2 _ (λ g h.
+          no_item g (omega arith) a.s.now a.holder.kind c.loop-item.least a.holder.depth c.loop-item.i (Err b.in_default.field-0) (sym b.in_default.is ∙ c.item.ensures) tt)
+    ]
 
 -- ---- what an item holds
 

@@ -11,11 +11,11 @@ decreases-are_unpadded l = 2 * (length l.s.now - l.at)
 abbrev pub decreases-is_content : goal.decreases-is_content
 decreases-is_content l = 2 * (l.item.stop - l.item.start) + 1
 
-abbrev pub invariant-are_unpadded-loop-i : goal.invariant-are_unpadded-loop-i
-invariant-are_unpadded-loop-i l =
+abbrev pub invariant-are_unpadded-loop-item : goal.invariant-are_unpadded-loop-item
+invariant-are_unpadded-loop-item l =
     (l.at ≤ l.i) × (l.i ≤ length l.s)
     × ((r : Bool) → ((g : ℕ) → length l.s - l.i + 1 ≤ g → r ≡ unpadded_from g l.s l.holder.kind l.least l.holder.depth l.i)
     → (f : ℕ) → length l.s - l.at + 1 ≤ f → r ≡ unpadded_from f l.s l.holder.kind l.holder.least l.holder.depth l.at)
 
-abbrev pub decreases-are_unpadded-loop-i : goal.decreases-are_unpadded-loop-i
-decreases-are_unpadded-loop-i l = length l.s - l.i
+abbrev pub decreases-are_unpadded-loop-item : goal.decreases-are_unpadded-loop-item
+decreases-are_unpadded-loop-item l = length l.s - l.i
