@@ -37,15 +37,15 @@ module _ (acc b : ℕ) {left : List ℕ} (more : List ℕ) (is : left ≡ b ∷ 
   unfolding big_endian
   digit_more n e = ap (λ l. small (big_endian acc l)) is ∙ ap (λ k. small (big_endian k more)) (sym e)
 
-  pub digits_past : 2 ^ 64 ≤ acc * 256 → small (big_endian acc left) ≡ None
+  pub digit_past : 2 ^ 64 ≤ acc * 256 → small (big_endian acc left) ≡ None
   unfolding big_endian
-  digits_past h =
+  digit_past h =
       let n = acc * 256 + b in
       ap (λ l. small (big_endian acc l)) is ∙ rw (le-ltb (big_endian n more) (2 ^ 64) (omega (arith, digits_least n more))) refl
 
-pub digits_end : (acc : ℕ) (left : List ℕ) → left ≡ [] → acc < 2 ^ 64 → small (big_endian acc left) ≡ Some acc
+pub digits_out : (acc : ℕ) (left : List ℕ) → left ≡ [] → acc < 2 ^ 64 → small (big_endian acc left) ≡ Some acc
 unfolding big_endian
-digits_end acc left is h = ap (λ l. small (big_endian acc l)) is ∙ rw (lt-ltb acc (2 ^ 64) h) refl
+digits_out acc left is h = ap (λ l. small (big_endian acc l)) is ∙ rw (lt-ltb acc (2 ^ 64) h) refl
 
 -- ---- zero bytes
 

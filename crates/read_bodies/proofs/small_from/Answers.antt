@@ -6,7 +6,7 @@ use Rattle.std.proofs.lemmas.Iterator.{YieldsList-from_slice}
 use Rattle.std.proofs.lemmas.Iterator.Consumers.{YieldsList-at}
 use Rattle.std.proofs.lemmas.Iterator.Adapters.{YieldsList-from_skip}
 use Rattle.read_bodies.specs.Places.{small_from}
-use Rattle.read_bodies.proofs.Digits.{digit_next, digit_none, digits_past, digits_end, digit_more}
+use Rattle.read_bodies.proofs.Digits.{digit_next, digit_none, digit_past, digits_out, digit_more}
 use Rattle.read_bodies.proofs.small_from.Goals as goal
 
 pub loop-byte-init : goal.loop-byte-init
@@ -26,7 +26,7 @@ pub returns-in_err-value : goal.returns-in_err-value
 returns-in_err-value c =
     let at = c.loop-byte.invariant in
     let next = digit_next at.1.0 at.1.1 c.in-Some.byte c.next.new.self c.in-Some.ensures.steps in
-    c.from_residual.ensures ∙ sym (at.1.2 ∙ digits_past c.loop-byte.value c.in-Some.byte.now next.0 next.1 (omega (arith, c.in_err-value.ensures)))
+    c.from_residual.ensures ∙ sym (at.1.2 ∙ digit_past c.loop-byte.value c.in-Some.byte.now next.0 next.1 (omega (arith, c.in_err-value.ensures)))
 
 pub loop-byte-preserved : goal.loop-byte-preserved
 loop-byte-preserved c =
@@ -40,4 +40,4 @@ loop-byte-preserved c =
 pub returns : goal.returns
 returns c =
     let at = c.loop-byte.invariant in
-    sym (at.1.2 ∙ digits_end c.loop-byte.value at.1.0 (digit_none at.1.0 at.1.1 c.next.new.self c.in-None.ensures.steps) at.0)
+    sym (at.1.2 ∙ digits_out c.loop-byte.value at.1.0 (digit_none at.1.0 at.1.1 c.next.new.self c.in-None.ensures.steps) at.0)
