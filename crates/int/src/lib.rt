@@ -1,22 +1,42 @@
 // Int: a UInt with the sign in the top bit of the first byte; where the magnitude takes that bit, a byte with the sign alone goes before it.
 #![tactic(auto)]
 
-ghost use Rattle.std.specs.Prelude.{◌≡◌, false, List, ◌∷◌, ℕ, Option, length};
+ghost use Rattle.std.specs.Prelude.{◌≡◌, ◌&&◌, false, List, ◌∷◌, ℕ, Option, eqb, length};
+ghost use Rattle.ion.specs.Fields.{uint};
 ghost use Rattle.encoding.specs.Fields.{uint_bytes, trimmed, int_bytes};
 ghost use Rattle.buffer.specs.Laid.{placed};
 
 const SIGN: u8 = 0x80;
 
-// The bytes that an Int of this sign and big-endian magnitude takes: none for zero, one for negative zero.
-pub fn encoded_size_of(negative: bool, magnitude: &[u8]) -> usize
-    ensures { result ≡ length (int_bytes negative (trimmed magnitude.now)) }
-{
-    let zeros = uint::leading_zero_bytes(magnitude);
-    if zeros == magnitude.len() {
-        return usize::from(negative);
+// An int of any size: its sign, and its magnitude from the highest byte on, whose leading zero bytes do not count.
+#[derive(Clone, Copy)]
+pub struct Int<'a> {
+    pub negative: bool,
+    pub magnitude: &'a [u8],
+}
+
+impl<'a> Int<'a> {
+    // Check 5 of document 01's table.
+    pub fn is_negative_zero(self) -> bool
+        ensures { result ≡ (self.entry.negative && eqb (uint self.entry.magnitude.now) 0) }
+    {
+        self.negative & (uint::leading_zero_bytes(self.magnitude) == self.magnitude.len())
     }
-    let high_bit = magnitude[zeros] / SIGN;
-    magnitude.len() - zeros + usize::from(high_bit)
+}
+
+// The bytes that `int` takes as an Int: none for zero, one for negative zero.
+pub fn encoded_size_of(int: Int<'_>) -> usize
+    ensures { result ≡ length (int_bytes int.entry.negative (trimmed int.entry.magnitude.now)) }
+{
+    let zeros = uint::leading_zero_bytes(int.magnitude);
+    if zeros == int.magnitude.len() {
+        return usize::from(int.negative);
+    }
+    let size = int.magnitude.len() - zeros;
+    if int.magnitude[zeros] < SIGN {
+        return size;
+    }
+    size + 1
 }
 
 // A first byte and those of `rest`.
@@ -31,14 +51,16 @@ fn write_first(buf: &mut [u8], at: usize, first: u8, rest: &[u8]) -> Option<usiz
     Some(one + more)
 }
 
-// The sign and a big-endian magnitude as an Int. Zero keeps its sign.
-pub fn write(buf: &mut [u8], at: usize, negative: bool, magnitude: &[u8]) -> Option<usize>
-    ensures { ◌≡◌ {A = Option ℕ × List ℕ} (result, buf.new) (placed buf.old at (int_bytes negative (trimmed magnitude.now))) }
+// `int` as an Int. Zero keeps its sign.
+pub fn write(buf: &mut [u8], at: usize, int: Int<'_>) -> Option<usize>
+    ensures { ◌≡◌ {A = Option ℕ × List ℕ} (result, buf.new)
+        (placed buf.old at (int_bytes int.entry.negative (trimmed int.entry.magnitude.now))) }
 {
+    let magnitude = int.magnitude;
     let zeros = uint::leading_zero_bytes(magnitude);
-    let sign = SIGN * u8::from(negative);
+    let sign = SIGN * u8::from(int.negative);
     if zeros == magnitude.len() {
-        if negative {
+        if int.negative {
             return buffer::put(buf, at, sign);
         }
         return buffer::copy(buf, at, b"");
@@ -51,6 +73,7 @@ pub fn write(buf: &mut [u8], at: usize, negative: bool, magnitude: &[u8]) -> Opt
 }
 
 // The bytes that `value` takes as an Int: n of them hold 8 n - 1 bits, and zero takes none.
+// Its size comes from the leading zeros of the word, where that of an `Int` comes from lent bytes: the two share no line.
 pub fn encoded_size_of_u64(value: u64) -> usize
     ensures { result ≡ length (int_bytes false (uint_bytes value)) }
 {
@@ -61,6 +84,7 @@ pub fn encoded_size_of_u64(value: u64) -> usize
 }
 
 // `value` as an Int: its bytes with the top bit clear, so that a zero byte goes before them where the top bit is taken.
+#[tactic(auto, using(encoding::proofs::Sizes::int_fixed_by))]
 pub fn write_u64(buf: &mut [u8], at: usize, value: u64) -> Option<usize>
     ensures { ◌≡◌ {A = Option ℕ × List ℕ} (result, buf.new) (placed buf.old at (int_bytes false (uint_bytes value))) }
 {

@@ -14,6 +14,7 @@ pub fn encoded_size_of(value: u64) -> usize
 }
 
 // The lowest `count` bytes of `value`, zeros in front where it has fewer.
+#[tactic(auto, unfolding(encoding::specs::Fields::fixed_bytes))]
 pub fn write_fixed(buf: &mut [u8], at: usize, count: usize, value: u64) -> Option<usize>
     ensures { ◌≡◌ {A = Option ℕ × List ℕ} (result, buf.new) (placed buf.old at (fixed_bytes count value)) }
 {
@@ -21,6 +22,7 @@ pub fn write_fixed(buf: &mut [u8], at: usize, count: usize, value: u64) -> Optio
 }
 
 // `value` as a UInt.
+#[tactic(auto, using(encoding::proofs::Sizes::uint_fixed))]
 pub fn write(buf: &mut [u8], at: usize, value: u64) -> Option<usize>
     ensures { ◌≡◌ {A = Option ℕ × List ℕ} (result, buf.new) (placed buf.old at (uint_bytes value)) }
 {

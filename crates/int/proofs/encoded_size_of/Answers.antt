@@ -6,18 +6,25 @@ use native.Mathlib.Omega.{arith}
 use lib.ListN.{length, drop, get_or}
 use Rattle.encoding.specs.Fields.{trimmed}
 use Rattle.encoding.proofs.Trimmed.{trimmed_cons}
-use Rattle.encoding.proofs.Signs.{int_size-none, int_size-some}
+use Rattle.encoding.proofs.Signs.{int_size-none, int_clear, int_taken}
 use Rattle.int.proofs.encoded_size_of.Goals as goal
 
-pub returns-then-zeros-magnitude : goal.returns-then-zeros-magnitude
-returns-then-zeros-magnitude c = let a = c.args in
+pub returns-then-zeros-int : goal.returns-then-zeros-int
+returns-then-zeros-int c = let a = c.args.int in
     c.from.ensures ∙ sym (int_size-none a.negative (trimmed a.magnitude.now) (omega arith))
 
-pub returns : goal.returns
-returns c =
-    let a = c.args in
+pub returns-then-int-zeros-lt-SIGN : goal.returns-then-int-zeros-lt-SIGN
+returns-then-int-zeros-lt-SIGN c =
+    let a = c.args.int in
     let m = a.magnitude.now in
     let z = c.leading_zero_bytes-zeros in
     let t = trimmed_cons m z.result (omega arith) z.ensures in
-    let n = int_size-some a.negative (get_or m z.result 0) (drop (suc z.result) m) (omega (arith, c.type_inv.magnitude z.result)) in
-    rw t (omega (arith, n, ap length t))
+    rw t (omega (arith, ap length t, ap length (int_clear (get_or m z.result 0) (drop (suc z.result) m) a.negative (omega arith))))
+
+pub returns : goal.returns
+returns c =
+    let a = c.args.int in
+    let m = a.magnitude.now in
+    let z = c.leading_zero_bytes-zeros in
+    let t = trimmed_cons m z.result (omega arith) z.ensures in
+    rw t (omega (arith, ap length t, ap length (int_taken (get_or m z.result 0) (drop (suc z.result) m) a.negative (omega arith))))

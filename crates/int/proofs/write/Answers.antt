@@ -11,7 +11,7 @@ use lib.ListN.{length, take, drop, get_or}
 use Rattle.encoding.specs.Fields.{trimmed, int_bytes}
 use Rattle.buffer.specs.Laid.{placed}
 use Rattle.encoding.proofs.Trimmed.{trimmed_cons, trimmed-part, rest_part}
-use Rattle.encoding.proofs.Signs.{bool_byte-most, top_bit_is, int_zero, int_negative_zero, int_clear, int_taken}
+use Rattle.encoding.proofs.Signs.{top_bit_is, int_zero, int_negative_zero, int_clear, int_taken}
 use Rattle.int.proofs.write.Goals as goal
 
 -- the bytes that are put, by the first byte of the trimmed magnitude
@@ -26,31 +26,25 @@ module _ (s : Bool) (m : List ℕ) (r : ℕ) (h : r < length m) (e : r + length 
       ap (λ (l : List ℕ). 0x80 * bool_byte s ∷ l) (trimmed-part m r e)
       ∙ rw (trimmed_cons m r h e, top_bit_is s) (sym (int_taken (get_or m r 0) (drop (suc r) m) s k))
 
-pub overflow_mul-sign : goal.overflow_mul-sign
-overflow_mul-sign c = omega (arith, c.from-sign.ensures, bool_byte-most c.args.negative)
-
-pub returns-then-negative : goal.returns-then-negative
-returns-then-negative c = let a = c.args in
+pub returns-then-int : goal.returns-then-int
+returns-then-int c = let a = c.args in
     rw c.from-sign.ensures at c.put.ensures
-    ∙ ap (placed a.buf.now a.at) (ap (λ (b : ℕ). b ∷ []) (top_bit_is a.negative)
-    ∙ sym (int_negative_zero a.negative (trimmed a.magnitude.now) c.if-negative.true (omega arith)))
+    ∙ ap (placed a.buf.now a.at) (ap (λ (b : ℕ). b ∷ []) (top_bit_is a.int.negative)
+    ∙ sym (int_negative_zero a.int.negative (trimmed a.int.magnitude.now) c.if-int.true (omega arith)))
 
 pub returns-then-zeros-magnitude : goal.returns-then-zeros-magnitude
 returns-then-zeros-magnitude c = let a = c.args in
     c.copy.ensures
-    ∙ ap (placed a.buf.now a.at) (sym (int_zero a.negative (trimmed a.magnitude.now) c.if-negative.false (omega arith)))
-
-pub overflow_add-sign : goal.overflow_add-sign
-overflow_add-sign c = omega (arith, c.from-sign.ensures, bool_byte-most c.args.negative)
+    ∙ ap (placed a.buf.now a.at) (sym (int_zero a.int.negative (trimmed a.int.magnitude.now) c.if-int.false (omega arith)))
 
 pub returns-then-first-lt-SIGN : goal.returns-then-first-lt-SIGN
 returns-then-first-lt-SIGN c = let a = c.args in
     let z = c.leading_zero_bytes-zeros in
     rw c.from-sign.ensures at c.write_first.ensures
-    ∙ ap (placed a.buf.now a.at) (clear a.negative a.magnitude.now z.result (omega arith) z.ensures (omega arith))
+    ∙ ap (placed a.buf.now a.at) (clear a.int.negative a.int.magnitude.now z.result (omega arith) z.ensures (omega arith))
 
 pub returns : goal.returns
 returns c = let a = c.args in
     let z = c.leading_zero_bytes-zeros in
     rw c.from-sign.ensures at c.write_first-2.ensures
-    ∙ ap (placed a.buf.now a.at) (taken a.negative a.magnitude.now z.result (omega arith) z.ensures (omega arith))
+    ∙ ap (placed a.buf.now a.at) (taken a.int.negative a.int.magnitude.now z.result (omega arith) z.ensures (omega arith))
