@@ -6,25 +6,26 @@ ghost use Rattle.buffer.specs.Laid.{placed, written, size_of};
 ghost use Rattle.encoding.specs.Decimal.{decimal_body};
 ghost use Rattle.encoding.specs.Argument.{write_decimal, checked_bytes};
 
+use int::Int;
+
 const TYPE_CODE: u8 = 0x50;
 
 // Check 8: a longer body is refused.
 pub const MAX_BODY: usize = 32;
 
-// The sign and the big-endian magnitude of the coefficient, whose leading zero bytes do not count, and the exponent.
+// The coefficient keeps the sign of zero.
 #[derive(Clone, Copy)]
 pub struct Decimal<'a> {
-    pub negative: bool,
-    pub magnitude: &'a [u8],
+    pub coefficient: Int<'a>,
     pub exponent: i64,
 }
 
 impl<'a> Decimal<'a> {
-    // The length of the body. A slice is shorter than 2 to the 63, so the sum does not wrap.
+    // The length of the body; 0 is that of the empty one. A slice is shorter than 2 to the 63, so the sum does not wrap.
     pub fn body_size(self) -> usize
-        ensures { result ≡ length (decimal_body self.entry.negative self.entry.magnitude.now self.entry.exponent) }
+        ensures { result ≡ length (decimal_body self.entry.coefficient.negative self.entry.coefficient.magnitude.now self.entry.exponent) }
     {
-        let coefficient = int::encoded_size_of(self.negative, self.magnitude);
+        let coefficient = int::encoded_size_of(self.coefficient);
         let scale = sign::magnitude(self.exponent);
         if (coefficient == 0) & (scale == 0) {
             return 0;
@@ -34,7 +35,7 @@ impl<'a> Decimal<'a> {
 
     // The bytes that the decimal takes, header and body; none where the body is longer than 32 bytes.
     pub fn size(self) -> Option<usize>
-        ensures { result ≡ size_of (checked_bytes (write_decimal self.entry.negative self.entry.magnitude.now self.entry.exponent)) }
+        ensures { result ≡ size_of (checked_bytes (write_decimal self.entry.coefficient.negative self.entry.coefficient.magnitude.now self.entry.exponent)) }
     {
         let body = self.body_size();
         if MAX_BODY < body {
@@ -45,8 +46,8 @@ impl<'a> Decimal<'a> {
 
     // The body, given its length.
     fn put_body(self, buf: &mut [u8], at: usize, body: usize) -> Option<usize>
-        requires { (body ≡ length (decimal_body self.negative self.magnitude.now self.exponent)) × (at + body ≤ length buf.old) }
-        ensures { ◌≡◌ {A = Option ℕ × List ℕ} (result, buf.new) (placed buf.old at (decimal_body self.entry.negative self.entry.magnitude.now self.entry.exponent)) }
+        requires { (body ≡ length (decimal_body self.coefficient.negative self.coefficient.magnitude.now self.exponent)) × (at + body ≤ length buf.old) }
+        ensures { ◌≡◌ {A = Option ℕ × List ℕ} (result, buf.new) (placed buf.old at (decimal_body self.entry.coefficient.negative self.entry.coefficient.magnitude.now self.entry.exponent)) }
     {
         if body == 0 {
             return Some(0);
@@ -58,14 +59,14 @@ impl<'a> Decimal<'a> {
             sign::is_negative(exponent),
             sign::magnitude(exponent),
         )?;
-        let more = int::write(buf, at + one, self.negative, self.magnitude)?;
+        let more = int::write(buf, at + one, self.coefficient)?;
         Some(one + more)
     }
 
     // Header and body. Nothing is put where the body is longer than 32 bytes.
     pub fn write(self, buf: &mut [u8], at: usize) -> Option<usize>
         ensures { ◌≡◌ {A = Option ℕ × List ℕ} (result, buf.new)
-            (written buf.old at (checked_bytes (write_decimal self.entry.negative self.entry.magnitude.now self.entry.exponent))) }
+            (written buf.old at (checked_bytes (write_decimal self.entry.coefficient.negative self.entry.coefficient.magnitude.now self.entry.exponent))) }
     {
         let body = self.body_size();
         if MAX_BODY < body {

@@ -13,7 +13,7 @@ use Rattle.decimal.proofs.Decimal.body_size.Goals as goal
 pub returns-then-coefficient-scale : goal.returns-then-coefficient-scale
 returns-then-coefficient-scale c = let a = c.args.self in
     let kept : to_z w64 (of_z w64 a.exponent) ≡ a.exponent = search rules in
-    size_none a.negative a.magnitude.now a.exponent _ (rw (c.magnitude-scale.ensures, kept)) _
+    size_none a.coefficient.negative a.coefficient.magnitude.now a.exponent _ (rw (c.magnitude-scale.ensures, kept)) _
     c.encoded_size_of-coefficient.ensures c.if-coefficient-scale.true
 
 pub overflow_add-result : goal.overflow_add-result
@@ -23,12 +23,11 @@ overflow_add-result c = let a = c.args.self in
       c.encoded_size_of.ensures,
       c.encoded_size_of-coefficient.ensures,
       var_int-most false c.magnitude-scale.result (omega (arith, c.magnitude-scale.type_inv)),
-      int_trimmed-most a.negative a.magnitude.now,
-      c.ranges.self.1,
+      int_trimmed-most a.coefficient.negative a.coefficient.magnitude.now,
     )
 
 pub returns : goal.returns
 returns c = let a = c.args.self in
     let kept : to_z w64 (of_z w64 a.exponent) ≡ a.exponent = search rules in
-    size_some a.negative a.magnitude.now a.exponent _ (rw (c.magnitude-scale.ensures, kept)) _ _
+    size_some a.coefficient.negative a.coefficient.magnitude.now a.exponent _ (rw (c.magnitude-scale.ensures, kept)) _ _
     c.encoded_size_of-coefficient.ensures c.encoded_size_of.ensures c.if-coefficient-scale.false

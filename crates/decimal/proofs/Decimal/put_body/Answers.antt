@@ -25,34 +25,34 @@ of_parts b at r l s n e f p q k h = rw (signed_of_is e, ← k, ← p, ← q) h
 
 pub returns-then-body-eq0 : goal.returns-then-body-eq0
 returns-then-body-eq0 c = let a = c.args in
-    rw (decimal_body_empty a.self.negative a.self.magnitude.now a.self.exponent (omega (arith, c.requires.0))) (sym (placed_nil a.buf.now a.at (omega (arith, c.requires.1))))
+    rw (decimal_body_empty a.self.coefficient.negative a.self.coefficient.magnitude.now a.self.exponent (omega (arith, c.requires.0))) (sym (placed_nil a.buf.now a.at (omega (arith, c.requires.1))))
 
 pub returns-in_err-one : goal.returns-in_err-one
 returns-in_err-one c = let a = c.args in
     let kept : to_z w64 (of_z w64 a.self.exponent) ≡ a.self.exponent = search rules in
     let first = of_parts _ _ _ _ _ _ a.self.exponent _ c.is_negative.ensures c.magnitude.ensures kept c.in_err-one.ensures in
-    absurd (exponent_put a.self.negative a.self.magnitude.now a.self.exponent a.buf.now a.at (λ z. c.if-body-eq0.false (c.requires.0 ∙ z)) (omega (arith, c.requires)) _ first)
+    absurd (exponent_put a.self.coefficient.negative a.self.coefficient.magnitude.now a.self.exponent a.buf.now a.at (λ z. c.if-body-eq0.false (c.requires.0 ∙ z)) (omega (arith, c.requires)) _ first)
 
 pub overflow_add-at : goal.overflow_add-at
 overflow_add-at c = let a = c.args in
     let kept : to_z w64 (of_z w64 a.self.exponent) ≡ a.self.exponent = search rules in
     let first = of_parts _ _ _ _ _ _ a.self.exponent _ c.is_negative.ensures c.magnitude.ensures kept c.in_ok-one.ensures in
-    omega (arith, exponent_count a.self.negative a.self.magnitude.now a.self.exponent a.buf.now a.at (λ z. c.if-body-eq0.false (c.requires.0 ∙ z)) (omega (arith, c.requires)) _ _ first)
+    omega (arith, exponent_count a.self.coefficient.negative a.self.coefficient.magnitude.now a.self.exponent a.buf.now a.at (λ z. c.if-body-eq0.false (c.requires.0 ∙ z)) (omega (arith, c.requires)) _ _ first)
 
 pub returns-in_err-more : goal.returns-in_err-more
 returns-in_err-more c = let a = c.args in
     let kept : to_z w64 (of_z w64 a.self.exponent) ≡ a.self.exponent = search rules in
     let first = of_parts _ _ _ _ _ _ a.self.exponent _ c.is_negative.ensures c.magnitude.ensures kept c.in_ok-one.ensures in
-    absurd (coefficient_put a.self.negative a.self.magnitude.now a.self.exponent a.buf.now a.at (λ z. c.if-body-eq0.false (c.requires.0 ∙ z)) (omega (arith, c.requires)) _ _ first _ c.in_err-more.ensures)
+    absurd (coefficient_put a.self.coefficient.negative a.self.coefficient.magnitude.now a.self.exponent a.buf.now a.at (λ z. c.if-body-eq0.false (c.requires.0 ∙ z)) (omega (arith, c.requires)) _ _ first _ c.in_err-more.ensures)
 
 pub overflow_add-result : goal.overflow_add-result
 overflow_add-result c = let a = c.args in
     let kept : to_z w64 (of_z w64 a.self.exponent) ≡ a.self.exponent = search rules in
     let first = of_parts _ _ _ _ _ _ a.self.exponent _ c.is_negative.ensures c.magnitude.ensures kept c.in_ok-one.ensures in
-    omega (arith, c.requires.0, body_count a.self.negative a.self.magnitude.now a.self.exponent a.buf.now a.at (λ z. c.if-body-eq0.false (c.requires.0 ∙ z)) (omega (arith, c.requires)) _ _ first _ _ c.in_ok-more.ensures)
+    omega (arith, c.requires.0, body_count a.self.coefficient.negative a.self.coefficient.magnitude.now a.self.exponent a.buf.now a.at (λ z. c.if-body-eq0.false (c.requires.0 ∙ z)) (omega (arith, c.requires)) _ _ first _ _ c.in_ok-more.ensures)
 
 pub returns : goal.returns
 returns c = let a = c.args in
     let kept : to_z w64 (of_z w64 a.self.exponent) ≡ a.self.exponent = search rules in
     let first = of_parts _ _ _ _ _ _ a.self.exponent _ c.is_negative.ensures c.magnitude.ensures kept c.in_ok-one.ensures in
-    body_put a.self.negative a.self.magnitude.now a.self.exponent a.buf.now a.at (λ z. c.if-body-eq0.false (c.requires.0 ∙ z)) (omega (arith, c.requires)) _ _ first _ _ c.in_ok-more.ensures
+    body_put a.self.coefficient.negative a.self.coefficient.magnitude.now a.self.exponent a.buf.now a.at (λ z. c.if-body-eq0.false (c.requires.0 ∙ z)) (omega (arith, c.requires)) _ _ first _ _ c.in_ok-more.ensures
