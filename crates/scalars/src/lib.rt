@@ -19,6 +19,7 @@ ghost use Rattle.scalars.specs.Refused.{own_refusal};
 pub use decimal::Decimal;
 use decimal::MAX_BODY;
 use floats::Float;
+pub use int::Int;
 use machine::Refusal;
 pub use timestamp::Timestamp;
 
@@ -201,22 +202,6 @@ fn write_bytes(buf: &mut [u8], at: usize, code: u8, bytes: &[u8]) -> Option<usiz
     Some(header + body)
 }
 
-// An int of any size: its sign, and its magnitude from the highest byte on, whose leading zero bytes do not count.
-#[derive(Clone, Copy)]
-pub struct Int<'a> {
-    pub negative: bool,
-    pub magnitude: &'a [u8],
-}
-
-impl<'a> Int<'a> {
-    // Check 5 of document 01's table.
-    pub fn is_negative_zero(self) -> bool
-        ensures { result ≡ (self.entry.negative && eqb (uint self.entry.magnitude.now) 0) }
-    {
-        self.negative & (uint::leading_zero_bytes(self.magnitude) == self.magnitude.len())
-    }
-}
-
 // Zero has one byte; negative zero is refused.
 impl<'a> WriteAsIon for Int<'a> {
     ghost argument = { λ i. write_int i.negative i.magnitude.now };
@@ -329,7 +314,7 @@ impl WriteAsIon for f64 {
 
 // A body over 32 bytes is refused.
 impl<'a> WriteAsIon for Decimal<'a> {
-    ghost argument = { λ d. write_decimal d.negative d.magnitude.now d.exponent };
+    ghost argument = { λ d. write_decimal d.coefficient.negative d.coefficient.magnitude.now d.exponent };
 
     fn size(self) -> Option<usize> {
         Decimal::size(self)
