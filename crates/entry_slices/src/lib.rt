@@ -41,8 +41,10 @@ pub fn gm_write_decimal(
         ≡ entered (call_of (gm_write_decimal annotations.now negative coefficient.now exponent)) state.old buf.old }
 {
     let decimal = Decimal {
-        negative: negative != 0,
-        magnitude: coefficient,
+        coefficient: Int {
+            negative: negative != 0,
+            magnitude: coefficient,
+        },
         exponent,
     };
     entry_numbers::answered(entry_steps::write(state, buf, annotations, decimal))

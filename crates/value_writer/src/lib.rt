@@ -141,8 +141,10 @@ pub fn write_decimal(
         buf,
         annotations,
         Decimal {
-            negative,
-            magnitude: coefficient,
+            coefficient: Int {
+                negative,
+                magnitude: coefficient,
+            },
             exponent,
         },
     )

@@ -117,6 +117,14 @@ impl<'a> Call<'a> {
         }
     }
 
+    // The int with this magnitude.
+    fn int(self, magnitude: &[u8]) -> Int<'_> {
+        Int {
+            negative: self.is_negative(),
+            magnitude,
+        }
+    }
+
     // Makes the call, and answers how many bytes it put, if it put any.
     pub(crate) fn put(self, buf: &mut [u8]) -> Option<usize> {
         let mut annotations = [0u8; 256];
@@ -133,7 +141,7 @@ impl<'a> Call<'a> {
                 uint::write_fixed(buf, AT, self.number(1) as usize, self.number(2))
             }
             Function::Magnitude => uint::write_magnitude(buf, AT, bytes),
-            Function::Int => int::write(buf, AT, self.is_negative(), bytes),
+            Function::Int => int::write(buf, AT, self.int(bytes)),
             Function::IntU64 => int::write_u64(buf, AT, self.number(1)),
             Function::Fill => var_uint::fill(buf, AT, self.number(2), self.number(1) as usize),
             Function::Header => {
@@ -145,13 +153,7 @@ impl<'a> Call<'a> {
             Function::WriteNull => values::write(buf, AT, annotations, ion_type(self.word(1))),
             Function::WriteBool => values::write(buf, AT, annotations, self.number(1) == 1),
             Function::WriteI64 => values::write(buf, AT, annotations, self.signed(1)),
-            Function::WriteInt => {
-                let int = Int {
-                    negative: self.is_negative(),
-                    magnitude: bytes,
-                };
-                values::write(buf, AT, annotations, int)
-            }
+            Function::WriteInt => values::write(buf, AT, annotations, self.int(bytes)),
             Function::WriteF32 => {
                 let bits = F32Bits((self.bits() % 0x1_0000_0000) as u32);
                 values::write(buf, AT, annotations, bits)
@@ -159,8 +161,7 @@ impl<'a> Call<'a> {
             Function::WriteF64 => values::write(buf, AT, annotations, F64Bits(self.bits())),
             Function::WriteDecimal => {
                 let decimal = Decimal {
-                    negative: self.is_negative(),
-                    magnitude: bytes,
+                    coefficient: self.int(bytes),
                     exponent: self.signed(3),
                 };
                 values::write(buf, AT, annotations, decimal)
