@@ -1,4 +1,5 @@
 // UInt: big-endian bytes without leading zero bytes.
+// The buffer is lent at each call, and goes in beside a place: a struct of both would be made and taken apart in each function of one line.
 #![tactic(auto)]
 
 ghost use Rattle.std.specs.Prelude.{◌≡◌, List, ℕ, Option, ◌+◌, ◌*◌, ◌/◌, length};
@@ -57,6 +58,7 @@ pub fn leading_zero_bytes(magnitude: &[u8]) -> usize
 }
 
 // A big-endian magnitude without its leading zero bytes. Zero keeps one byte.
+// It copies lent bytes, where `write` takes the digits of a word: the two share no line.
 pub fn write_magnitude(buf: &mut [u8], at: usize, magnitude: &[u8]) -> Option<usize>
     ensures { ◌≡◌ {A = Option ℕ × List ℕ} (result, buf.new) (placed buf.old at (or_zero (trimmed magnitude.now))) }
 {

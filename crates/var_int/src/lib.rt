@@ -26,6 +26,7 @@ pub fn encoded_size_of(magnitude: u64) -> usize
 }
 
 // The sign and the magnitude as a VarInt: the digits of base 128, then the last again, with the end flag, and the first, with the sign. Zero keeps its sign.
+// Sign and magnitude are two words, which each caller computes at its call: a struct of both would be taken apart here, and nowhere else be kept.
 pub fn write(buf: &mut [u8], at: usize, negative: bool, magnitude: u64) -> Option<usize>
     ensures { ◌≡◌ {A = Option ℕ × List ℕ} (result, buf.new) (placed buf.old at (var_int_bytes (signed negative magnitude))) }
 {

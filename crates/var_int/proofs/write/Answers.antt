@@ -69,15 +69,6 @@ known b l at s n size put h w e p =
       all = k;
     }
 
-pub overflow_mul-sign : goal.overflow_mul-sign
-overflow_mul-sign c = omega (arith, c.from-sign.ensures, bool_byte-most c.args.negative)
-
-pub overflow_add-sign : goal.overflow_add-sign
-overflow_add-sign c = omega (arith, c.from-sign.ensures, bool_byte-most c.args.negative)
-
-pub overflow_add-sign-then-magnitude-lt-TWO_BYTES : goal.overflow_add-sign-then-magnitude-lt-TWO_BYTES
-overflow_add-sign-then-magnitude-lt-TWO_BYTES c = omega (arith, c.from-sign.ensures, bool_byte-most c.args.negative)
-
 pub returns-then-magnitude-lt-TWO_BYTES : goal.returns-then-magnitude-lt-TWO_BYTES
 returns-then-magnitude-lt-TWO_BYTES c = let a = c.args in
     rw c.from-sign.ensures at c.put.ensures ∙ ap (placed a.buf.now a.at) (one a.negative a.magnitude (omega arith))
