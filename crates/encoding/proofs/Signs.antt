@@ -66,13 +66,6 @@ pub int_size-none : (s : Bool) (m : List ℕ) → length m ≡ 0 → length (int
 int_size-none true m e = ap length (int_negative_zero true m refl e)
 int_size-none false m e = ap length (int_zero false m refl e)
 
-pub int_size-some : (s : Bool) (b : ℕ) (bs : List ℕ) → b < 256 → length (int_bytes s (b ∷ bs)) ≡ length (b ∷ bs) + b / 0x80
-int_size-some s b bs h = go (ltb b 0x80) refl
-  where
-    go : (t : Bool) → ltb b 0x80 ≡ t → length (int_bytes s (b ∷ bs)) ≡ length (b ∷ bs) + b / 0x80
-    go true e = let k = ltb-true b 0x80 e in ap length (int_clear b bs s k) ∙ omega arith
-    go false e = let k = ltb-false b 0x80 e in ap length (int_taken b bs s k) ∙ omega arith
-
 pub int_most : (s : Bool) (m : List ℕ) → length (int_bytes s m) ≤ length m + 1
 int_most s [] = rw (int_size-none s [] refl) (omega (arith, bool_byte-most s))
 int_most s (b ∷ bs) = go (ltb b 0x80) refl

@@ -169,6 +169,9 @@ module _ (n : ℕ) (h : n < 2 ^ 64) where
       ∙ (length_fixed (suc (digit_count 256 (n / 128))) n
       ∙ (ap suc (digit_count_by_zeros 8 7 (bits_used n / 8) n (omega arith) h (omega arith) (λ k. omega arith)) ∙ omega arith))
 
+-- what the sizes of the code are by
+pub ruleset sizes = (bits_used_pos, var_uint-size-small, var_uint-size, var_int-size-small, var_int-size, uint-size, int_of_zero, int-size)
+
 -- ---- at least and at most
 
 pub var_uint_least : (n : ℕ) → 1 ≤ length (var_uint_bytes n)

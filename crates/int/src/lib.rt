@@ -74,6 +74,7 @@ pub fn write(buf: &mut [u8], at: usize, int: Int<'_>) -> Option<usize>
 
 // The bytes that `value` takes as an Int: n of them hold 8 n - 1 bits, and zero takes none.
 // Here and in `write_u64` a word's leading zeros tell the size, where an `Int` is lent bytes: of the two ways no line is the same.
+#[tactic(auto, using(encoding::proofs::Sizes::sizes))]
 pub fn encoded_size_of_u64(value: u64) -> usize
     ensures { result ≡ length (int_bytes false (uint_bytes value)) }
 {

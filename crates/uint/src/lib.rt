@@ -8,6 +8,7 @@ ghost use Rattle.encoding.specs.Headers.{framed_bytes};
 ghost use Rattle.buffer.specs.Laid.{placed};
 
 // The bytes that `value` takes as a UInt: none for zero.
+#[tactic(auto, using(encoding::proofs::Sizes::sizes))]
 pub fn encoded_size_of(value: u64) -> usize
     ensures { result ≡ length (uint_bytes value) }
 {

@@ -16,6 +16,7 @@ const SIGN: u8 = 0x40;
 const TWO_BYTES: u64 = 64;
 
 // The bytes that a VarInt of this magnitude takes, of either sign: n of them hold 6 + 7 (n - 1) bits.
+#[tactic(auto, using(encoding::proofs::Sizes::sizes))]
 pub fn encoded_size_of(magnitude: u64) -> usize
     ensures { result ≡ length (var_int_bytes (signed false magnitude)) }
 {
