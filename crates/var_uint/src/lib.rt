@@ -15,6 +15,7 @@ const TWO_BYTES: u64 = 128;
 const MOST_BYTES: usize = 10;
 
 // The bytes that `value` takes as a VarUInt: one for each seven bits, and one for zero.
+#[tactic(auto, using(encoding::proofs::Sizes::sizes))]
 pub fn encoded_size_of(value: u64) -> usize
     ensures { result ≡ length (var_uint_bytes value) }
 {
