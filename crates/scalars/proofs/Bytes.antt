@@ -4,6 +4,7 @@ use mathlib.Core.Path.{◌≡◌, refl, sym}
 use mathlib.Core.List.{List, [], ◌∷◌}
 use native.Mathlib.Omega.{arith}
 use lib.ListN.{length}
+use Rattle.std.proofs.Common.{true≢false}
 use mathlib.Core.Bool.{Bool, true, false, not}
 use Prim.Native.Nat.{ℕ, ◌+◌, ◌*◌, ◌/◌, ◌%◌}
 use lib.IntN.{ℤ, pos, negsuc, nat_abs}
@@ -13,8 +14,8 @@ use Rattle.ion.specs.Value.{IonType, high_bits, ion_null, ion_bool, ion_int, ion
 use Rattle.ion.specs.Text.{utf8}
 use Rattle.encoding.specs.Fields.{uint_bytes}
 use Rattle.encoding.specs.Headers.{type_byte, framed_bytes}
-use Rattle.encoding.specs.Argument.{write_null, write_bool, write_i64, write_f32, write_f64, write_symbol, write_string, write_clob, write_blob, code_of_null, code_of_sign, float32_bytes}
-use Rattle.encoding.specs.Argument.{float64_bytes, argument_bytes, checked_bytes}
+use Rattle.encoding.specs.Argument.{write_null, write_bool, write_i64, write_symbol, write_string, write_clob, write_blob, code_of_null, code_of_sign}
+use Rattle.encoding.specs.Argument.{argument_bytes, argument_checks, any_holds, checked_bytes}
 use Rattle.encoding.proofs.Headers.{type_byte_high, header_least, length-framed}
 use Rattle.decimal.proofs.Values.{checked_bytes_accepted}
 use Rattle.buffer.specs.Laid.{placed, written}
@@ -42,14 +43,6 @@ i64_framed z s e code f n g = rw (f, type_byte_high (code_of_sign s), e, g) (sym
 pub symbol_bytes : (n : ℕ) → checked_bytes (write_symbol n) ≡ framed_bytes 0x70 (uint_bytes n)
 unfolding checked_bytes argument_bytes
 symbol_bytes n = refl
-
-pub f32_bytes : (b : ℕ) → checked_bytes (write_f32 b) ≡ float32_bytes b
-unfolding checked_bytes argument_bytes
-f32_bytes b = refl
-
-pub f64_bytes : (b : ℕ) → checked_bytes (write_f64 b) ≡ float64_bytes b
-unfolding checked_bytes argument_bytes
-f64_bytes b = refl
 
 -- the sign chooses the type byte of an int
 pub sign_byte : (s : Bool) → 0x20 + 0x10 * bool_byte s ≡ type_byte (code_of_sign s)
@@ -83,6 +76,13 @@ blob_bytes b = refl
 pub string_bytes : (b : List ℕ) → utf8 b ≡ true → checked_bytes (write_string b) ≡ framed_bytes 0x80 b
 unfolding argument_bytes
 string_bytes b h = checked_bytes_accepted (write_string b) (rw h refl)
+
+pub utf8_passed : (b : List ℕ) → any_holds (argument_checks (write_string b)) ≡ false → utf8 b ≡ true
+utf8_passed b h = by_test (utf8 b) h
+  where
+    by_test : (t : Bool) → any_holds ((not t, 6) ∷ []) ≡ false → t ≡ true
+    by_test true e = refl
+    by_test false e = absurd (true≢false e)
 
 -- a framed value has bytes
 pub written_framed : (b : List ℕ) (at t : ℕ) (bs : List ℕ) → written b at (framed_bytes t bs) ≡ placed b at (framed_bytes t bs)

@@ -71,6 +71,9 @@ module _ (s : Bool) (m : List ℕ) where
   pub int_checks : (t : Bool) → (s && eqb (uint m) 0) ≡ t → any_holds (argument_checks (write_int s m)) ≡ t
   int_checks t e = or_false (s && eqb (uint m) 0) ∙ e
 
+  pub int_passed : any_holds (argument_checks (write_int s m)) ≡ false → (s && eqb (uint m) 0) ≡ false
+  int_passed e = sym (or_false (s && eqb (uint m) 0)) ∙ e
+
   -- the bytes by the code of the sign and by the body; the low four bits of the code do not count
   pub int_by : (s && eqb (uint m) 0) ≡ false → (code : ℕ) → code ≡ type_byte (code_of_sign s) → (l : List ℕ) → l ≡ or_zero (trimmed m)
       → framed_bytes (code / 16 * 16) l ≡ checked_bytes (write_int s m)

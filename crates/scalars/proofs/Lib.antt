@@ -1,3 +1,4 @@
 pub mod Bytes
 pub mod Ints
 pub mod Puts
+pub mod Lobs

@@ -1,24 +1,23 @@
 // The scalars of document 01's value_writer, without annotations: a descriptor byte with the type code in its high four bits, then the body.
 #![tactic(auto)]
 
-ghost use Rattle.std.specs.Prelude.{◌≡◌, ◌&&◌, List, ℕ, Option, ◌*◌, ◌/◌, ◌^◌, ◌<◌, ◌≤◌, eqb, length};
-ghost use Rattle.std.specs.Float.{binary32, binary64};
-ghost use Rattle.std.specs.Float.Ieee.{to_bits};
+ghost use Rattle.std.specs.Prelude.{◌≡◌, false, ◌&&◌, List, ℕ, Option, ◌*◌, ◌/◌, ◌^◌, ◌<◌, ◌≤◌, eqb, length};
 ghost use Rattle.ion.specs.Value.{high_bits};
 ghost use Rattle.ion.specs.Fields.{uint};
 ghost use Rattle.ion.specs.Text.{utf8};
 ghost use Rattle.encoding.specs.Headers.{type_byte, framed_bytes};
-ghost use Rattle.encoding.specs.Argument.{Argument, code_of_null, code_of_sign, checked_bytes, write_null, write_bool, write_i64, write_int, write_f32, write_f64, write_decimal, write_symbol, write_string, write_clob, write_blob};
+ghost use Rattle.encoding.specs.Argument.{Argument, code_of_null, code_of_sign, argument_checks, any_holds, checked_bytes, write_null, write_bool, write_i64, write_int, write_decimal, write_symbol, write_string};
 ghost use Rattle.machine.specs.Machine.{refused};
 ghost use Rattle.machine.specs.Numbers.{number};
 ghost use Rattle.buffer.specs.Laid.{written, size_of};
 ghost use Rattle.timestamp.specs.Arguments.{argument_of};
 ghost use Rattle.scalars.specs.Types.{type_of};
 ghost use Rattle.scalars.specs.Refused.{own_refusal};
+ghost use Rattle.scalars.specs.Lobs.{lob_argument};
 
 pub use decimal::Decimal;
 use decimal::MAX_BODY;
-use floats::Float;
+use floats::{Float, FloatBits};
 use machine::Refusal;
 pub use timestamp::Timestamp;
 
@@ -48,6 +47,14 @@ pub trait WriteAsIon: Copy {
     // Puts these bytes.
     fn write(self, buf: &mut [u8], at: usize) -> Option<usize>
         ensures { ◌≡◌ {A = Option ℕ × List ℕ} (result, buf.new) (written buf.old at (checked_bytes (argument self))) };
+
+    // Puts them where its own checks have passed. A value whose checks read all of its bytes makes them no second time.
+    fn write_passed(self, buf: &mut [u8], at: usize) -> Option<usize>
+        requires { any_holds (argument_checks (argument self)) ≡ false }
+        ensures { ◌≡◌ {A = Option ℕ × List ℕ} (result, buf.new) (written buf.old at (checked_bytes (argument self))) }
+    {
+        self.write(buf, at)
+    }
 
     // Why it was not put where it may stand: the first of its own checks that fails, or 10.
     fn refusal(self) -> Refusal
@@ -233,6 +240,10 @@ impl<'a> WriteAsIon for Int<'a> {
         if self.is_negative_zero() {
             return None;
         }
+        self.write_passed(buf, at)
+    }
+
+    fn write_passed(self, buf: &mut [u8], at: usize) -> Option<usize> {
         let code = int_code(self.negative);
         let zeros = uint::leading_zero_bytes(self.magnitude);
         if zeros == self.magnitude.len() {
@@ -251,19 +262,19 @@ impl<'a> WriteAsIon for Int<'a> {
 
 // ---- floats
 
-// A float by the bits of binary32; a NaN keeps its own.
+// A float by its bits, of binary32 or of binary64, the latter in four bytes where binary32 holds it; a NaN keeps its own.
 #[derive(Clone, Copy, Debug, PartialEq, Eq)]
-pub struct F32Bits(pub u32);
+pub struct Bits<B: FloatBits>(pub B);
 
-impl WriteAsIon for F32Bits {
-    ghost argument = { λ b. write_f32 b.0 };
+impl<B: FloatBits> WriteAsIon for Bits<B> {
+    ghost argument = { λ b. B.argument (B.number b.0) };
 
     fn size(self) -> Option<usize> {
-        Some(f32::bits_size(self.0))
+        Some(self.0.float_size())
     }
 
     fn write(self, buf: &mut [u8], at: usize) -> Option<usize> {
-        f32::write_bits(buf, at, self.0)
+        self.0.write_float(buf, at)
     }
 
     fn refusal(self) -> Refusal {
@@ -271,53 +282,20 @@ impl WriteAsIon for F32Bits {
     }
 }
 
-// A float by the bits of binary64, in four bytes where binary32 holds it; a NaN keeps its own.
-#[derive(Clone, Copy, Debug, PartialEq, Eq)]
-pub struct F64Bits(pub u64);
+// A float by its value, an f32 or an f64. A NaN has the bits 7FC00000 or 7FF8000000000000.
+// A struct around it: an impl for each type with the bound would meet those for Decimal and Timestamp, which are of other crates.
+#[derive(Clone, Copy, Debug)]
+pub struct Value<F: Float>(pub F);
 
-impl WriteAsIon for F64Bits {
-    ghost argument = { λ b. write_f64 b.0 };
+impl<F: Float> WriteAsIon for Value<F> {
+    ghost argument = { λ v. F.Bits.argument (F.bits_of v.0) };
 
     fn size(self) -> Option<usize> {
-        Some(f64::bits_size(self.0))
+        Some(floats::size(self.0))
     }
 
     fn write(self, buf: &mut [u8], at: usize) -> Option<usize> {
-        f64::write_bits(buf, at, self.0)
-    }
-
-    fn refusal(self) -> Refusal {
-        Refusal::NoRoom
-    }
-}
-
-// A NaN has the bits 7FC00000.
-impl WriteAsIon for f32 {
-    ghost argument = { λ v. write_f32 (to_bits binary32 v) };
-
-    fn size(self) -> Option<usize> {
-        Some(floats::size(self))
-    }
-
-    fn write(self, buf: &mut [u8], at: usize) -> Option<usize> {
-        floats::write(buf, at, self)
-    }
-
-    fn refusal(self) -> Refusal {
-        Refusal::NoRoom
-    }
-}
-
-// A NaN has the bits 7FF8000000000000.
-impl WriteAsIon for f64 {
-    ghost argument = { λ v. write_f64 (to_bits binary64 v) };
-
-    fn size(self) -> Option<usize> {
-        Some(floats::size(self))
-    }
-
-    fn write(self, buf: &mut [u8], at: usize) -> Option<usize> {
-        floats::write(buf, at, self)
+        floats::write(buf, at, self.0)
     }
 
     fn refusal(self) -> Refusal {
@@ -369,7 +347,7 @@ impl WriteAsIon for Timestamp {
     }
 }
 
-// ---- strings, clobs, blobs
+// ---- strings and lobs
 
 // A string's bytes. Those that are not UTF-8 are refused.
 #[derive(Clone, Copy)]
@@ -398,6 +376,10 @@ impl<'a> WriteAsIon for Text<'a> {
         if !self.is_utf8() {
             return None;
         }
+        self.write_passed(buf, at)
+    }
+
+    fn write_passed(self, buf: &mut [u8], at: usize) -> Option<usize> {
         write_bytes(buf, at, STRING, self.0)
     }
 
@@ -409,39 +391,26 @@ impl<'a> WriteAsIon for Text<'a> {
     }
 }
 
-// A clob's bytes.
+// The bytes of a clob or a blob.
 #[derive(Clone, Copy)]
-pub struct Clob<'a>(pub &'a [u8]);
-
-impl<'a> WriteAsIon for Clob<'a> {
-    ghost argument = { λ c. write_clob c.0.now };
-
-    fn size(self) -> Option<usize> {
-        Some(framed_size(self.0.len()))
-    }
-
-    fn write(self, buf: &mut [u8], at: usize) -> Option<usize> {
-        write_bytes(buf, at, CLOB, self.0)
-    }
-
-    fn refusal(self) -> Refusal {
-        Refusal::NoRoom
-    }
+pub enum Lob<'a> {
+    Clob(&'a [u8]),
+    Blob(&'a [u8]),
 }
 
-// A blob's bytes.
-#[derive(Clone, Copy)]
-pub struct Blob<'a>(pub &'a [u8]);
-
-impl<'a> WriteAsIon for Blob<'a> {
-    ghost argument = { λ b. write_blob b.0.now };
+impl<'a> WriteAsIon for Lob<'a> {
+    ghost argument = { lob_argument };
 
     fn size(self) -> Option<usize> {
-        Some(framed_size(self.0.len()))
+        let (Lob::Clob(bytes) | Lob::Blob(bytes)) = self;
+        Some(framed_size(bytes.len()))
     }
 
     fn write(self, buf: &mut [u8], at: usize) -> Option<usize> {
-        write_bytes(buf, at, BLOB, self.0)
+        match self {
+            Lob::Clob(bytes) => write_bytes(buf, at, CLOB, bytes),
+            Lob::Blob(bytes) => write_bytes(buf, at, BLOB, bytes),
+        }
     }
 
     fn refusal(self) -> Refusal {

@@ -1,11 +1,7 @@
--- None for negative zero; else the bytes behind the leading zeros, or one zero byte. Assumes nothing.
-use native.Mathlib.Omega.{arith}
-use mathlib.Core.Path.{sym, ◌∙◌, ap}
+-- None for negative zero. Assumes nothing.
+use mathlib.Core.Path.{sym, ◌∙◌}
 use Rattle.encoding.specs.Argument.{write_int}
-use Rattle.buffer.specs.Laid.{written}
-use Rattle.encoding.specs.Fields.{trimmed}
-use Rattle.encoding.proofs.Trimmed.{or_zero-none, or_zero-some, trimmed-part}
-use Rattle.scalars.proofs.Ints.{int_by, int_checks}
+use Rattle.scalars.proofs.Ints.{int_checks}
 use Rattle.scalars.proofs.Puts.{not_written}
 use Rattle.scalars.proofs.IntWriteAsIon.write.Goals as goal
 
@@ -14,16 +10,5 @@ returns-then-is_negative_zero c = let a = c.args in
     let m = a.self.magnitude.now in
     not_written (write_int a.self.negative m) (int_checks a.self.negative m _ (sym c.is_negative_zero.ensures ∙ c.if-is_negative_zero.true)) a.buf.now a.at
 
-pub returns-then-zeros-self : goal.returns-then-zeros-self
-returns-then-zeros-self c = let a = c.args in
-    let m = a.self.magnitude.now in
-    c.write_bytes.ensures
-    ∙ ap (written a.buf.now a.at) (int_by a.self.negative m (sym c.is_negative_zero.ensures ∙ c.if-is_negative_zero.false) _ c.int_code-code.ensures _
-    (sym (or_zero-none (trimmed m) (omega arith))))
-
-pub returns : goal.returns
-returns c = let a = c.args in
-    let m = a.self.magnitude.now in
-    c.write_bytes-2.ensures
-    ∙ ap (written a.buf.now a.at) (int_by a.self.negative m (sym c.is_negative_zero.ensures ∙ c.if-is_negative_zero.false) _ c.int_code-code.ensures _
-    (trimmed-part m c.leading_zero_bytes-zeros.result c.leading_zero_bytes-zeros.ensures ∙ sym (or_zero-some (trimmed m) (omega arith))))
+pub write_passed-requires : goal.write_passed-requires
+write_passed-requires c = let a = c.args.self in int_checks a.negative a.magnitude.now _ (sym c.is_negative_zero.ensures ∙ c.if-is_negative_zero.false)
