@@ -21,6 +21,7 @@ use floats::{Float, FloatBits};
 use machine::Refusal;
 pub use timestamp::Timestamp;
 
+// The type bytes that are put, each named once: an enum of them would have to be turned back into the byte.
 const BOOL: u8 = 0x10;
 
 const INT: u8 = 0x20;
@@ -37,6 +38,7 @@ const CLOB: u8 = 0x90;
 const BLOB: u8 = 0xA0;
 
 // What a scalar call is given: `argument` is what the definition of the call's bytes says of it.
+// The impls read alike, but no two call the same functions: the bytes, their size and the checks of each type are its own.
 pub trait WriteAsIon: Copy {
     ghost argument: { Self → Argument };
 

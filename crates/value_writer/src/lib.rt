@@ -35,6 +35,8 @@ pub fn write<V: WriteAsIon>(
     Ok(steps::counted(steps::grown(s, put, false)))
 }
 
+// The functions from here on are `write` of one type each, under the names and with the parameters of ion-rust's value_writer.
+
 // A null of each type.
 pub fn write_null(
     s: State,
