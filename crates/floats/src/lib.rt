@@ -128,6 +128,7 @@ impl FloatBits for u32 {
 
     ghost puts = { float32_puts };
 
+    #[tactic(auto, using(crate::proofs::Bytes::by_bits), unfolding(encoding::specs::Fields::fixed_bytes, encoding::specs::Digits::low_digits))]
     fn float_size(self) -> usize {
         if self == 0 {
             return 1;
@@ -136,6 +137,7 @@ impl FloatBits for u32 {
     }
 
     // Positive zero is 40; every other f32 is 44 and its own bits.
+    #[tactic(auto, using(crate::proofs::Bytes::by_bits))]
     fn write_float(self, buf: &mut [u8], at: usize) -> Option<usize> {
         if self == 0 {
             return write_sized(buf, at, 0, 0);
@@ -157,6 +159,7 @@ impl FloatBits for u64 {
 
     ghost puts = { float64_puts };
 
+    #[tactic(auto, using(crate::proofs::Bytes::by_bits), unfolding(encoding::specs::Fields::fixed_bytes, encoding::specs::Digits::low_digits))]
     fn float_size(self) -> usize {
         match narrow(self) {
             Some(n) => n.float_size(),
@@ -165,6 +168,7 @@ impl FloatBits for u64 {
     }
 
     // An f64 that binary32 holds exactly goes out as an f32; every other, and every NaN, is 48 and its own bits.
+    #[tactic(auto, using(crate::proofs::Bytes::by_bits))]
     fn write_float(self, buf: &mut [u8], at: usize) -> Option<usize> {
         match narrow(self) {
             Some(n) => n.write_float(buf, at),

@@ -1,5 +1,6 @@
 // The scalars of document 01's value_writer, without annotations: a descriptor byte with the type code in its high four bits, then the body.
-#![tactic(auto)]
+// A value's bytes, their size and its refusal are found by its own checks.
+#![tactic(auto, using(crate::proofs::Puts::by_checks), unfolding(crate::specs::Refused::own_refusal, encoding::specs::Argument::argument_bytes))]
 
 ghost use Rattle.std.specs.Prelude.{◌≡◌, false, ◌&&◌, List, ℕ, Option, ◌*◌, ◌/◌, ◌^◌, ◌<◌, ◌≤◌, eqb, length};
 ghost use Rattle.ion.specs.Value.{high_bits};
@@ -149,6 +150,7 @@ fn int_code(negative: bool) -> u8
 }
 
 // The bytes that `body` bytes take with their header, of any type. A slice is shorter than 2 to the 63, so the sum does not wrap.
+#[tactic(auto, using(crate::proofs::Puts::header_sizes))]
 fn framed_size(body: usize) -> usize
     requires { body ≤ 2 ^ 63 }
     ensures { (t : ℕ) (bytes : List ℕ) → length bytes ≡ body → result ≡ length (framed_bytes t bytes) }
@@ -219,6 +221,7 @@ pub struct Int<'a> {
 
 impl<'a> Int<'a> {
     // Check 5 of document 01's table.
+    #[tactic(auto, using(crate::proofs::Ints::is_zero))]
     pub fn is_negative_zero(self) -> bool
         ensures { result ≡ (self.entry.negative && eqb (uint self.entry.magnitude.now) 0) }
     {
@@ -245,6 +248,7 @@ impl<'a> WriteAsIon for Int<'a> {
         self.write_passed(buf, at)
     }
 
+    #[tactic(auto, using(crate::proofs::Ints::by_magnitude))]
     fn write_passed(self, buf: &mut [u8], at: usize) -> Option<usize> {
         let code = int_code(self.negative);
         let zeros = uint::leading_zero_bytes(self.magnitude);

@@ -7,9 +7,7 @@ ghost use Rattle.buffer.specs.Laid.{written};
 ghost use Rattle.annotations.specs.Sids.{sids_of};
 ghost use Rattle.values.specs.Values.{annotated_checked};
 
-pub use scalars::{
-    Bits, Decimal, Int, IonType, Lob, Symbol, Text, Timestamp, Value, WriteAsIon,
-};
+pub use scalars::{Bits, Decimal, Int, IonType, Lob, Symbol, Text, Timestamp, Value, WriteAsIon};
 
 // The value with its annotations. Nothing is put where one of the value's own checks refuses it.
 pub fn write<V: WriteAsIon>(

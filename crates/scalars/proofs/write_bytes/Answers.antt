@@ -10,7 +10,7 @@ use Rattle.encoding.specs.Headers.{framed_bytes, header_bytes}
 use Rattle.encoding.proofs.Headers.{length-framed}
 use Rattle.buffer.proofs.Laid.{no_room, placed_full, room}
 use Rattle.decimal.proofs.Values.{header_count, no_body, no_header, placed-framed, value_count}
-use Rattle.scalars.proofs.Bytes.{written_framed}
+use Rattle.scalars.proofs.Puts.{written_framed}
 use Rattle.scalars.proofs.write_bytes.Goals as goal
 
 -- the test of the room passed: header and body fit
