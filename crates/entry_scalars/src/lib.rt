@@ -12,7 +12,7 @@ ghost use Rattle.entry_numbers.specs.EntryCall.{call_of};
 use entry_numbers::{PrecisionNumber, TypeNumber};
 use scalars::IonType;
 use timestamp::{Precision, Timestamp};
-use values::{F32Bits, F64Bits, Symbol};
+use values::{Bits, Symbol};
 
 // A null, by the type code.
 pub fn gm_write_null(state: &mut [u8], buf: &mut [u8], annotations: &[u8], code: u8) -> u8
@@ -44,7 +44,7 @@ pub fn gm_write_f32(state: &mut [u8], buf: &mut [u8], annotations: &[u8], bits: 
     ensures { entered_as result state.new buf.new
         ≡ entered (call_of (gm_write_f32 annotations.now bits)) state.old buf.old }
 {
-    entry_numbers::answered(entry_steps::write(state, buf, annotations, F32Bits(bits)))
+    entry_numbers::answered(entry_steps::write(state, buf, annotations, Bits(bits)))
 }
 
 // A float by the bits of binary64, in four bytes where binary32 holds it.
@@ -52,7 +52,7 @@ pub fn gm_write_f64(state: &mut [u8], buf: &mut [u8], annotations: &[u8], bits: 
     ensures { entered_as result state.new buf.new
         ≡ entered (call_of (gm_write_f64 annotations.now bits)) state.old buf.old }
 {
-    entry_numbers::answered(entry_steps::write(state, buf, annotations, F64Bits(bits)))
+    entry_numbers::answered(entry_steps::write(state, buf, annotations, Bits(bits)))
 }
 
 // A timestamp by its local fields and its offset. A field past the precision means nothing, nor does an offset that is not known or a fraction that is not given.

@@ -8,7 +8,7 @@ ghost use Rattle.state_bytes.specs.StateBytes.{entered};
 ghost use Rattle.entry_steps.specs.Entries.{entered_as};
 ghost use Rattle.entry_numbers.specs.EntryCall.{gm_write_int, gm_write_decimal, gm_write_string, gm_write_clob, gm_write_blob, call_of};
 
-use values::{Blob, Clob, Decimal, Int, Text};
+use values::{Decimal, Int, Lob, Text};
 
 // An int of any size: its sign, and its magnitude from the highest byte on.
 pub fn gm_write_int(
@@ -63,7 +63,7 @@ pub fn gm_write_clob(state: &mut [u8], buf: &mut [u8], annotations: &[u8], bytes
     ensures { entered_as result state.new buf.new
         ≡ entered (call_of (gm_write_clob annotations.now bytes.now)) state.old buf.old }
 {
-    entry_numbers::answered(entry_steps::write(state, buf, annotations, Clob(bytes)))
+    entry_numbers::answered(entry_steps::write(state, buf, annotations, Lob::Clob(bytes)))
 }
 
 // A blob.
@@ -71,5 +71,5 @@ pub fn gm_write_blob(state: &mut [u8], buf: &mut [u8], annotations: &[u8], bytes
     ensures { entered_as result state.new buf.new
         ≡ entered (call_of (gm_write_blob annotations.now bytes.now)) state.old buf.old }
 {
-    entry_numbers::answered(entry_steps::write(state, buf, annotations, Blob(bytes)))
+    entry_numbers::answered(entry_steps::write(state, buf, annotations, Lob::Blob(bytes)))
 }

@@ -38,3 +38,5 @@ float64_other b e = by_test (narrows b) e
         elim t [ true ↦ float32_bytes (to_bits binary32 (of_bits binary64 b)) | false ↦ 0x48 ∷ fixed_bytes 8 b ] ≡ 0x48 ∷ fixed_bytes 8 b
     by_test true q = let z : ◌≡◌ {A = ℕ} 0 1 = cc in absurd (omega arith)
     by_test false q = refl
+
+pub ruleset by_bits = (float32_zero, float32_other, float64_narrowed, float64_other)

@@ -2,14 +2,15 @@
 // A call that keeps a NaN's own bits takes bits, since the language has one NaN; a call that takes an f32 or f64 compares it with zero.
 #![tactic(auto)]
 
-ghost use Rattle.std.specs.Prelude.{◌≡◌, List, ◌∷◌, ℕ, Option, ◌+◌, ◌≤◌, ◌<◌, eqb, length};
+ghost use Rattle.std.specs.Prelude.{◌≡◌, refl, List, [], ◌∷◌, ℕ, Option, ◌+◌, ◌≤◌, ◌<◌, eqb, length};
 ghost use Rattle.std.specs.Float.{binary32, binary64};
 ghost use Rattle.std.specs.Float.Ieee.{to_bits};
 ghost use Rattle.buffer.specs.Laid.{placed};
 ghost use Rattle.encoding.specs.Fields.{fixed_bytes};
-ghost use Rattle.encoding.specs.Argument.{float32_bytes, float64_bytes};
+ghost use Rattle.encoding.specs.Argument.{Argument, write_f32, write_f64, argument_checks, argument_bytes, float32_bytes, float64_bytes};
 ghost use Rattle.floats.specs.Narrowed.{narrowed_bits, Dropped};
 ghost use Rattle.floats.specs.Zero.{float32_zero, float64_zero};
+ghost use Rattle.floats.specs.Puts.{float32_puts, float64_puts};
 
 // The sign bits, and the weight of the exponent's field.
 const SIGN_32: u32 = 0x8000_0000;
@@ -71,7 +72,7 @@ pub fn narrow(bits: u64) -> Option<u32>
     }
     let digits = bits % FIELD_64 + FIELD_64;
     let dropped = dropped_digits(x);
-    if (u64::trailing_zeros(digits) as u64) < dropped {
+    if u64::from(digits.trailing_zeros()) < dropped {
         return None;
     }
     Some(sign + ((x + dropped - LAST_IS_LEAST) * FIELD_32 + (digits >> dropped)) as u32)
@@ -90,47 +91,113 @@ fn write_sized(buf: &mut [u8], at: usize, size: usize, bits: u64) -> Option<usiz
     Some(1 + count)
 }
 
-// f32 and f64: the bits of each, and what becomes of them.
-// `bits` and `is_positive_zero` read alike in the two impls: `to_bits`, the literal 0.0 and the quiet NaN are those of each type.
-pub trait Float: Copy {
-    type Bits: Copy;
+// u32 and u64, the bits of a float: what becomes of a float of these bits.
+pub trait FloatBits: Copy {
+    // The number that bits are, the scalar call that takes it, and the bytes that a float of these bits takes.
+    ghost number: { Self → ℕ };
 
-    // The number that bits are, the bits of a float by IEEE 754, and the bytes that a float of these bits takes.
-    ghost number: { Self.Bits → ℕ };
-
-    ghost bits_of: { Self → ℕ };
+    ghost argument: { ℕ → Argument };
 
     ghost bytes_of: { ℕ → List ℕ };
 
+    // The size of what `write_float` puts.
+    fn float_size(self) -> usize
+        ensures { result ≡ length (bytes_of (number self)) };
+
+    // A float by its bits: a NaN keeps its own.
+    fn write_float(self, buf: &mut [u8], at: usize) -> Option<usize>
+        ensures { ◌≡◌ {A = Option ℕ × List ℕ} (result, buf.new) (placed buf.old at (bytes_of (number self))) };
+
+    ghost positive_zero: { bytes_of 0 ≡ 0x40 ∷ fixed_bytes 0 0 };
+
+    ghost unchecked: { (n : ℕ) → argument_checks (argument n) ≡ [] };
+
+    ghost puts: { (n : ℕ) → argument_bytes (argument n) ≡ bytes_of n };
+}
+
+impl FloatBits for u32 {
+    ghost number = { λ n. n };
+
+    ghost argument = { write_f32 };
+
+    ghost bytes_of = { float32_bytes };
+
+    ghost positive_zero = { float32_zero };
+
+    ghost unchecked = { λ n. refl };
+
+    ghost puts = { float32_puts };
+
+    #[tactic(auto, using(crate::proofs::Bytes::by_bits), unfolding(encoding::specs::Fields::fixed_bytes, encoding::specs::Digits::low_digits))]
+    fn float_size(self) -> usize {
+        if self == 0 {
+            return 1;
+        }
+        5
+    }
+
+    // Positive zero is 40; every other f32 is 44 and its own bits.
+    #[tactic(auto, using(crate::proofs::Bytes::by_bits))]
+    fn write_float(self, buf: &mut [u8], at: usize) -> Option<usize> {
+        if self == 0 {
+            return write_sized(buf, at, 0, 0);
+        }
+        write_sized(buf, at, 4, u64::from(self))
+    }
+}
+
+impl FloatBits for u64 {
+    ghost number = { λ n. n };
+
+    ghost argument = { write_f64 };
+
+    ghost bytes_of = { float64_bytes };
+
+    ghost positive_zero = { float64_zero };
+
+    ghost unchecked = { λ n. refl };
+
+    ghost puts = { float64_puts };
+
+    #[tactic(auto, using(crate::proofs::Bytes::by_bits), unfolding(encoding::specs::Fields::fixed_bytes, encoding::specs::Digits::low_digits))]
+    fn float_size(self) -> usize {
+        match narrow(self) {
+            Some(n) => n.float_size(),
+            None => 9,
+        }
+    }
+
+    // An f64 that binary32 holds exactly goes out as an f32; every other, and every NaN, is 48 and its own bits.
+    #[tactic(auto, using(crate::proofs::Bytes::by_bits))]
+    fn write_float(self, buf: &mut [u8], at: usize) -> Option<usize> {
+        match narrow(self) {
+            Some(n) => n.write_float(buf, at),
+            None => write_sized(buf, at, 8, self),
+        }
+    }
+}
+
+// f32 and f64, and the bits of each.
+// `bits` and `is_positive_zero` read alike in the two impls: `to_bits`, the literal 0.0 and the quiet NaN are those of each type.
+pub trait Float: Copy {
+    type Bits: FloatBits;
+
+    // The bits of a float by IEEE 754.
+    ghost bits_of: { Self → ℕ };
+
     // A NaN has the bits of the quiet NaN: `to_bits` is not defined there.
     fn bits(self) -> Self::Bits
-        ensures { number result ≡ bits_of self };
+        ensures { Self.Bits.number result ≡ bits_of self };
 
     // Negative zero equals positive zero, so the sign bit is asked too.
     fn is_positive_zero(self) -> bool
         ensures { result ≡ eqb (bits_of self) 0 };
-
-    // The size of what `write_bits` puts.
-    fn bits_size(bits: Self::Bits) -> usize
-        ensures { result ≡ length (bytes_of (number bits)) };
-
-    // A float by its bits: a NaN keeps its own.
-    fn write_bits(buf: &mut [u8], at: usize, bits: Self::Bits) -> Option<usize>
-        ensures { ◌≡◌ {A = Option ℕ × List ℕ} (result, buf.new) (placed buf.old at (bytes_of (number bits))) };
-
-    ghost positive_zero: { bytes_of 0 ≡ 0x40 ∷ fixed_bytes 0 0 };
 }
 
 impl Float for f32 {
     type Bits = u32;
 
-    ghost number = { λ n. n };
-
     ghost bits_of = { to_bits binary32 };
-
-    ghost bytes_of = { float32_bytes };
-
-    ghost positive_zero = { float32_zero };
 
     fn bits(self) -> u32 {
         if self.is_nan() {
@@ -142,33 +209,12 @@ impl Float for f32 {
     fn is_positive_zero(self) -> bool {
         (self == 0.0) & (self.bits() < SIGN_32)
     }
-
-    fn bits_size(bits: u32) -> usize {
-        if bits == 0 {
-            return 1;
-        }
-        5
-    }
-
-    // Positive zero is 40; every other f32 is 44 and its own bits.
-    fn write_bits(buf: &mut [u8], at: usize, bits: u32) -> Option<usize> {
-        if bits == 0 {
-            return write_sized(buf, at, 0, 0);
-        }
-        write_sized(buf, at, 4, bits as u64)
-    }
 }
 
 impl Float for f64 {
     type Bits = u64;
 
-    ghost number = { λ n. n };
-
     ghost bits_of = { to_bits binary64 };
-
-    ghost bytes_of = { float64_bytes };
-
-    ghost positive_zero = { float64_zero };
 
     fn bits(self) -> u64 {
         if self.is_nan() {
@@ -180,40 +226,25 @@ impl Float for f64 {
     fn is_positive_zero(self) -> bool {
         (self == 0.0) & (self.bits() < SIGN_64)
     }
-
-    fn bits_size(bits: u64) -> usize {
-        match narrow(bits) {
-            Some(n) => f32::bits_size(n),
-            None => 9,
-        }
-    }
-
-    // An f64 that binary32 holds exactly goes out as an f32; every other, and every NaN, is 48 and its own bits.
-    fn write_bits(buf: &mut [u8], at: usize, bits: u64) -> Option<usize> {
-        match narrow(bits) {
-            Some(n) => f32::write_bits(buf, at, n),
-            None => write_sized(buf, at, 8, bits),
-        }
-    }
 }
 
 // The size of what `write` puts.
 #[tactic(auto, unfolding(encoding::specs::Fields::fixed_bytes, encoding::specs::Digits::low_digits))]
 pub fn size<F: Float>(v: F) -> usize
-    ensures { result ≡ length (F.bytes_of (F.bits_of v)) }
+    ensures { result ≡ length (F.Bits.bytes_of (F.bits_of v)) }
 {
     if v.is_positive_zero() {
         return 1;
     }
-    F::bits_size(v.bits())
+    v.bits().float_size()
 }
 
 // An f32 or an f64 by its value.
 pub fn write<F: Float>(buf: &mut [u8], at: usize, v: F) -> Option<usize>
-    ensures { ◌≡◌ {A = Option ℕ × List ℕ} (result, buf.new) (placed buf.old at (F.bytes_of (F.bits_of v))) }
+    ensures { ◌≡◌ {A = Option ℕ × List ℕ} (result, buf.new) (placed buf.old at (F.Bits.bytes_of (F.bits_of v))) }
 {
     if v.is_positive_zero() {
         return write_sized(buf, at, 0, 0);
     }
-    F::write_bits(buf, at, v.bits())
+    v.bits().write_float(buf, at)
 }

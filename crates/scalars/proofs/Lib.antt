@@ -1,3 +1,2 @@
-pub mod Bytes
-pub mod Ints
 pub mod Puts
+pub mod Ints

@@ -1,28 +1,29 @@
 // The scalars of document 01's value_writer, without annotations: a descriptor byte with the type code in its high four bits, then the body.
-#![tactic(auto)]
+// A value's bytes, their size and its refusal are found by its own checks.
+#![tactic(auto, using(crate::proofs::Puts::by_checks), unfolding(crate::specs::Refused::own_refusal, encoding::specs::Argument::argument_bytes))]
 
-ghost use Rattle.std.specs.Prelude.{◌≡◌, ◌&&◌, List, ℕ, Option, ◌*◌, ◌/◌, ◌^◌, ◌<◌, ◌≤◌, eqb, length};
-ghost use Rattle.std.specs.Float.{binary32, binary64};
-ghost use Rattle.std.specs.Float.Ieee.{to_bits};
+ghost use Rattle.std.specs.Prelude.{◌≡◌, false, ◌&&◌, List, ℕ, Option, ◌*◌, ◌/◌, ◌^◌, ◌<◌, ◌≤◌, eqb, length};
 ghost use Rattle.ion.specs.Value.{high_bits};
 ghost use Rattle.ion.specs.Fields.{uint};
 ghost use Rattle.ion.specs.Text.{utf8};
 ghost use Rattle.encoding.specs.Headers.{type_byte, framed_bytes};
-ghost use Rattle.encoding.specs.Argument.{Argument, code_of_null, code_of_sign, checked_bytes, write_null, write_bool, write_i64, write_int, write_f32, write_f64, write_decimal, write_symbol, write_string, write_clob, write_blob};
+ghost use Rattle.encoding.specs.Argument.{Argument, code_of_null, code_of_sign, argument_checks, any_holds, checked_bytes, write_null, write_bool, write_i64, write_int, write_decimal, write_symbol, write_string};
 ghost use Rattle.machine.specs.Machine.{refused};
 ghost use Rattle.machine.specs.Numbers.{number};
 ghost use Rattle.buffer.specs.Laid.{written, size_of};
 ghost use Rattle.timestamp.specs.Arguments.{argument_of};
 ghost use Rattle.scalars.specs.Types.{type_of};
 ghost use Rattle.scalars.specs.Refused.{own_refusal};
+ghost use Rattle.scalars.specs.Lobs.{lob_argument};
 
 pub use decimal::Decimal;
 use decimal::MAX_BODY;
-use floats::Float;
+use floats::{Float, FloatBits};
 pub use int::Int;
 use machine::Refusal;
 pub use timestamp::Timestamp;
 
+// The type bytes that are put, each named once: an enum of them would have to be turned back into the byte.
 const BOOL: u8 = 0x10;
 
 const INT: u8 = 0x20;
@@ -39,6 +40,7 @@ const CLOB: u8 = 0x90;
 const BLOB: u8 = 0xA0;
 
 // What a scalar call is given: `argument` is what the definition of the call's bytes says of it.
+// The impls read alike, but no two call the same functions: the bytes, their size and the checks of each type are its own.
 pub trait WriteAsIon: Copy {
     ghost argument: { Self → Argument };
 
@@ -49,6 +51,14 @@ pub trait WriteAsIon: Copy {
     // Puts these bytes.
     fn write(self, buf: &mut [u8], at: usize) -> Option<usize>
         ensures { ◌≡◌ {A = Option ℕ × List ℕ} (result, buf.new) (written buf.old at (checked_bytes (argument self))) };
+
+    // Puts them where its own checks have passed. A value whose checks read all of its bytes makes them no second time.
+    fn write_passed(self, buf: &mut [u8], at: usize) -> Option<usize>
+        requires { any_holds (argument_checks (argument self)) ≡ false }
+        ensures { ◌≡◌ {A = Option ℕ × List ℕ} (result, buf.new) (written buf.old at (checked_bytes (argument self))) }
+    {
+        self.write(buf, at)
+    }
 
     // Why it was not put where it may stand: the first of its own checks that fails, or 10.
     fn refusal(self) -> Refusal
@@ -141,6 +151,7 @@ fn int_code(negative: bool) -> u8
 }
 
 // The bytes that `body` bytes take with their header, of any type. A slice is shorter than 2 to the 63, so the sum does not wrap.
+#[tactic(auto, using(crate::proofs::Puts::header_sizes))]
 fn framed_size(body: usize) -> usize
     requires { body ≤ 2 ^ 63 }
     ensures { (t : ℕ) (bytes : List ℕ) → length bytes ≡ body → result ≡ length (framed_bytes t bytes) }
@@ -218,6 +229,11 @@ impl<'a> WriteAsIon for Int<'a> {
         if self.is_negative_zero() {
             return None;
         }
+        self.write_passed(buf, at)
+    }
+
+    #[tactic(auto, using(crate::proofs::Ints::by_magnitude))]
+    fn write_passed(self, buf: &mut [u8], at: usize) -> Option<usize> {
         let code = int_code(self.negative);
         let zeros = uint::leading_zero_bytes(self.magnitude);
         if zeros == self.magnitude.len() {
@@ -236,19 +252,19 @@ impl<'a> WriteAsIon for Int<'a> {
 
 // ---- floats
 
-// A float by the bits of binary32; a NaN keeps its own.
+// A float by its bits, of binary32 or of binary64, the latter in four bytes where binary32 holds it; a NaN keeps its own.
 #[derive(Clone, Copy, Debug, PartialEq, Eq)]
-pub struct F32Bits(pub u32);
+pub struct Bits<B: FloatBits>(pub B);
 
-impl WriteAsIon for F32Bits {
-    ghost argument = { λ b. write_f32 b.0 };
+impl<B: FloatBits> WriteAsIon for Bits<B> {
+    ghost argument = { λ b. B.argument (B.number b.0) };
 
     fn size(self) -> Option<usize> {
-        Some(f32::bits_size(self.0))
+        Some(self.0.float_size())
     }
 
     fn write(self, buf: &mut [u8], at: usize) -> Option<usize> {
-        f32::write_bits(buf, at, self.0)
+        self.0.write_float(buf, at)
     }
 
     fn refusal(self) -> Refusal {
@@ -256,53 +272,20 @@ impl WriteAsIon for F32Bits {
     }
 }
 
-// A float by the bits of binary64, in four bytes where binary32 holds it; a NaN keeps its own.
-#[derive(Clone, Copy, Debug, PartialEq, Eq)]
-pub struct F64Bits(pub u64);
+// A float by its value, an f32 or an f64. A NaN has the bits 7FC00000 or 7FF8000000000000.
+// A struct around it: an impl for each type with the bound would meet those for Decimal and Timestamp, which are of other crates.
+#[derive(Clone, Copy, Debug)]
+pub struct Value<F: Float>(pub F);
 
-impl WriteAsIon for F64Bits {
-    ghost argument = { λ b. write_f64 b.0 };
+impl<F: Float> WriteAsIon for Value<F> {
+    ghost argument = { λ v. F.Bits.argument (F.bits_of v.0) };
 
     fn size(self) -> Option<usize> {
-        Some(f64::bits_size(self.0))
+        Some(floats::size(self.0))
     }
 
     fn write(self, buf: &mut [u8], at: usize) -> Option<usize> {
-        f64::write_bits(buf, at, self.0)
-    }
-
-    fn refusal(self) -> Refusal {
-        Refusal::NoRoom
-    }
-}
-
-// A NaN has the bits 7FC00000.
-impl WriteAsIon for f32 {
-    ghost argument = { λ v. write_f32 (to_bits binary32 v) };
-
-    fn size(self) -> Option<usize> {
-        Some(floats::size(self))
-    }
-
-    fn write(self, buf: &mut [u8], at: usize) -> Option<usize> {
-        floats::write(buf, at, self)
-    }
-
-    fn refusal(self) -> Refusal {
-        Refusal::NoRoom
-    }
-}
-
-// A NaN has the bits 7FF8000000000000.
-impl WriteAsIon for f64 {
-    ghost argument = { λ v. write_f64 (to_bits binary64 v) };
-
-    fn size(self) -> Option<usize> {
-        Some(floats::size(self))
-    }
-
-    fn write(self, buf: &mut [u8], at: usize) -> Option<usize> {
-        floats::write(buf, at, self)
+        floats::write(buf, at, self.0)
     }
 
     fn refusal(self) -> Refusal {
@@ -354,7 +337,7 @@ impl WriteAsIon for Timestamp {
     }
 }
 
-// ---- strings, clobs, blobs
+// ---- strings and lobs
 
 // A string's bytes. Those that are not UTF-8 are refused.
 #[derive(Clone, Copy)]
@@ -383,6 +366,10 @@ impl<'a> WriteAsIon for Text<'a> {
         if !self.is_utf8() {
             return None;
         }
+        self.write_passed(buf, at)
+    }
+
+    fn write_passed(self, buf: &mut [u8], at: usize) -> Option<usize> {
         write_bytes(buf, at, STRING, self.0)
     }
 
@@ -394,39 +381,26 @@ impl<'a> WriteAsIon for Text<'a> {
     }
 }
 
-// A clob's bytes.
+// The bytes of a clob or a blob.
 #[derive(Clone, Copy)]
-pub struct Clob<'a>(pub &'a [u8]);
-
-impl<'a> WriteAsIon for Clob<'a> {
-    ghost argument = { λ c. write_clob c.0.now };
-
-    fn size(self) -> Option<usize> {
-        Some(framed_size(self.0.len()))
-    }
-
-    fn write(self, buf: &mut [u8], at: usize) -> Option<usize> {
-        write_bytes(buf, at, CLOB, self.0)
-    }
-
-    fn refusal(self) -> Refusal {
-        Refusal::NoRoom
-    }
+pub enum Lob<'a> {
+    Clob(&'a [u8]),
+    Blob(&'a [u8]),
 }
 
-// A blob's bytes.
-#[derive(Clone, Copy)]
-pub struct Blob<'a>(pub &'a [u8]);
-
-impl<'a> WriteAsIon for Blob<'a> {
-    ghost argument = { λ b. write_blob b.0.now };
+impl<'a> WriteAsIon for Lob<'a> {
+    ghost argument = { lob_argument };
 
     fn size(self) -> Option<usize> {
-        Some(framed_size(self.0.len()))
+        let (Lob::Clob(bytes) | Lob::Blob(bytes)) = self;
+        Some(framed_size(bytes.len()))
     }
 
     fn write(self, buf: &mut [u8], at: usize) -> Option<usize> {
-        write_bytes(buf, at, BLOB, self.0)
+        match self {
+            Lob::Clob(bytes) => write_bytes(buf, at, CLOB, bytes),
+            Lob::Blob(bytes) => write_bytes(buf, at, BLOB, bytes),
+        }
     }
 
     fn refusal(self) -> Refusal {

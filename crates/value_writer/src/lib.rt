@@ -16,7 +16,7 @@ ghost use Rattle.timestamp.specs.Arguments.{argument_of};
 use machine::{Refused, State};
 use place::CallKind;
 use timestamp::Timestamp;
-use values::{Blob, Clob, Decimal, F32Bits, F64Bits, Int, IonType, Symbol, Text, WriteAsIon};
+use values::{Bits, Decimal, Int, IonType, Lob, Symbol, Text, Value, WriteAsIon};
 
 // A scalar of any type: its place is checked, it is put at the end of the used bytes, and the innermost container has a member more.
 pub fn write<V: WriteAsIon>(
@@ -34,6 +34,8 @@ pub fn write<V: WriteAsIon>(
     })?;
     Ok(steps::counted(steps::grown(s, put, false)))
 }
+
+// The functions from here on are `write` of one type each, under the names and with the parameters of ion-rust's value_writer.
 
 // A null of each type.
 pub fn write_null(
@@ -96,7 +98,7 @@ pub fn write_f32_bits(
 ) -> Result<State, Refused>
     ensures { outcome_of result buf.new ≡ run (write (sids_of annotations.now) (write_f32 bits)) (config s buf.old) }
 {
-    write(s, buf, annotations, F32Bits(bits))
+    write(s, buf, annotations, Bits(bits))
 }
 
 // A float by the bits of binary64, in four bytes where binary32 holds it; a NaN keeps its own.
@@ -108,21 +110,21 @@ pub fn write_f64_bits(
 ) -> Result<State, Refused>
     ensures { outcome_of result buf.new ≡ run (write (sids_of annotations.now) (write_f64 bits)) (config s buf.old) }
 {
-    write(s, buf, annotations, F64Bits(bits))
+    write(s, buf, annotations, Bits(bits))
 }
 
 // A float by its value; a NaN has the bits 7FC00000.
 pub fn write_f32(s: State, buf: &mut [u8], annotations: &[u8], value: f32) -> Result<State, Refused>
     ensures { outcome_of result buf.new ≡ run (write (sids_of annotations.now) (write_f32 (to_bits binary32 value))) (config s buf.old) }
 {
-    write(s, buf, annotations, value)
+    write(s, buf, annotations, Value(value))
 }
 
 // A float by its value; a NaN has the bits 7FF8000000000000.
 pub fn write_f64(s: State, buf: &mut [u8], annotations: &[u8], value: f64) -> Result<State, Refused>
     ensures { outcome_of result buf.new ≡ run (write (sids_of annotations.now) (write_f64 (to_bits binary64 value))) (config s buf.old) }
 {
-    write(s, buf, annotations, value)
+    write(s, buf, annotations, Value(value))
 }
 
 // A decimal: sign, coefficient from the highest byte on, exponent.
@@ -195,7 +197,7 @@ pub fn write_clob(
 ) -> Result<State, Refused>
     ensures { outcome_of result buf.new ≡ run (write (sids_of annotations.now) (write_clob bytes.now)) (config s buf.old) }
 {
-    write(s, buf, annotations, Clob(bytes))
+    write(s, buf, annotations, Lob::Clob(bytes))
 }
 
 // A blob.
@@ -207,5 +209,5 @@ pub fn write_blob(
 ) -> Result<State, Refused>
     ensures { outcome_of result buf.new ≡ run (write (sids_of annotations.now) (write_blob bytes.now)) (config s buf.old) }
 {
-    write(s, buf, annotations, Blob(bytes))
+    write(s, buf, annotations, Lob::Blob(bytes))
 }

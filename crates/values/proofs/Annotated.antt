@@ -5,6 +5,8 @@ use mathlib.Core.Bool.{true, false}
 use mathlib.Core.List.{List, ◌∷◌}
 use Prim.Native.Nat.{ℕ, ◌+◌, ◌≤◌, ◌<◌}
 use native.Mathlib.Omega.{arith}
+use borrow.Author.Tests.{eqb-false}
+use lib.Dec.{eqb}
 use lib.ListN.{length, length-append}
 use Rattle.std.specs.Prelude.{Option, Some, None}
 use Rattle.std.proofs.lemmas.Option.{none-some, same_Some}
@@ -57,7 +59,10 @@ module _ (a : Argument) where
         ap (written b at) e ∙ written-some b at (annotated_bytes (x ∷ xs) v) (omega (arith, some_bytes))
 
 -- annotations are lent, and `size` is that of the value
-module _ (b : List ℕ) (at : ℕ) (notes : List ℕ) (some : 0 < length notes) (a : Argument) (size : ℕ) (s : Some size ≡ size_of (checked_bytes a)) where
+module _ (b : List ℕ) (at : ℕ) (notes : List ℕ) (some : eqb (length notes) 0 ≡ false) (a : Argument) (size : ℕ) (s : Some size ≡ size_of (checked_bytes a)) where
+  some_notes : 0 < length notes
+  some_notes = omega (arith, eqb-false (length notes) 0 some)
+
   before : List ℕ → List ℕ → Option ℕ × List ℕ
   before an v = placed_before b at (prefix_bytes an (length v)) (length v)
 
@@ -68,14 +73,14 @@ module _ (b : List ℕ) (at : ℕ) (notes : List ℕ) (some : 0 < length notes) 
   pub no_wrapper : (l : List ℕ) → ◌≡◌ {A = Option ℕ × List ℕ} (None, l) (placed_before b at (prefix_bytes (sids_of notes) size) size)
       → ◌≡◌ {A = Option ℕ × List ℕ} (None, l) (written b at (annotated_checked (sids_of notes) a))
   no_wrapper l e =
-      let q = sids_some notes some in
+      let q = sids_some notes some_notes in
       rw q.2 (no_prefix b at q.0 q.1 (checked_bytes a) l (by_length None l q.0 q.1 q.2 e) ∙ sym (annotated_written a (sized a size s).0 b at q.0 q.1))
 
   module _ (n : ℕ) (l : List ℕ) (e : ◌≡◌ {A = Option ℕ × List ℕ} (Some n, l) (placed_before b at (prefix_bytes (sids_of notes) size) size)) where
     -- the value has room behind its wrapper
     pub wrapper_room : at + n + size ≤ length l
     wrapper_room =
-        let q = sids_some notes some in
+        let q = sids_some notes some_notes in
         omega (arith, prefix_room b at q.0 q.1 (checked_bytes a) n l (by_length (Some n) l q.0 q.1 q.2 e), (sized a size s).1)
 
     pub wrapped_put : (l' : List ℕ) → ◌≡◌ {A = Option ℕ × List ℕ} (None, l') (written l (at + n) (checked_bytes a)) → ⊥
@@ -84,7 +89,7 @@ module _ (b : List ℕ) (at : ℕ) (notes : List ℕ) (some : 0 < length notes) 
     pub wrapped : (m : ℕ) (l' : List ℕ) → ◌≡◌ {A = Option ℕ × List ℕ} (Some m, l') (written l (at + n) (checked_bytes a))
         → ◌≡◌ {A = Option ℕ × List ℕ} (Some (n + m), l') (written b at (annotated_checked (sids_of notes) a))
     wrapped m l' f =
-        let q = sids_some notes some in
+        let q = sids_some notes some_notes in
         rw q.2 (prefix_then b at q.0 q.1 (checked_bytes a) n l (by_length (Some n) l q.0 q.1 q.2 e) m l' (f ∙ value_written a (sized a size s).0 l (at + n))
         ∙ sym (annotated_written a (sized a size s).0 b at q.0 q.1))
 

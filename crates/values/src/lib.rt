@@ -7,9 +7,7 @@ ghost use Rattle.buffer.specs.Laid.{written};
 ghost use Rattle.annotations.specs.Sids.{sids_of};
 ghost use Rattle.values.specs.Values.{annotated_checked};
 
-pub use scalars::{
-    Blob, Clob, Decimal, F32Bits, F64Bits, Int, IonType, Symbol, Text, Timestamp, WriteAsIon,
-};
+pub use scalars::{Bits, Decimal, Int, IonType, Lob, Symbol, Text, Timestamp, Value, WriteAsIon};
 
 // The value with its annotations. Nothing is put where one of the value's own checks refuses it.
 pub fn write<V: WriteAsIon>(
@@ -21,11 +19,11 @@ pub fn write<V: WriteAsIon>(
     ensures { ◌≡◌ {A = Option ℕ × List ℕ} (result, buf.new)
         (written buf.old at (annotated_checked (sids_of annotations.now) (V.argument value))) }
 {
-    if annotations.len() == 0 {
+    if annotations.is_empty() {
         return value.write(buf, at);
     }
     let size = value.size()?;
     let wrapper = annotations::write_prefix(buf, at, annotations, size)?;
-    let body = value.write(buf, at + wrapper)?;
+    let body = value.write_passed(buf, at + wrapper)?;
     Some(wrapper + body)
 }

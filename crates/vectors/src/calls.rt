@@ -2,7 +2,7 @@
 // each. The bytes go to `AT`.
 use crate::functions::{Function, NoFunction, ion_type};
 use timestamp::{Fraction, Precision, Timestamp};
-use values::{Blob, Clob, Decimal, F32Bits, F64Bits, Int, Symbol, Text};
+use values::{Bits, Decimal, Int, Lob, Symbol, Text};
 use words::{hex, numbers};
 
 pub(crate) const AT: usize = 3;
@@ -155,10 +155,10 @@ impl<'a> Call<'a> {
             Function::WriteI64 => values::write(buf, AT, annotations, self.signed(1)),
             Function::WriteInt => values::write(buf, AT, annotations, self.int(bytes)),
             Function::WriteF32 => {
-                let bits = F32Bits((self.bits() % 0x1_0000_0000) as u32);
+                let bits = Bits((self.bits() % 0x1_0000_0000) as u32);
                 values::write(buf, AT, annotations, bits)
             }
-            Function::WriteF64 => values::write(buf, AT, annotations, F64Bits(self.bits())),
+            Function::WriteF64 => values::write(buf, AT, annotations, Bits(self.bits())),
             Function::WriteDecimal => {
                 let decimal = Decimal {
                     coefficient: self.int(bytes),
@@ -169,8 +169,8 @@ impl<'a> Call<'a> {
             Function::WriteTimestamp => values::write(buf, AT, annotations, self.local_time()),
             Function::WriteSymbol => values::write(buf, AT, annotations, Symbol(self.number(1))),
             Function::WriteString => values::write(buf, AT, annotations, Text(bytes)),
-            Function::WriteClob => values::write(buf, AT, annotations, Clob(bytes)),
-            Function::WriteBlob => values::write(buf, AT, annotations, Blob(bytes)),
+            Function::WriteClob => values::write(buf, AT, annotations, Lob::Clob(bytes)),
+            Function::WriteBlob => values::write(buf, AT, annotations, Lob::Blob(bytes)),
         }
     }
 

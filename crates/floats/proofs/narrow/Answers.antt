@@ -1,9 +1,8 @@
 -- Each answer by its case of the exponent's field; in the last two by the trailing zeros of the digits.
 -- Assumes nothing.
-use Prim.Native.Nat.{◌+◌, ◌/◌, ◌%◌, ◌^◌}
+use Prim.Native.Nat.{◌/◌, ◌%◌, ◌^◌}
 use mathlib.Core.Path.{◌≡◌, refl, sym, ◌∙◌}
 use native.Mathlib.Omega.{arith}
-use lib.Count.{trailing_le}
 use lib.Dec.{leb}
 use Rattle.floats.proofs.Narrowing.{narrowed_fields, sign_bits, narrowed_zero, narrowed_infinity, narrowed_below, narrowed_above, narrowed_cut}
 use Rattle.floats.proofs.Narrowing.{narrowed_exact, magnitude-small}
@@ -25,19 +24,8 @@ returns-then-x-lt-LEAST c = sym (narrowed_fields _ ∙ narrowed_below _ _ _ (ome
 pub returns-then-x-gt-GREATEST : goal.returns-then-x-gt-GREATEST
 returns-then-x-gt-GREATEST c = sym (narrowed_fields _ ∙ narrowed_above _ _ _ (omega arith) (omega arith) (λ x t. c.if-magnitude-eq-INFINITY_64.false (omega arith)))
 
-pub overflow_cast-digits : goal.overflow_cast-digits
-overflow_cast-digits c = let b = c.args.bits in omega (arith, trailing_le 64 (b % 2 ^ 52 + 2 ^ 52))
-
-pub returns-then-digits-dropped : goal.returns-then-digits-dropped
-returns-then-digits-dropped c = sym (narrowed_fields _ ∙ narrowed_cut _ _ _ _ (omega arith) (omega arith) (omega arith) c.dropped_digits-dropped.ensures c.if-digits-dropped.true)
-
-pub overflow_add-result-3 : goal.overflow_add-result-3
-overflow_add-result-3 c = let b = c.args.bits in
-    let d = c.dropped_digits-dropped in
-    omega (
-      arith,
-      magnitude-small (leb (2 ^ 63) b) (b % 2 ^ 63 / 2 ^ 52) (b % 2 ^ 52) d.result (omega arith) (omega arith) (omega arith) d.ensures,
-    )
+pub returns-then-from-dropped : goal.returns-then-from-dropped
+returns-then-from-dropped c = sym (narrowed_fields _ ∙ narrowed_cut _ _ _ _ (omega arith) (omega arith) (omega arith) c.dropped_digits-dropped.ensures (rw c.from.ensures at c.if-from-dropped.true))
 
 pub overflow_cast-result : goal.overflow_cast-result
 overflow_cast-result c = let b = c.args.bits in
@@ -58,4 +46,4 @@ overflow_add-result-4 c = let b = c.args.bits in
 pub returns : goal.returns
 returns c = let b = c.args.bits in
     rw (← sign_bits b (omega arith))
-    (sym (narrowed_fields b ∙ narrowed_exact _ _ _ _ (omega arith) (omega arith) (omega arith) c.dropped_digits-dropped.ensures c.if-digits-dropped.false))
+    (sym (narrowed_fields b ∙ narrowed_exact _ _ _ _ (omega arith) (omega arith) (omega arith) c.dropped_digits-dropped.ensures (rw c.from.ensures at c.if-from-dropped.false)))

@@ -1,8 +1,0 @@
--- Its bytes, which no check refuses, are put. Assumes nothing.
-use mathlib.Core.Path.{◌∙◌, ap, sym}
-use Rattle.buffer.specs.Laid.{written}
-use Rattle.scalars.proofs.Bytes.{clob_bytes}
-use Rattle.scalars.proofs.ClobWriteAsIon.write.Goals as goal
-
-pub returns : goal.returns
-returns c = let a = c.args in c.write_bytes.ensures ∙ ap (written a.buf.now a.at) (sym (clob_bytes a.self.0.now))

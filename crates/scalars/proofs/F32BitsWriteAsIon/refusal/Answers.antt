@@ -1,8 +1,0 @@
--- No check of its own. Assumes nothing.
-use mathlib.Core.Path.{refl}
-use Rattle.encoding.specs.Argument.{write_f32}
-use Rattle.scalars.proofs.Puts.{no_room_for}
-use Rattle.scalars.proofs.F32BitsWriteAsIon.refusal.Goals as goal
-
-pub returns : goal.returns
-returns c = no_room_for (write_f32 c.args.self.0) refl
