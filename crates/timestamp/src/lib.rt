@@ -212,8 +212,10 @@ fn utc_minutes(offset: i32, hour: u32, minute: u32) -> u32
 }
 
 impl Local {
+    // Its year is 1 to 9999.
+    #[tactic(auto, using(crate::proofs::Valid::year_between))]
     fn date(self) -> Date
-        ensures { result ≡ record { year = self.t.year; month = self.t.month; day = self.t.day; } }
+        ensures { (result ≡ record { year = self.t.year; month = self.t.month; day = self.t.day; }) × (1 ≤ result.year) × (result.year ≤ 9999) }
     {
         Date {
             year: self.t.year,
