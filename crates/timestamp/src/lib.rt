@@ -144,6 +144,7 @@ impl Timestamp {
     // Check 7: the local rules, then the UTC year, which is 1 to 9999 too. None where it is not passed, else the UTC fields in the place of the local ones.
     // Each caller has its own copy, with this inline, since most of them do not use all of the fields.
     #[inline(always)]
+    #[tactic(auto, using(crate::proofs::UtcFields::not_local, crate::proofs::UtcFields::by_utc_year, crate::proofs::SmallFields::utc_small))]
     fn checked(self) -> Option<Utc>
         ensures { MatchOption result
             (is_timestamp (offset_minutes self.offset) (fields_of self) (fraction_digits self.fraction) ≡ false)
@@ -168,6 +169,7 @@ impl Timestamp {
     }
 
     // The UTC fields in the place of the local ones, and the offset kept. A timestamp that does not pass check 7 stays as it is.
+    #[tactic(auto, using(crate::proofs::UtcFields::utc_of_valid, crate::proofs::UtcFields::utc_of_other))]
     pub fn to_utc(self) -> Timestamp
         ensures { result ≡ utc_of self }
     {
@@ -309,6 +311,7 @@ impl Local {
 
     // With no offset known the fields stay.
     #[inline(always)]
+    #[tactic(auto, using(crate::proofs::UtcFields::utc_unknown))]
     fn in_utc(self) -> Timestamp
         ensures { result ≡ in_utc self.t }
     {
@@ -394,6 +397,7 @@ impl Utc {
     }
 
     // 0 is the length of a fraction that is not there.
+    #[tactic(auto, using(encoding::proofs::Fractions::fraction_length, encoding::proofs::Fractions::coefficient_most))]
     fn fraction_size(self) -> usize
         ensures { result ≡ length (fraction_bytes (fraction_digits self.t.fraction)) }
     {
@@ -427,6 +431,7 @@ impl Utc {
     }
 
     // Header and body.
+    #[tactic(auto, using(crate::proofs::Values::value_length, crate::proofs::Values::value_fits))]
     fn value_size(self) -> usize
         ensures { result ≡ length (value_of self.t) }
     {
@@ -449,6 +454,7 @@ impl Utc {
 }
 
 // The bytes that `t` takes, header and body; none where it does not pass check 7.
+#[tactic(auto, using(crate::proofs::Values::refused, crate::proofs::Values::accepted_size))]
 pub fn size(t: Timestamp) -> Option<usize>
     ensures { result ≡ size_of (checked_bytes (argument_of t)) }
 {
@@ -458,6 +464,7 @@ pub fn size(t: Timestamp) -> Option<usize>
 
 // Header and body: the offset as a VarInt, the UTC fields as VarUInts, then any fraction as a decimal's body.
 // Nothing is put where `t` does not pass check 7.
+#[tactic(auto, using(crate::proofs::Values::refused, crate::proofs::Values::accepted_put))]
 pub fn write(buf: &mut [u8], at: usize, t: Timestamp) -> Option<usize>
     ensures { ◌≡◌ {A = Option ℕ × List ℕ} (result, buf.new) (written buf.old at (checked_bytes (argument_of t))) }
 {
