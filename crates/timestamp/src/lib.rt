@@ -408,6 +408,7 @@ impl Utc {
     }
 
     // The fields below the year count by their number alone.
+    #[tactic(auto, using(crate::proofs::Body::body_parts))]
     fn body_size(self) -> usize
         ensures { result ≡ length (body_of self.t) }
     {
