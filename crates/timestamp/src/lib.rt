@@ -217,7 +217,7 @@ impl Local {
     // Its year is 1 to 9999.
     #[tactic(auto, using(crate::proofs::Valid::year_between))]
     fn date(self) -> Date
-        ensures { (result ≡ record { year = self.t.year; month = self.t.month; day = self.t.day; }) × (1 ≤ result.year) × (result.year ≤ 9999) }
+        ensures { (result ≡ record { year = self.t.year; month = self.t.month; day = self.t.day }) × (1 ≤ result.year) × (result.year ≤ 9999) }
     {
         Date {
             year: self.t.year,
