@@ -63,8 +63,8 @@ year_leap y e = rw (before-by y 13, e)
 pub year_plain : (y : ℕ) → is_leap_year y ≡ false → 365 ≡ days_before_month y 13
 year_plain y e = rw (before-by y 13, e)
 
-pub before-past : (y m : ℕ) → 12 < m → days_before_month y 13 ≡ days_before_month y m
-before-past y m h =
+pub before_past : (y m : ℕ) → 12 < m → days_before_month y 13 ≡ days_before_month y m
+before_past y m h =
     let e : m ≡ 13 + (m - 13) = omega arith in
     rw (e, before-by y 13, before-by y (13 + (m - 13))) (sym (by_past (cond (is_leap_year y) 29 28) (m - 13)))
 
@@ -73,8 +73,8 @@ before_leap y m h e =
     let b = both {a = ltb 2 m} e in
     rw (before-by y m, b.1) (rw b.0 at (by_leap m h))
 
-pub before-plain : (y m : ℕ) → m ≤ 12 → (ltb 2 m && is_leap_year y) ≡ false → get_or plain_before m 0 ≡ days_before_month y m
-before-plain y m h e =
+pub before_plain : (y m : ℕ) → m ≤ 12 → (ltb 2 m && is_leap_year y) ≡ false → get_or plain_before m 0 ≡ days_before_month y m
+before_plain y m h e =
     by_cases (is_leap_year y)
     (λ p. by_cases (ltb 2 m)
     (λ q. absurd (false≢true (sym e ∙ rw (p, q))))
@@ -90,16 +90,19 @@ by_most m h =
 before_within : (y m : ℕ) → days_before_month y m ≤ days_before_month y 13
 before_within y m =
     by_cases (ltb 12 m)
-    (λ p. omega (arith, before-past y m (ltb-true 12 m p)))
+    (λ p. omega (arith, before_past y m (ltb-true 12 m p)))
     (λ p.
     let h : m ≤ 13 = omega (arith, ltb-false 12 m p) in
     rw (before-by y m, before-by y 13) (by_cases (is_leap_year y) (λ q. rw q (by_most m h).1) (λ q. rw q (by_most m h).0)))
 
-pub before-most : (y m : ℕ) → days_before_month y m ≤ 366
-before-most y m =
+pub before_most : (y m : ℕ) → days_before_month y m ≤ 366
+before_most y m =
     by_cases (is_leap_year y)
     (λ p. omega (arith, before_within y m, year_leap y p))
     (λ p. omega (arith, before_within y m, year_plain y p))
+
+pub leap_most : (y m : ℕ) → m ≤ 12 → (ltb 2 m && is_leap_year y) ≡ true → get_or plain_before m 0 + 1 ≤ 366
+leap_most y m h e = omega (arith, before_leap y m h e, before_most y m)
 
 -- ---- days before a year
 

@@ -16,7 +16,8 @@ pub fn is_leap_year(year: u32) -> bool
     (year % 4 == 0) & ((year % 100 != 0) | (year % 400 == 0))
 }
 
-// 0 for a month that is not.
+// A count of days, 0 for a month that is not, as in the definition. Rust has no `From` for `u32` to `usize`.
+#[tactic(auto, using(crate::proofs::Months::days_leap, crate::proofs::Months::days_plain))]
 pub fn days_in_month(year: u32, month: u32) -> u32
     ensures { result ≡ days_in_month year month }
 {
@@ -34,6 +35,7 @@ pub fn days_in_month(year: u32, month: u32) -> u32
 // In a year that is no leap year.
 const DAYS_BEFORE_MONTH: [u64; 13] = [0, 0, 31, 59, 90, 120, 151, 181, 212, 243, 273, 304, 334];
 
+#[tactic(auto, using(crate::proofs::Counted::year_leap, crate::proofs::Counted::year_plain))]
 fn days_in_year(year: u32) -> u64
     ensures { result ≡ days_before_month year 13 }
 {
@@ -44,6 +46,7 @@ fn days_in_year(year: u32) -> u64
 }
 
 // Of the year's days, those before a month: all of them for one behind December.
+#[tactic(auto, using(crate::proofs::Counted::before_past, crate::proofs::Counted::before_leap, crate::proofs::Counted::before_plain, crate::proofs::Counted::leap_most))]
 pub fn days_before_month(year: u32, month: u32) -> u64
     ensures { result ≡ days_before_month year month }
 {
@@ -57,17 +60,19 @@ pub fn days_before_month(year: u32, month: u32) -> u64
 }
 
 // From the first of January of the year 0 on. The year 0 is a leap year, so the years of each rule are rounded up.
+#[tactic(auto, using(crate::proofs::Counted::years_counted))]
 pub fn days_before_year(year: u32) -> u64
     ensures { result ≡ days_before_year year }
 {
-    let y = year as u64;
+    let y = u64::from(year);
     365 * y + (y + 3) / 4 - (y + 99) / 100 + (y + 399) / 400
 }
 
 // Counted from the same day on, which has the number one.
+#[tactic(auto, using(crate::proofs::Counted::years_most, crate::proofs::Counted::before_most), unfolding(ion::specs::Calendar::minute_number, ion::specs::Calendar::day_number))]
 pub fn minute_number(year: u32, month: u32, day: u32, hour: u32, minute: u32) -> u64
     ensures { result ≡ minute_number year month day hour minute }
 {
-    let days = days_before_year(year) + days_before_month(year, month) + day as u64;
-    days * 1440 + (hour as u64 * 60 + minute as u64)
+    let days = days_before_year(year) + days_before_month(year, month) + u64::from(day);
+    days * 1440 + (u64::from(hour) * 60 + u64::from(minute))
 }

@@ -1,4 +1,4 @@
-// The sign and the magnitude of an i64.
+// The sign and the magnitude of an i64: two methods of the library, which stay functions here because they are public.
 #![tactic(auto)]
 
 ghost use Rattle.std.specs.Prelude.{◌≡◌, not, nat_abs};

@@ -16,21 +16,13 @@ use Rattle.buffer.specs.Laid.{placed}
 use Rattle.encoding.specs.Fields.{var_uint_bytes, var_uints_bytes, var_int_bytes, uint_bytes, int_bytes}
 use Rattle.encoding.specs.Timestamp.{offset_bytes, fraction_bytes}
 use Rattle.encoding.proofs.Fractions.{fraction_bytes_is, digits-most}
+use Rattle.encoding.proofs.Sizes.{length-var_int_sign}
 use Rattle.encoding.proofs.TimestampLength.{unknown_most, known_most, year_most}
 use Rattle.timestamp.proofs.Runs.{first_put, second_room, second_put, both_put}
-use Rattle.timestamp.specs.declared.Precision.{Precision}
-use Rattle.timestamp.specs.declared.Precision.TheVariants.{Year, Month, Day, Minute, Second}
 use Rattle.timestamp.specs.declared.Timestamp.{Timestamp}
 use Rattle.timestamp.specs.Arguments.{offset_minutes, fraction_digits, field_count, fields_of}
 use Rattle.timestamp.specs.Small.{SmallOffset, SmallFraction, Small, body_of}
-use Rattle.timestamp.proofs.Fields.{small_year, length_of_fields}
-
-pub field_count_between : (p : Precision) → (1 ≤ field_count p) × (field_count p ≤ 6)
-field_count_between Year = omega arith
-field_count_between Month = omega arith
-field_count_between Day = omega arith
-field_count_between Minute = omega arith
-field_count_between Second = omega arith
+use Rattle.timestamp.proofs.Fields.{field_count_between, small_year, length_of_fields}
 
 -- ---- each part
 
@@ -63,23 +55,17 @@ module _ (t : Timestamp) where
     body-length = simp length-append (rw fields-length)
 
     -- each part, and what they are at most in all
-    pub record Most : Type 0 where
-      pub offset : length (offset_bytes (offset_minutes t.offset)) ≤ 2
-      pub year : length (var_uint_bytes t.year) ≤ 2
-      pub below : (1 ≤ field_count t.precision) × (field_count t.precision ≤ 6)
-      pub fraction : length (fraction_bytes (fraction_digits t.fraction)) ≤ 9
+    pub offset_within : length (offset_bytes (offset_minutes t.offset)) ≤ 2
+    offset_within = offset_most (offset_minutes t.offset) h.0
 
-    pub most : Most
-    most =
-        record {
-          offset = offset_most (offset_minutes t.offset) h.0;
-          year = year_most t.year year_small;
-          below = field_count_between t.precision;
-          fraction = fraction_most (fraction_digits t.fraction) h.2;
-        }
+    pub year_within : length (var_uint_bytes t.year) ≤ 2
+    year_within = year_most t.year year_small
+
+    pub fraction_within : length (fraction_bytes (fraction_digits t.fraction)) ≤ 9
+    fraction_within = fraction_most (fraction_digits t.fraction) h.2
 
     pub body-most : length (body_of t) ≤ 18
-    body-most = let m = most in rw body-length (omega arith)
+    body-most = rw body-length (omega (arith, offset_within, year_within, field_count_between t.precision, fraction_within))
 
 -- ---- put one part behind the other
 
@@ -167,3 +153,6 @@ module _ (b : List ℕ) (at : ℕ) (t : Timestamp) (h : at + length (body_of t) 
         body_put k l'' g =
             let w = both_put b at (offset_part ++ fields_part) fraction_part all_room (n + m) l' two_put k l'' (rw q at g) in
             (rw (append_assoc offset_part fields_part fraction_part) at w.0, omega (arith, w.1, all_room))
+
+-- what the size of a body needs
+pub ruleset body_parts = (offset_within, year_within, field_count_between, fraction_within, body-length, length-var_int_sign)

@@ -35,12 +35,12 @@ length-below Day m d h i s = refl
 length-below Minute m d h i s = refl
 length-below Second m d h i s = refl
 
-field_count_most : (p : Precision) → field_count p ≤ 6
-field_count_most Year = omega arith
-field_count_most Month = omega arith
-field_count_most Day = omega arith
-field_count_most Minute = omega arith
-field_count_most Second = omega arith
+pub field_count_between : (p : Precision) → (1 ≤ field_count p) × (field_count p ≤ 6)
+field_count_between Year = omega arith
+field_count_between Month = omega arith
+field_count_between Day = omega arith
+field_count_between Minute = omega arith
+field_count_between Second = omega arith
 
 all_below-at : (limit : ℕ) (ns : List ℕ) (i : ℕ) → AllBelow limit ns → i < length ns → get_or ns i 0 < limit
 all_below-at limit [] i k h = absurd (omega arith)
@@ -86,12 +86,8 @@ module _ (b : List ℕ) (at : ℕ) (t : Timestamp) (k : ℕ) (e : k ≡ field_co
   fields-are : fields_of t ≡ t.year ∷ take (k - 1) below
   fields-are = rw e (fields_by-below t.precision t.year t.month t.day t.hour t.minute t.second)
 
-  pub all_put : (i n m : ℕ) (l : List ℕ) → i ≡ k - 1 → m ≡ n → Put b at t.year below i n l
-      → ◌≡◌ {A = Option ℕ × List ℕ} (Some m, l) (placed b at (var_uints_bytes (fields_of t)))
-  all_put i n m l h q f = rw (q, fields-are) (rw h at f)
-
   pub at_most_five : k - 1 ≤ 5
-  at_most_five = let c = field_count_most t.precision in omega (arith, c, e)
+  at_most_five = let c = field_count_between t.precision in omega (arith, c.1, e)
 
   module _ (small : SmallFields (fields_of t)) (room : at + length (var_uints_bytes (fields_of t)) ≤ length b) where
     low : AllBelow 128 (take (k - 1) below)

@@ -27,9 +27,9 @@ use Rattle.timestamp.proofs.Body.{body-most}
 
 -- header and body
 module _ (t : Timestamp) (h : Small t) (body : ℕ) (q : body ≡ length (body_of t)) (header : ℕ) (k : header ≡ length (header_bytes 0 body)) where
-  pub value-size : header + body ≡ length (value_of t)
+  pub value_length : header + body ≡ length (value_of t)
   unfolding value_of
-  value-size = rw (k, q) (sym (length-framed (type_byte timestamp_code) (body_of t)))
+  value_length = rw (k, q) (sym (length-framed (type_byte timestamp_code) (body_of t)))
 
   pub value_fits : Fits w64 (header + body)
   value_fits = record { fits = omega (arith, body-most t h, header_most 0 body (omega (arith, body-most t h))) }

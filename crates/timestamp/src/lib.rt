@@ -1,5 +1,6 @@
 // Timestamps: document 01's modules types/timestamp and binary/timestamp.
 // A field is 32 bits wide and never cut: a year of 70000 is a bad year.
+// `buf` and `at` are two parameters: the buffer is lent at each call, and a struct around both would be made and taken apart in each function.
 #![tactic(auto)]
 
 ghost use Rattle.std.specs.Prelude.{◌≡◌, true, false, ◌&&◌, List, [], ℕ, Option, ◌+◌, ◌%◌, ◌^◌, ◌≤◌, ◌<◌, ltb, leb, length, nat_abs, MatchOption};
@@ -46,6 +47,7 @@ pub struct Timestamp {
 
 // ---- check 7
 
+// This range and that of a month are one comparison each: one function of both would be given the bounds and say no more.
 fn is_year(year: u32) -> bool
     ensures { result ≡ (year_rule year).holds }
 {
@@ -66,7 +68,7 @@ fn is_day(year: u32, month: u32, day: u32) -> bool
 }
 
 impl Precision {
-    // How many fields count, from the year down.
+    // How many fields count, from the year down: a count of the precision and no number for it, so no `From`.
     fn field_count(self) -> u32
         ensures { result ≡ field_count self }
     {
@@ -84,7 +86,7 @@ impl Precision {
 fn offset_magnitude(minutes: i32) -> u32
     ensures { result ≡ nat_abs minutes }
 {
-    sign::magnitude(minutes as i64) as u32
+    sign::magnitude(i64::from(minutes)) as u32
 }
 
 impl Fraction {
@@ -126,6 +128,7 @@ impl Timestamp {
     }
 
     // The local fields, year 1 to 9999, a day of the calendar, hour 0 to 23, minute and second 0 to 59, as far as the precision goes; then offset and fraction.
+    #[inline(always)]
     fn is_local(self) -> bool
         ensures { result ≡ is_local_timestamp (offset_minutes self.offset) (fields_of self) (fraction_digits self.fraction) }
     {
@@ -141,6 +144,7 @@ impl Timestamp {
     // Check 7: the local rules, then the UTC year, which is 1 to 9999 too. None where it is not passed, else the UTC fields in the place of the local ones.
     // Each caller has its own copy, with this inline, since most of them do not use all of the fields.
     #[inline(always)]
+    #[tactic(auto, using(crate::proofs::UtcFields::not_local, crate::proofs::UtcFields::by_utc_year, crate::proofs::SmallFields::utc_small))]
     fn checked(self) -> Option<Utc>
         ensures { MatchOption result
             (is_timestamp (offset_minutes self.offset) (fields_of self) (fraction_digits self.fraction) ≡ false)
@@ -165,6 +169,7 @@ impl Timestamp {
     }
 
     // The UTC fields in the place of the local ones, and the offset kept. A timestamp that does not pass check 7 stays as it is.
+    #[tactic(auto, using(crate::proofs::UtcFields::utc_of_valid, crate::proofs::UtcFields::utc_of_other))]
     pub fn to_utc(self) -> Timestamp
         ensures { result ≡ utc_of self }
     {
@@ -209,33 +214,39 @@ fn utc_minutes(offset: i32, hour: u32, minute: u32) -> u32
 }
 
 impl Local {
+    // Its year is 1 to 9999.
+    #[tactic(auto, using(crate::proofs::Valid::year_between))]
+    fn date(self) -> Date
+        ensures { (result ≡ record { year = self.t.year; month = self.t.month; day = self.t.day }) × (1 ≤ result.year) × (result.year ≤ 9999) }
+    {
+        Date {
+            year: self.t.year,
+            month: self.t.month,
+            day: self.t.day,
+        }
+    }
+
     #[tactic(auto, unfolding(encoding::specs::Timestamp::day_before))]
     fn day_before(self) -> Date
         ensures { date_of result ≡ day_before self.t.year self.t.month self.t.day }
     {
-        let Timestamp {
-            year,
-            month,
-            day,
-            ..
-        } = self.t;
-        if 1 < day {
+        let date = self.date();
+        if 1 < date.day {
             return Date {
-                year,
-                month,
-                day: day - 1,
+                day: date.day - 1,
+                ..date
             };
         }
-        if 1 < month {
-            let month = month - 1;
+        if 1 < date.month {
+            let month = date.month - 1;
             return Date {
-                year,
                 month,
-                day: calendar::days_in_month(year, month),
+                day: calendar::days_in_month(date.year, month),
+                ..date
             };
         }
         Date {
-            year: year - 1,
+            year: date.year - 1,
             month: 12,
             day: 31,
         }
@@ -245,28 +256,22 @@ impl Local {
     fn day_after(self) -> Date
         ensures { date_of result ≡ day_after self.t.year self.t.month self.t.day }
     {
-        let Timestamp {
-            year,
-            month,
-            day,
-            ..
-        } = self.t;
-        if day < calendar::days_in_month(year, month) {
+        let date = self.date();
+        if date.day < calendar::days_in_month(date.year, date.month) {
             return Date {
-                year,
-                month,
-                day: day + 1,
+                day: date.day + 1,
+                ..date
             };
         }
-        if month < 12 {
+        if date.month < 12 {
             return Date {
-                year,
-                month: month + 1,
+                month: date.month + 1,
                 day: 1,
+                ..date
             };
         }
         Date {
-            year: year + 1,
+            year: date.year + 1,
             month: 1,
             day: 1,
         }
@@ -281,11 +286,7 @@ impl Local {
             return self.day_before();
         }
         if minutes < 2 * DAY {
-            return Date {
-                year: self.t.year,
-                month: self.t.month,
-                day: self.t.day,
-            };
+            return self.date();
         }
         self.day_after()
     }
@@ -310,6 +311,7 @@ impl Local {
 
     // With no offset known the fields stay.
     #[inline(always)]
+    #[tactic(auto, using(crate::proofs::UtcFields::utc_unknown))]
     fn in_utc(self) -> Timestamp
         ensures { result ≡ in_utc self.t }
     {
@@ -335,7 +337,7 @@ struct Utc {
 fn put_small(buf: &mut [u8], at: usize, value: u32) -> Option<usize>
     ensures { ◌≡◌ {A = Option ℕ × List ℕ} (result, buf.new) (placed buf.old at (var_uint_bytes (value % 128))) }
 {
-    var_uint::write(buf, at, (value % 128) as u64)
+    var_uint::write(buf, at, u64::from(value % 128))
 }
 
 impl Utc {
@@ -343,7 +345,7 @@ impl Utc {
     fn year(self) -> u64
         ensures { result ≡ self.t.year }
     {
-        (self.t.year % 16384) as u64
+        u64::from(self.t.year % 16384)
     }
 
     // The sign and the magnitude of the offset, which two bytes hold too. Unknown is negative zero.
@@ -352,7 +354,7 @@ impl Utc {
     {
         match self.t.offset {
             None => (true, 0),
-            Some(minutes) => (minutes < 0, (offset_magnitude(minutes) % 8192) as u64),
+            Some(minutes) => (minutes < 0, u64::from(offset_magnitude(minutes) % 8192)),
         }
     }
 
@@ -387,13 +389,15 @@ impl Utc {
         match self.t.fraction {
             None => Some(0),
             Some(fraction) => {
-                let one = var_int::write(buf, at, true, (fraction.digits % 64) as u64)?;
+                let one = var_int::write(buf, at, true, u64::from(fraction.digits % 64))?;
                 let more = int::write_u64(buf, at + one, fraction.coefficient)?;
                 Some(one + more)
             }
         }
     }
 
+    // 0 is the length of a fraction that is not there.
+    #[tactic(auto, using(encoding::proofs::Fractions::fraction_length, encoding::proofs::Fractions::coefficient_most))]
     fn fraction_size(self) -> usize
         ensures { result ≡ length (fraction_bytes (fraction_digits self.t.fraction)) }
     {
@@ -404,6 +408,7 @@ impl Utc {
     }
 
     // The fields below the year count by their number alone.
+    #[tactic(auto, using(crate::proofs::Body::body_parts))]
     fn body_size(self) -> usize
         ensures { result ≡ length (body_of self.t) }
     {
@@ -427,6 +432,7 @@ impl Utc {
     }
 
     // Header and body.
+    #[tactic(auto, using(crate::proofs::Values::value_length, crate::proofs::Values::value_fits))]
     fn value_size(self) -> usize
         ensures { result ≡ length (value_of self.t) }
     {
@@ -449,6 +455,7 @@ impl Utc {
 }
 
 // The bytes that `t` takes, header and body; none where it does not pass check 7.
+#[tactic(auto, using(crate::proofs::Values::refused, crate::proofs::Values::accepted_size))]
 pub fn size(t: Timestamp) -> Option<usize>
     ensures { result ≡ size_of (checked_bytes (argument_of t)) }
 {
@@ -458,6 +465,7 @@ pub fn size(t: Timestamp) -> Option<usize>
 
 // Header and body: the offset as a VarInt, the UTC fields as VarUInts, then any fraction as a decimal's body.
 // Nothing is put where `t` does not pass check 7.
+#[tactic(auto, using(crate::proofs::Values::refused, crate::proofs::Values::accepted_put))]
 pub fn write(buf: &mut [u8], at: usize, t: Timestamp) -> Option<usize>
     ensures { ◌≡◌ {A = Option ℕ × List ℕ} (result, buf.new) (written buf.old at (checked_bytes (argument_of t))) }
 {

@@ -4,7 +4,7 @@ use Rattle.std.proofs.Common.{◌≡◌, ◌∙◌, rules}
 use mir.Syntax.{w32}
 use mir.Val.{of_z, to_z}
 use Rattle.timestamp.proofs.Valid.{known}
-use Rattle.timestamp.proofs.UtcFields.{utc_known, utc_unknown}
+use Rattle.timestamp.proofs.UtcFields.{utc_known}
 use Rattle.timestamp.proofs.Local.in_utc.Goals as goal
 
 pub utc_minutes-requires : goal.utc_minutes-requires
@@ -13,9 +13,6 @@ utc_minutes-requires c =
     let k = known c.args.self.t c.args.self.keeps z c.in-Some.is in
     let kept : to_z w32 (of_z w32 z) ≡ z = search rules in
     rw kept (k.1, k.2, k.3)
-
-pub returns-in-None : goal.returns-in-None
-returns-in-None c = utc_unknown c.args.self.t c.in-None.is
 
 pub returns-in-Some : goal.returns-in-Some
 returns-in-Some c =

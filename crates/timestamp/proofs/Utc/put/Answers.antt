@@ -5,7 +5,7 @@ use Rattle.ion.specs.Value.{timestamp_code}
 use Rattle.encoding.specs.Headers.{type_byte}
 use Rattle.buffer.proofs.Laid.{placed_full, no_room, room}
 use Rattle.timestamp.specs.Small.{body_of, value_of}
-use Rattle.timestamp.proofs.Values.{value-size, value_fits, no_header, bytes_room, no_bytes, framed_put}
+use Rattle.timestamp.proofs.Values.{value_length, value_fits, no_header, bytes_room, no_bytes, framed_put}
 use Rattle.timestamp.proofs.Utc.put.Goals as goal
 
 pub overflow_add-size : goal.overflow_add-size
@@ -15,7 +15,7 @@ pub returns-then-not-has_room : goal.returns-then-not-has_room
 returns-then-not-has_room c =
     let a = c.args in
     let short = no_room _ a.buf.now _ c.has_room.ensures c.if-not-has_room.true in
-    let e = value-size a.self.t a.self.small _ c.body_size-body.ensures _ c.encoded_size_of.ensures in
+    let e = value_length a.self.t a.self.small _ c.body_size-body.ensures _ c.encoded_size_of.ensures in
     sym (placed_full a.buf.now a.at (value_of a.self.t) (rw e at short))
 
 pub returns-in_err-header : goal.returns-in_err-header

@@ -1,7 +1,7 @@
 -- `Utc::put_fields` meets its contract: each field is put behind those before it, for all of which there is room.
 -- Assumes nothing.
 use Rattle.std.proofs.Common.{◌≡◌, ◌-◌, ◌<◌, [], arith}
-use Rattle.timestamp.proofs.Fields.{at_most_five, year_put, put_room, no_year, no_next, next_put, all_put}
+use Rattle.timestamp.proofs.Fields.{at_most_five, year_put, put_room, no_year, no_next, next_put}
 use Rattle.timestamp.proofs.Utc.put_fields.Goals as goal
 use Rattle.timestamp.proofs.Utc.put_fields.Goals.{else-loop-i-test, then-loop-i-test+then-i-count}
 
@@ -62,15 +62,3 @@ overflow_add-result c =
       | else-loop-i-test w ↦ omega (arith, five, room, l.invariant.within, w.loop-i-test.false)
       | then-loop-i-test+then-i-count w ↦ omega (arith, five, room, w.if-i-count.true)
     ]
-
-pub returns : goal.returns
-returns c =
-    let a = c.args in
-    let l = c.loop-i in
-    let five = at_most_five a.buf.now a.at a.self.t _ c.field_count.ensures in
-    let all : l.i ≡ c.field_count.result - 1 =
-    elim c.loop-i-test.branch [
-      | else-loop-i-test w ↦ omega (arith, five, l.invariant.within, w.loop-i-test.false)
-      | then-loop-i-test+then-i-count w ↦ w.if-i-count.true
-    ] in
-    all_put a.buf.now a.at a.self.t _ c.field_count.ensures l.i _ _ l.buf all (omega (arith, all)) l.invariant.put

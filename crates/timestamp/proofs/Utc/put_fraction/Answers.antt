@@ -12,7 +12,7 @@ pub returns-in_err-one-in-Some : goal.returns-in_err-one-in-Some
 returns-in_err-one-in-Some c =
     let a = c.args in
     let x = c.in-Some.fraction in
-    absurd (no_exponent a.buf.now a.at x.digits x.coefficient (rw c.in-Some.is at a.self.small.2) (rw c.in-Some.is at c.requires) _ c.in_err-one-in-Some.ensures)
+    absurd (no_exponent a.buf.now a.at x.digits x.coefficient (rw c.in-Some.is at a.self.small.2) (rw c.in-Some.is at c.requires) _ (rw c.from.ensures at c.in_err-one-in-Some.ensures))
 
 pub overflow_add-at : goal.overflow_add-at
 overflow_add-at c =
@@ -20,14 +20,14 @@ overflow_add-at c =
     let x = c.in-Some.fraction in
     omega (
       arith,
-      coefficient_room a.buf.now a.at x.digits x.coefficient (rw c.in-Some.is at a.self.small.2) (rw c.in-Some.is at c.requires) _ _ c.in_ok-one-in-Some.ensures,
+      coefficient_room a.buf.now a.at x.digits x.coefficient (rw c.in-Some.is at a.self.small.2) (rw c.in-Some.is at c.requires) _ _ (rw c.from.ensures at c.in_ok-one-in-Some.ensures),
     )
 
 pub returns-in_err-more-in-Some : goal.returns-in_err-more-in-Some
 returns-in_err-more-in-Some c =
     let a = c.args in
     let x = c.in-Some.fraction in
-    absurd (no_coefficient a.buf.now a.at x.digits x.coefficient (rw c.in-Some.is at a.self.small.2) (rw c.in-Some.is at c.requires) _ _ c.in_ok-one-in-Some.ensures
+    absurd (no_coefficient a.buf.now a.at x.digits x.coefficient (rw c.in-Some.is at a.self.small.2) (rw c.in-Some.is at c.requires) _ _ (rw c.from.ensures at c.in_ok-one-in-Some.ensures)
     _ c.in_err-more-in-Some.ensures)
 
 pub overflow_add-result : goal.overflow_add-result
@@ -35,7 +35,7 @@ overflow_add-result c =
     let a = c.args in
     let x = c.in-Some.fraction in
     let put =
-    fraction_put a.buf.now a.at x.digits x.coefficient (rw c.in-Some.is at a.self.small.2) (rw c.in-Some.is at c.requires) _ _ c.in_ok-one-in-Some.ensures
+    fraction_put a.buf.now a.at x.digits x.coefficient (rw c.in-Some.is at a.self.small.2) (rw c.in-Some.is at c.requires) _ _ (rw c.from.ensures at c.in_ok-one-in-Some.ensures)
     _ _ c.in_ok-more-in-Some.ensures in
     omega (arith, put.1)
 
@@ -44,4 +44,4 @@ returns-in_ok-more-in-Some c =
     let a = c.args in
     let x = c.in-Some.fraction in
     rw c.in-Some.is (fraction_put a.buf.now a.at x.digits x.coefficient (rw c.in-Some.is at a.self.small.2) (rw c.in-Some.is at c.requires) _ _
-    c.in_ok-one-in-Some.ensures _ _ c.in_ok-more-in-Some.ensures).0
+    (rw c.from.ensures at c.in_ok-one-in-Some.ensures) _ _ c.in_ok-more-in-Some.ensures).0
