@@ -142,53 +142,63 @@ module _ (b : List ℕ) (at : ℕ) (s : List ℕ) (all : at + length (var_uints_
         let k = placed_then_none b at (sid_bytes s i) n l e (var_uint_bytes (sid_at s i)) l' (f ∙ ap (λ (x : ℕ). placed l (at + n) (var_uint_bytes x)) q) in
         omega (arith, sids_room (suc i) (omega arith), length-sid_bytes_more s i)
 
--- ---- the sids one after the other
+-- ---- the sids one after the other, in chunks of their bytes
 
--- n of them are read, and `rest` is left
-pub record Read (s rest : List ℕ) (n : ℕ) : Type 0 where
+-- n of them are read, and `rest` is left, to be cut in chunks of `size`
+pub record Read (s rest : List ℕ) (size n : ℕ) : Type 0 where
   pub left : rest ≡ drop (8 * n) s
+  pub eight : size ≡ 8
   pub count : n ≤ sid_count s
 
-pub read_none : (s : List ℕ) → Read s s 0
-read_none s = record { left = refl; count = omega arith }
+pub read_none : (s : List ℕ) (size : ℕ) → size ≡ 8 → Read s s size 0
+read_none s size e = record { left = refl; eight = e; count = omega arith }
 
-pub read_all : {s rest : List ℕ} {n : ℕ} → Read s rest n → length rest ≡ 0 → n ≡ sid_count s
-read_all {s} {rest} {n} r e = let l = r.count in omega (arith, e, ap length r.left, length-drop (8 * n) s)
+pub read_all : {s rest : List ℕ} {size n : ℕ} → Read s rest size n → length rest ≡ 0 → n ≡ sid_count s
+read_all {s} {rest} {size} {n} r e = let l = r.count in omega (arith, e, ap length r.left, length-drop (8 * n) s)
 
-module _ (s rest x rest' : List ℕ) (n : ℕ) (r : Read s rest n) (e : rest ≡ x ++ rest') (f : length x ≡ min 8 (length rest)) (h : 0 < length rest) where
+-- the next chunk x, and rest' behind it
+pub record Step (s x rest' : List ℕ) (size' n : ℕ) : Type 0 where
+  pub within : n < sid_count s
+  pub sid : least_first x 0 8 ≡ sid_at s n
+  pub next : Read s rest' size' (n + 1)
+
+module _ {s rest : List ℕ} {size n : ℕ} (r : Read s rest size n) (x rest' : List ℕ) (size' : ℕ)
+    (t : (size' ≡ size) × ((rest ≡ x ++ rest') × (length x ≡ min size (length rest)) × (0 < length rest))) where
   rest_length : length rest ≡ length s - 8 * n
   rest_length = ap length r.left ∙ length-drop (8 * n) s
 
-  pub read_within : n < sid_count s
-  read_within = omega (arith, rest_length)
+  parts : length rest ≡ length x + length rest'
+  parts = ap length t.1.0 ∙ length-append x rest'
 
-  -- a chunk is the rest's first eight bytes, or all of it
+  -- it is the first eight bytes, or all
   chunk : (length x ≡ 8) ⊎ (rest' ≡ [])
   chunk =
-      let k : length x ≤ 8 = omega arith in
-      ⊎_elim inl (λ l. inr (nil_from_length rest' (omega (arith, ap length e, length-append x rest')))) (eq-or-lt_of_le k)
+      let k : length x ≤ 8 = omega (arith, r.eight) in
+      ⊎_elim inl (λ l. inr (nil_from_length rest' (omega (arith, parts, r.eight)))) (eq-or-lt_of_le k)
 
   chunk_first : least_first x 0 8 ≡ least_first rest 0 8
   chunk_first = ⊎_elim
       (λ q. ap (λ (l : List ℕ). least_first l 0 8) (sym (take_at x rest' 8 q))
-      ∙ (least_first_take (x ++ rest') 8 0 8 (omega arith) ∙ ap (λ (l : List ℕ). least_first l 0 8) (sym e)))
-      (λ q. ap (λ (l : List ℕ). least_first l 0 8) (sym (e ∙ (ap (λ (l : List ℕ). x ++ l) q ∙ append-nil x))))
+      ∙ (least_first_take (x ++ rest') 8 0 8 (omega arith) ∙ ap (λ (l : List ℕ). least_first l 0 8) (sym t.1.0)))
+      (λ q. ap (λ (l : List ℕ). least_first l 0 8) (sym (t.1.0 ∙ (ap (λ (l : List ℕ). x ++ l) q ∙ append-nil x))))
       chunk
 
-  pub read_sid : least_first x 0 8 ≡ sid_at s n
+  chunk_sid : least_first x 0 8 ≡ sid_at s n
   unfolding sid_at
-  read_sid = chunk_first ∙ rw (r.left, least_first_drop s (8 * n) 0 8, add-zero) refl
+  chunk_sid = chunk_first ∙ rw (r.left, least_first_drop s (8 * n) 0 8, add-zero) refl
 
   next_left : rest' ≡ drop (8 * (n + 1)) s
   next_left =
       let m : 8 * n + 8 ≡ 8 * (n + 1) = omega arith in
       ⊎_elim
-      (λ q. sym (drop_at x rest' 8 q) ∙ (ap (drop 8) (sym e ∙ r.left) ∙ (drop-drop 8 (8 * n) s ∙ ap (λ (k : ℕ). drop k s) m)))
-      (λ q. q ∙ sym (drop_of_length-le s {i = 8 * (n + 1)} (omega (arith, rest_length, ap length e, length-append x rest', ap length q))))
+      (λ q. sym (drop_at x rest' 8 q) ∙ (ap (drop 8) (sym t.1.0 ∙ r.left) ∙ (drop-drop 8 (8 * n) s ∙ ap (λ (k : ℕ). drop k s) m)))
+      (λ q. q ∙ sym (drop_of_length-le s {i = 8 * (n + 1)} (omega (arith, rest_length, parts, ap length q, r.eight))))
       chunk
 
-  pub read_next : Read s rest' (n + 1)
-  read_next = let w = read_within in record { left = next_left; count = omega arith }
+  pub read_step : Step s x rest' size' n
+  read_step =
+      let w : n < sid_count s = omega (arith, rest_length) in
+      record { within = w; sid = chunk_sid; next = record { left = next_left; eight = t.0 ∙ r.eight; count = omega arith } }
 
 -- ten bytes a sid at most
 pub sid_bytes-most : (b : List ℕ) → ((i : ℕ) → get_or b i 0 < 256) → (n : ℕ) → length (sid_bytes b n) ≤ 10 * n

@@ -7,4 +7,4 @@ use Rattle.annotations.proofs.sids_size.Given as goal
 
 abbrev pub invariant-loop-bytes : goal.invariant-loop-bytes
 invariant-loop-bytes l =
-    (n : ℕ) × Read l.annotations l.bytes-iterator.rest.now n × (l.bytes-iterator.size ≡ 8) × (l.sum ≡ length (sid_bytes l.annotations n))
+    (n : ℕ) × Read l.annotations l.bytes-iterator.rest.now l.bytes-iterator.size n × (l.sum ≡ length (sid_bytes l.annotations n))

@@ -7,55 +7,49 @@ use mathlib.Core.Path.{◌≡◌, sym, ◌∙◌, ap}
 use Rattle.buffer.specs.Laid.{placed}
 use Rattle.buffer.proofs.Laid.{placed_nil}
 use Rattle.annotations.specs.Sids.{sid_count, sids_of}
-use Rattle.annotations.proofs.Sids.{Read, read_none, read_sid, read_within, read_next, read_all, sid_bytes, sid_bytes-none, sid_bytes_all, sids_end, sids_next, sids_put}
+use Rattle.annotations.proofs.Sids.{read_none, read_step, read_all, sid_bytes, sid_bytes-none, sid_bytes_all, sids_end, sids_next, sids_put}
 use Rattle.annotations.proofs.Measured.put_sids.Goals as goal
 
 pub loop-bytes-init : goal.loop-bytes-init
 loop-bytes-init c = let a = c.args in
     let s = a.self.annotations.now in
     rw (c.into_iter-bytes-iterator.ensures.into_iter_gives, c.chunks-bytes-items.ensures.rest)
-    (0, read_none s, c.chunks-bytes-items.ensures.size, rw (sid_bytes-none s) (sym (placed_nil a.buf.now a.at (omega arith))))
+    (0, read_none s _ c.chunks-bytes-items.ensures.size, rw (sid_bytes-none s) (sym (placed_nil a.buf.now a.at (omega arith))))
 
 pub overflow_add-at : goal.overflow_add-at
 overflow_add-at c = let a = c.args in
     let l = c.loop-bytes in
-    omega (arith, sids_end a.buf.now a.at a.self.annotations.now (omega (arith, a.self.sum_is)) l.invariant.0 l.written l.buf l.invariant.3)
+    omega (arith, sids_end a.buf.now a.at a.self.annotations.now (omega (arith, a.self.sum_is)) l.invariant.0 l.written l.buf l.invariant.2)
 
 pub returns-in_err-written : goal.returns-in_err-written
 returns-in_err-written c = let a = c.args in
-    let s = a.self.annotations.now in
     let l = c.loop-bytes in
-    let q = c.in-Some.ensures.steps.1 in
-    let m = rw l.invariant.2 at q.1 in
-    let v = c.sid.ensures ∙ read_sid s _ _ _ l.invariant.0 l.invariant.1 q.0 m q.2 in
-    absurd (sids_put a.buf.now a.at s (omega (arith, a.self.sum_is)) l.invariant.0 l.written l.buf l.invariant.3
-    (read_within s _ _ _ l.invariant.0 l.invariant.1 q.0 m q.2) _ _ v c.in_err-written.ensures)
+    let t = read_step l.invariant.1 _ _ _ c.in-Some.ensures.steps in
+    absurd (sids_put a.buf.now a.at a.self.annotations.now (omega (arith, a.self.sum_is)) l.invariant.0 l.written l.buf l.invariant.2
+    t.within _ _ (c.sid.ensures ∙ t.sid) c.in_err-written.ensures)
 
 pub overflow_add-written : goal.overflow_add-written
 overflow_add-written c = let a = c.args in
     let s = a.self.annotations.now in
     let l = c.loop-bytes in
-    let q = c.in-Some.ensures.steps.1 in
-    let m = rw l.invariant.2 at q.1 in
-    let v = c.sid.ensures ∙ read_sid s _ _ _ l.invariant.0 l.invariant.1 q.0 m q.2 in
+    let t = read_step l.invariant.1 _ _ _ c.in-Some.ensures.steps in
     let all : a.at + length (var_uints_bytes (sids_of s)) ≤ length a.buf.now = omega (arith, a.self.sum_is) in
-    omega (arith, sids_end a.buf.now a.at s all (l.invariant.0 + 1) _ _ (sids_next a.buf.now a.at s all l.invariant.0 l.written l.buf l.invariant.3 _ _ _ v c.in_ok-written.ensures))
+    let next = sids_next a.buf.now a.at s all l.invariant.0 l.written l.buf l.invariant.2 _ _ _ (c.sid.ensures ∙ t.sid) c.in_ok-written.ensures in
+    omega (arith, sids_end a.buf.now a.at s all (l.invariant.0 + 1) _ _ next)
 
 pub loop-bytes-preserved : goal.loop-bytes-preserved
 loop-bytes-preserved c = let a = c.args in
     let s = a.self.annotations.now in
     let l = c.loop-bytes in
-    let q = c.in-Some.ensures.steps.1 in
-    let m = rw l.invariant.2 at q.1 in
-    let v = c.sid.ensures ∙ read_sid s _ _ _ l.invariant.0 l.invariant.1 q.0 m q.2 in (
+    let t = read_step l.invariant.1 _ _ _ c.in-Some.ensures.steps in (
       l.invariant.0 + 1,
-      read_next s _ _ _ l.invariant.0 l.invariant.1 q.0 m q.2,
-      c.in-Some.ensures.steps.0 ∙ l.invariant.2,
-      sids_next a.buf.now a.at s (omega (arith, a.self.sum_is)) l.invariant.0 l.written l.buf l.invariant.3 _ _ _ v c.in_ok-written.ensures,
+      t.next,
+      sids_next a.buf.now a.at s (omega (arith, a.self.sum_is)) l.invariant.0 l.written l.buf l.invariant.2 _ _ _ (c.sid.ensures ∙ t.sid) c.in_ok-written.ensures,
     )
 
 pub returns : goal.returns
-returns c = let s = c.args.self.annotations.now in
+returns c = let a = c.args in
+    let s = a.self.annotations.now in
     let l = c.loop-bytes in
     let e : l.invariant.0 ≡ sid_count s = read_all l.invariant.1 c.in-None.ensures.steps.1.0 in
-    l.invariant.3 ∙ rw (sid_bytes_all s) (ap (λ (n : ℕ). placed c.args.buf.now c.args.at (sid_bytes s n)) e)
+    l.invariant.2 ∙ rw (sid_bytes_all s) (ap (λ (n : ℕ). placed a.buf.now a.at (sid_bytes s n)) e)

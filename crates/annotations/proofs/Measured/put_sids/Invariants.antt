@@ -10,5 +10,5 @@ use Rattle.annotations.proofs.Measured.put_sids.Given as goal
 abbrev pub invariant-loop-bytes : goal.invariant-loop-bytes
 invariant-loop-bytes l =
     let s = l.self.annotations.now in
-    (n : ℕ) × Read s l.bytes-iterator.rest.now n × (l.bytes-iterator.size ≡ 8)
+    (n : ℕ) × Read s l.bytes-iterator.rest.now l.bytes-iterator.size n
     × (◌≡◌ {A = Option ℕ × List ℕ} (Some l.written, l.buf) (placed l.initial.buf l.at (sid_bytes s n)))
