@@ -96,6 +96,7 @@ impl<'a> Measured<'a> {
 }
 
 // The annotations: the sum of the sids' lengths as a VarUInt, then the sids.
+#[tactic(auto, using(crate::proofs::Prefix::place_tested))]
 pub fn write(buf: &mut [u8], at: usize, annotations: &[u8]) -> Option<usize>
     ensures { ◌≡◌ {A = Option ℕ × List ℕ} (result, buf.new) (placed buf.old at (annotation_bytes (sids_of annotations.now))) }
 {
@@ -107,6 +108,7 @@ pub fn write(buf: &mut [u8], at: usize, annotations: &[u8]) -> Option<usize>
 }
 
 // The same, where `inner` bytes fit behind them.
+#[tactic(auto, using(crate::proofs::Prefix::place_tested))]
 pub fn write_before(buf: &mut [u8], at: usize, annotations: &[u8], inner: usize) -> Option<usize>
     ensures { ◌≡◌ {A = Option ℕ × List ℕ} (result, buf.new)
         (placed_before buf.old at (annotation_bytes (sids_of annotations.now)) inner) }
@@ -123,6 +125,7 @@ pub fn write_before(buf: &mut [u8], at: usize, annotations: &[u8], inner: usize)
 }
 
 // The wrapper's header and the annotations, before a value of `inner` bytes. Nothing is put where the value would not fit behind them.
+#[tactic(auto, using(crate::proofs::Prefix::place_tested))]
 pub fn write_prefix(buf: &mut [u8], at: usize, annotations: &[u8], inner: usize) -> Option<usize>
     ensures { ◌≡◌ {A = Option ℕ × List ℕ} (result, buf.new)
         (placed_before buf.old at (prefix_bytes (sids_of annotations.now) inner) inner) }
