@@ -10,9 +10,5 @@ use Rattle.var_uint.proofs.encoded_size_of.Goals as goal
 pub returns-then-value-lt-TWO_BYTES : goal.returns-then-value-lt-TWO_BYTES
 returns-then-value-lt-TWO_BYTES c = let a = c.args in sym (var_uint-size-small a.value (omega arith))
 
-pub overflow_sub-result : goal.overflow_sub-result
-overflow_sub-result c = let a = c.args in
-    omega (arith, bits_used_pos a.value (omega arith) (search rules))
-
 pub returns : goal.returns
 returns c = let a = c.args in omega (arith, var_uint-size a.value (search rules) (omega arith))
