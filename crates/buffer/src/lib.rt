@@ -15,6 +15,7 @@ pub fn has_room(room: usize, at: usize, count: usize) -> bool
 }
 
 // One byte at `at`.
+#[tactic(auto, using(crate::proofs::Laid::laid_or_full))]
 pub fn put(buf: &mut [u8], at: usize, byte: u8) -> Option<usize>
     ensures { ◌≡◌ {A = Option ℕ × List ℕ} (result, buf.new) (placed buf.old at (byte ∷ [])) }
 {
@@ -26,6 +27,7 @@ pub fn put(buf: &mut [u8], at: usize, byte: u8) -> Option<usize>
 }
 
 // The bytes of `src`, from `at` on.
+#[tactic(auto, using(crate::proofs::Laid::laid_or_full))]
 pub fn copy(buf: &mut [u8], at: usize, src: &[u8]) -> Option<usize>
     ensures { ◌≡◌ {A = Option ℕ × List ℕ} (result, buf.new) (placed buf.old at src.now) }
 {
