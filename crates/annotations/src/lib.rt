@@ -95,6 +95,8 @@ impl<'a> Measured<'a> {
     }
 }
 
+// Three functions put annotations. They differ in what stands before these and what has to fit behind, each of which is a definition of its own.
+
 // The annotations: the sum of the sids' lengths as a VarUInt, then the sids.
 #[tactic(auto, using(crate::proofs::Prefix::place_tested))]
 pub fn write(buf: &mut [u8], at: usize, annotations: &[u8]) -> Option<usize>

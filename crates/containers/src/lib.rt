@@ -52,7 +52,7 @@ fn put_header(buf: &mut [u8], at: usize, code: u8, body: usize)
     header::write(buf, at, code, body);
 }
 
-// A container that fits and ends at `used`.
+// A container that fits and ends at `used`. That this lies in the buffer is asked by each method, since the buffer is lent to it and no field.
 #[derive(Clone, Copy)]
 struct Ending {
     c: machine::Container,
