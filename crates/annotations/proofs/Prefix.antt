@@ -13,6 +13,7 @@ use Rattle.ion.proofs.Tests.{by_cases}
 use Rattle.ion.specs.Value.{annotation_code}
 use Rattle.encoding.specs.Headers.{type_byte, header_bytes, framed_bytes, annotation_bytes, annotated_bytes}
 use Rattle.buffer.specs.Laid.{placed}
+use Rattle.encoding.proofs.Headers.{length_header, header_most}
 use Rattle.buffer.proofs.Laid.{placed-fits, placed_full, placed-length, placed-room, placed-some, placed_then}
 use Rattle.annotations.specs.Prefix.{prefix_bytes, placed_before}
 
@@ -36,6 +37,9 @@ module _ (b : List ℕ) (at : ℕ) (out : List ℕ) (n : ℕ) where
   pub placed_before_full : length b < at + length out + n → placed_before b at out n ≡ (None, b)
   unfolding placed_before
   placed_before_full h = rw (placed_before, lt-leb (at + length out + n) (length b) h) refl
+
+-- what a test of the room tells of what is put before n bytes
+pub ruleset place_tested = (placed_before_full, placed_before-fits, placed_full, leb-false, leb-true, length_prefix, length_header, header_most)
 
 -- What a call that puts a prefix before n bytes left: it and the bytes fit, and it is put; or they don't, and nothing alters.
 pub before-some : (b : List ℕ) (at : ℕ) (out : List ℕ) (n k : ℕ) (l : List ℕ) → ◌≡◌ {A = Option ℕ × List ℕ} (Some k, l) (placed_before b at out n)

@@ -1,14 +1,15 @@
 -- The laws of lent sids: each fits a u64, a sid more is its bytes more, and the size of them all has a bound.
 -- By recursion on the number of sids. Assumes nothing.
 use mathlib.Core.Path.{◌≡◌, refl, sym, ◌∙◌, ap}
-use mathlib.Core.List.{List, [], ◌∷◌, ◌++◌}
-use Prim.Native.Nat.{ℕ, zero, suc, ◌+◌, ◌-◌, ◌*◌, ◌^◌, ◌≤◌, ◌<◌}
+use mathlib.Core.List.{List, [], ◌∷◌, ◌++◌, append-nil}
+use Prim.Native.Nat.{ℕ, zero, suc, min, ◌+◌, ◌-◌, ◌*◌, ◌^◌, ◌≤◌, ◌<◌}
 use native.Mathlib.Omega.{arith}
 use native.Mathlib.Numerals.{add-one}
 use native.Mathlib.Nat.{add-zero, one-le-pow, pow-suc, eq-or-lt_of_le}
-use mathlib.Core.Logic.{⊎_elim}
-use lib.ListN.{length, take, drop, get_or, get_or-eq_default, length-append, length-drop}
-use lib.Seq.{get_or-drop, get_or-take, take_all}
+use mathlib.Core.Logic.{◌⊎◌, inl, inr, ⊎_elim}
+use lib.ListN.{length, take, drop, get_or, get_or-eq_default, length-append, length-drop, drop_of_length-le}
+use lib.Seq.{get_or-drop, get_or-take, take_at, drop_at, drop-drop}
+use Rattle.std.proofs.lemmas.List.{nil_from_length}
 use Rattle.buffer.specs.Laid.{placed}
 use Rattle.std.specs.Prelude.{Option, Some, None}
 use Rattle.buffer.proofs.Laid.{placed-some, placed_then, placed_then_none}
@@ -66,16 +67,13 @@ unfolding least_first
 least_first_take b n at zero h = refl
 least_first_take b n at (suc k) h = rw (get_or-take n b at 0 (omega arith), least_first_take b n (at + 1) k (omega arith)) refl
 
-pub least_first_part : (b : List ℕ) (at k : ℕ) → least_first (take (length b - at) (drop at b)) 0 k ≡ least_first b at k
-least_first_part b at k = rw (take_all (length b - at) (drop at b) (omega (arith, length-drop at b)), least_first_drop b at 0 k, add-zero) refl
-
--- the first eight bytes of a part, as one sum
-pub least_first_chunk : (b bytes : List ℕ) (at n : ℕ) → bytes ≡ take 8 (take (length b - at) (drop at b))
+-- the first eight bytes, as one sum
+pub least_first_whole : (b bytes : List ℕ) (n : ℕ) → bytes ≡ take 8 b
     → n ≡ get_or bytes 0 0 + get_or bytes 1 0 * 256 + get_or bytes 2 0 * 65536 + get_or bytes 3 0 * 16777216 + get_or bytes 4 0 * 4294967296
-    + get_or bytes 5 0 * 1099511627776 + get_or bytes 6 0 * 281474976710656 + get_or bytes 7 0 * 72057594037927936 → n ≡ least_first b at 8
-least_first_chunk b bytes at n e f =
+    + get_or bytes 5 0 * 1099511627776 + get_or bytes 6 0 * 281474976710656 + get_or bytes 7 0 * 72057594037927936 → n ≡ least_first b 0 8
+least_first_whole b bytes n e f =
     let sum : n ≡ least_first bytes 0 8 = omega (arith, least_first_eight bytes 0) in
-    sum ∙ rw (e, least_first_take (take (length b - at) (drop at b)) 8 0 8 (omega arith)) (least_first_part b at 8)
+    sum ∙ rw e (least_first_take b 8 0 8 (omega arith))
 
 -- ---- sids are numbers of 64 bits
 
@@ -143,6 +141,64 @@ module _ (b : List ℕ) (at : ℕ) (s : List ℕ) (all : at + length (var_uints_
     sids_put h v l' q f =
         let k = placed_then_none b at (sid_bytes s i) n l e (var_uint_bytes (sid_at s i)) l' (f ∙ ap (λ (x : ℕ). placed l (at + n) (var_uint_bytes x)) q) in
         omega (arith, sids_room (suc i) (omega arith), length-sid_bytes_more s i)
+
+-- ---- the sids one after the other, in chunks of their bytes
+
+-- n of them are read, and `rest` is left, to be cut in chunks of `size`
+pub record Read (s rest : List ℕ) (size n : ℕ) : Type 0 where
+  pub left : rest ≡ drop (8 * n) s
+  pub eight : size ≡ 8
+  pub count : n ≤ sid_count s
+
+pub read_none : (s : List ℕ) (size : ℕ) → size ≡ 8 → Read s s size 0
+read_none s size e = record { left = refl; eight = e; count = omega arith }
+
+pub read_all : {s rest : List ℕ} {size n : ℕ} → Read s rest size n → length rest ≡ 0 → n ≡ sid_count s
+read_all {s} {rest} {size} {n} r e = let l = r.count in omega (arith, e, ap length r.left, length-drop (8 * n) s)
+
+-- the next chunk x, and rest' behind it
+pub record Step (s x rest' : List ℕ) (size' n : ℕ) : Type 0 where
+  pub within : n < sid_count s
+  pub sid : least_first x 0 8 ≡ sid_at s n
+  pub next : Read s rest' size' (n + 1)
+
+module _ {s rest : List ℕ} {size n : ℕ} (r : Read s rest size n) (x rest' : List ℕ) (size' : ℕ)
+    (t : (size' ≡ size) × ((rest ≡ x ++ rest') × (length x ≡ min size (length rest)) × (0 < length rest))) where
+  rest_length : length rest ≡ length s - 8 * n
+  rest_length = ap length r.left ∙ length-drop (8 * n) s
+
+  parts : length rest ≡ length x + length rest'
+  parts = ap length t.1.0 ∙ length-append x rest'
+
+  -- it is the first eight bytes, or all
+  chunk : (length x ≡ 8) ⊎ (rest' ≡ [])
+  chunk =
+      let k : length x ≤ 8 = omega (arith, r.eight) in
+      ⊎_elim inl (λ l. inr (nil_from_length rest' (omega (arith, parts, r.eight)))) (eq-or-lt_of_le k)
+
+  chunk_first : least_first x 0 8 ≡ least_first rest 0 8
+  chunk_first = ⊎_elim
+      (λ q. ap (λ (l : List ℕ). least_first l 0 8) (sym (take_at x rest' 8 q))
+      ∙ (least_first_take (x ++ rest') 8 0 8 (omega arith) ∙ ap (λ (l : List ℕ). least_first l 0 8) (sym t.1.0)))
+      (λ q. ap (λ (l : List ℕ). least_first l 0 8) (sym (t.1.0 ∙ (ap (λ (l : List ℕ). x ++ l) q ∙ append-nil x))))
+      chunk
+
+  chunk_sid : least_first x 0 8 ≡ sid_at s n
+  unfolding sid_at
+  chunk_sid = chunk_first ∙ rw (r.left, least_first_drop s (8 * n) 0 8, add-zero) refl
+
+  next_left : rest' ≡ drop (8 * (n + 1)) s
+  next_left =
+      let m : 8 * n + 8 ≡ 8 * (n + 1) = omega arith in
+      ⊎_elim
+      (λ q. sym (drop_at x rest' 8 q) ∙ (ap (drop 8) (sym t.1.0 ∙ r.left) ∙ (drop-drop 8 (8 * n) s ∙ ap (λ (k : ℕ). drop k s) m)))
+      (λ q. q ∙ sym (drop_of_length-le s {i = 8 * (n + 1)} (omega (arith, rest_length, parts, ap length q, r.eight))))
+      chunk
+
+  pub read_step : Step s x rest' size' n
+  read_step =
+      let w : n < sid_count s = omega (arith, rest_length) in
+      record { within = w; sid = chunk_sid; next = record { left = next_left; eight = t.0 ∙ r.eight; count = omega arith } }
 
 -- ten bytes a sid at most
 pub sid_bytes-most : (b : List ℕ) → ((i : ℕ) → get_or b i 0 < 256) → (n : ℕ) → length (sid_bytes b n) ≤ 10 * n

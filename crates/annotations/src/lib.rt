@@ -1,23 +1,17 @@
 // Annotations, lent as bytes: eight bytes a sid, least significant first, the missing bytes of the last sid zero.
 #![tactic(auto)]
 
-ghost use Rattle.std.specs.Prelude.{◌≡◌, List, ℕ, Option, ◌+◌, ◌*◌, ◌^◌, ◌<◌, ◌≤◌, length, get_or};
+ghost use Rattle.std.specs.Prelude.{◌≡◌, List, ℕ, Option, ◌+◌, ◌*◌, ◌^◌, ◌<◌, ◌≤◌, length};
 ghost use Rattle.encoding.specs.Fields.{var_uints_bytes};
 ghost use Rattle.encoding.specs.Headers.{annotation_bytes};
 ghost use Rattle.buffer.specs.Laid.{placed};
-ghost use Rattle.annotations.specs.Sids.{least_first, sid_at, sid_count, sids_of};
+ghost use Rattle.annotations.specs.Sids.{least_first, sids_of};
 ghost use Rattle.annotations.specs.Prefix.{prefix_bytes, placed_before};
 
 const SID_BYTES: usize = 8;
 
 // The type byte of an annotation wrapper.
 pub const WRAPPER: u8 = 0xE0;
-
-fn sid_count(annotations: &[u8]) -> usize
-    ensures { result ≡ sid_count annotations.now }
-{
-    (annotations.len() + 7) / SID_BYTES
-}
 
 // The sid of fewer than eight bytes. Out of line, which keeps its loop out of that over the sids.
 #[inline(never)]
@@ -26,21 +20,19 @@ fn short_sid(bytes: &[u8]) -> u64
     ensures { result ≡ least_first bytes.now 0 8 }
 {
     let mut sid = 0;
-    for k in (0..bytes.len()).rev() {
-        sid = u64::from(bytes[k]) + 256 * sid;
+    for byte in bytes.iter().rev() {
+        sid = u64::from(*byte) + 256 * sid;
     }
     sid
 }
 
-// The sid at index `i`. Of eight bytes the compiler makes one load.
-fn sid_at(annotations: &[u8], i: usize) -> u64
-    requires { i < sid_count annotations.now }
-    ensures { result ≡ sid_at annotations.now i }
+// The sid of up to eight bytes. Of eight the compiler makes one load.
+fn sid(bytes: &[u8]) -> u64
+    ensures { result ≡ least_first bytes.now 0 8 }
 {
-    let rest = &annotations[SID_BYTES * i..];
-    match rest.first_chunk() {
-        Some(bytes) => u64::from_le_bytes(*bytes),
-        None => short_sid(rest),
+    match bytes.first_chunk() {
+        Some(whole) => u64::from_le_bytes(*whole),
+        None => short_sid(bytes),
     }
 }
 
@@ -49,8 +41,8 @@ fn sids_size(annotations: &[u8]) -> usize
     ensures { (result ≡ length (var_uints_bytes (sids_of annotations.now))) × (result ≤ 10 * 2 ^ 60) }
 {
     let mut sum: usize = 0;
-    for i in 0..sid_count(annotations) {
-        sum += var_uint::encoded_size_of(sid_at(annotations, i));
+    for bytes in annotations.chunks(SID_BYTES) {
+        sum += var_uint::encoded_size_of(sid(bytes));
     }
     sum
 }
@@ -85,13 +77,14 @@ impl<'a> Measured<'a> {
         ensures { ◌≡◌ {A = Option ℕ × List ℕ} (result, buf.new) (placed buf.old at (var_uints_bytes (sids_of self.entry.annotations.now))) }
     {
         let mut written: usize = 0;
-        for i in 0..sid_count(self.annotations) {
-            written += var_uint::write(buf, at + written, sid_at(self.annotations, i))?;
+        for bytes in self.annotations.chunks(SID_BYTES) {
+            written += var_uint::write(buf, at + written, sid(bytes))?;
         }
         Some(written)
     }
 
-    // The sum, then the sids.
+    // The sum, then the sids. Inline: an opening calls it once, and takes 202 instructions so for 232.
+    #[inline(always)]
     fn put(self, buf: &mut [u8], at: usize) -> Option<usize>
         requires { at + self.whole ≤ length buf.old }
         ensures { ◌≡◌ {A = Option ℕ × List ℕ} (result, buf.new) (placed buf.old at (annotation_bytes (sids_of self.entry.annotations.now))) }
@@ -102,7 +95,10 @@ impl<'a> Measured<'a> {
     }
 }
 
+// Three functions put annotations. They differ in what stands before these and what has to fit behind, each of which is a definition of its own.
+
 // The annotations: the sum of the sids' lengths as a VarUInt, then the sids.
+#[tactic(auto, using(crate::proofs::Prefix::place_tested))]
 pub fn write(buf: &mut [u8], at: usize, annotations: &[u8]) -> Option<usize>
     ensures { ◌≡◌ {A = Option ℕ × List ℕ} (result, buf.new) (placed buf.old at (annotation_bytes (sids_of annotations.now))) }
 {
@@ -114,6 +110,7 @@ pub fn write(buf: &mut [u8], at: usize, annotations: &[u8]) -> Option<usize>
 }
 
 // The same, where `inner` bytes fit behind them.
+#[tactic(auto, using(crate::proofs::Prefix::place_tested))]
 pub fn write_before(buf: &mut [u8], at: usize, annotations: &[u8], inner: usize) -> Option<usize>
     ensures { ◌≡◌ {A = Option ℕ × List ℕ} (result, buf.new)
         (placed_before buf.old at (annotation_bytes (sids_of annotations.now)) inner) }
@@ -130,6 +127,7 @@ pub fn write_before(buf: &mut [u8], at: usize, annotations: &[u8], inner: usize)
 }
 
 // The wrapper's header and the annotations, before a value of `inner` bytes. Nothing is put where the value would not fit behind them.
+#[tactic(auto, using(crate::proofs::Prefix::place_tested))]
 pub fn write_prefix(buf: &mut [u8], at: usize, annotations: &[u8], inner: usize) -> Option<usize>
     ensures { ◌≡◌ {A = Option ℕ × List ℕ} (result, buf.new)
         (placed_before buf.old at (prefix_bytes (sids_of annotations.now) inner) inner) }

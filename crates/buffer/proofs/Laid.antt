@@ -241,3 +241,6 @@ module _ (r : Bool) (b : List ℕ) (end : ℕ) (e : r ≡ leb end (length b)) wh
 
   pub room : r ≡ true → end ≤ length b
   room t = leb-true end (length b) (sym e ∙ t)
+
+-- a run that is laid where there is room, and none where there is none
+pub ruleset laid_or_full = (placed_full, placed_one, placed_by, laid_nil, leb-false, leb-true)

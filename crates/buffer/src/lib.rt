@@ -1,4 +1,5 @@
 // Bytes laid into a lent buffer. Each function that puts bytes tests its room itself: it puts all of them and answers how many these are, or puts none.
+// Here and above, buffer and place are two parameters: the caller lends its buffer for each call, and a struct of both would be made and taken apart in each.
 #![tactic(auto)]
 
 ghost use Rattle.std.specs.Prelude.{◌≡◌, List, [], ◌∷◌, ℕ, Option, ◌+◌, leb};
@@ -15,6 +16,7 @@ pub fn has_room(room: usize, at: usize, count: usize) -> bool
 }
 
 // One byte at `at`.
+#[tactic(auto, using(crate::proofs::Laid::laid_or_full))]
 pub fn put(buf: &mut [u8], at: usize, byte: u8) -> Option<usize>
     ensures { ◌≡◌ {A = Option ℕ × List ℕ} (result, buf.new) (placed buf.old at (byte ∷ [])) }
 {
@@ -26,6 +28,7 @@ pub fn put(buf: &mut [u8], at: usize, byte: u8) -> Option<usize>
 }
 
 // The bytes of `src`, from `at` on.
+#[tactic(auto, using(crate::proofs::Laid::laid_or_full))]
 pub fn copy(buf: &mut [u8], at: usize, src: &[u8]) -> Option<usize>
     ensures { ◌≡◌ {A = Option ℕ × List ℕ} (result, buf.new) (placed buf.old at src.now) }
 {

@@ -52,7 +52,7 @@ fn put_header(buf: &mut [u8], at: usize, code: u8, body: usize)
     header::write(buf, at, code, body);
 }
 
-// A container that fits and ends at `used`.
+// A container that fits and ends at `used`. That this lies in the buffer is asked by each method, since the buffer is lent to it and no field.
 #[derive(Clone, Copy)]
 struct Ending {
     c: machine::Container,
@@ -62,6 +62,7 @@ struct Ending {
 
 impl Ending {
     // A container without annotations: its header in the short form, and its body behind it.
+    #[tactic(auto, using(machine::proofs::Fit::fit))]
     fn close_plain(self, buf: &mut [u8]) -> Option<Closing>
         requires { (self.c.header ≡ self.c.start) × (self.used ≤ length buf.old) }
         ensures { ◌≡◌ {A = Option Closing × List ℕ} (result, buf.new) (closed_on self.c self.used buf.old) }
@@ -82,6 +83,7 @@ impl Ending {
     // The wrapper's header, the annotations, the inner header and the body, each at its final place; `inner` and `wrapper` are the sizes of the headers.
     // Annotations and body move once each: how many of their bytes moved. The part that moves to the right makes way first: the body, unless the
     // wrapper's header has one byte.
+    #[tactic(auto, using(machine::proofs::Fit::fit))]
     fn lay_wrapped(self, buf: &mut [u8], inner: usize, wrapper: usize) -> usize
         requires apart { self.c.start + 2 ≤ self.c.header }
         requires held { self.used ≤ length buf.old }

@@ -19,6 +19,7 @@ pub fn encoded_size_of(body: usize) -> usize
 }
 
 // The header of `body` bytes. `code` has the type code in its high four bits; its low four do not count.
+#[tactic(auto, using(buffer::proofs::Laid::laid_or_full, encoding::proofs::Headers::length_header))]
 pub fn write(buf: &mut [u8], at: usize, code: u8, body: usize) -> Option<usize>
     ensures { ◌≡◌ {A = Option ℕ × List ℕ} (result, buf.new) (placed buf.old at (header_bytes (code / 16 * 16) body)) }
 {

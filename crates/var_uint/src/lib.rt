@@ -6,6 +6,7 @@ ghost use Rattle.encoding.specs.Fields.{var_uint_bytes};
 ghost use Rattle.buffer.specs.Laid.{placed};
 ghost use Rattle.var_uint.specs.Filled.{filled};
 
+// `var_int` has constants of these names too: its field's first byte holds six bits and a sign, so that but the end flag they have other values.
 const END_FLAG: u8 = 0x80;
 
 // The least number that takes more than one byte.
@@ -37,6 +38,7 @@ pub fn fill(buf: &mut [u8], at: usize, value: u64, limit: usize) -> Option<usize
     let count = size.min(limit);
     let mut flag = END_FLAG;
     let mut rest = value;
+    // By place: a proof knows nothing of the elements that `iter_mut` lends.
     for i in (size - count..size).rev() {
         buf[at + i] = flag + (rest % 128) as u8;
         flag = 0;

@@ -9,14 +9,6 @@ use Rattle.buffer.specs.Laid.{laid}
 use Rattle.buffer.proofs.Laid.{laid_nil, laid_snoc, no_room, placed_by, placed_full, room}
 use Rattle.buffer.proofs.copy.Goals as goal
 
-pub returns-then-not-has_room : goal.returns-then-not-has_room
-returns-then-not-has_room c = let a = c.args in
-    sym (placed_full a.buf.now a.at a.src.now (no_room _ a.buf.now _ c.has_room.ensures c.if-not-has_room.true))
-
-pub loop-i-init : goal.loop-i-init
-loop-i-init c = let a = c.args in
-    (room _ a.buf.now _ c.has_room.ensures c.if-not-has_room.false, sym (laid_nil a.buf.now a.at))
-
 pub loop-i-preserved : goal.loop-i-preserved
 loop-i-preserved c = let a = c.args in
     let l = c.loop-i in

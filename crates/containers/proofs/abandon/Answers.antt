@@ -17,9 +17,6 @@ in_order start used n e = let k = (and-eq-true_iff (leb start used) (leb used n)
 pub returns-then-not-start-used : goal.returns-then-not-start-used
 returns-then-not-start-used c = let a = c.args in sym (abandoned_on_not a.used a.start a.buf.now c.if-not-start-used.true)
 
-pub clear-requires : goal.clear-requires
-clear-requires c = let a = c.args in omega (arith, in_order a.start a.used (length a.buf.now) c.if-not-start-used.false)
-
 pub returns : goal.returns
 returns c = let a = c.args in
     let k = in_order a.start a.used (length a.buf.now) c.if-not-start-used.false in

@@ -49,36 +49,14 @@ returns-then-not-has_room c = let a = c.args in
     let h = no_room _ a.buf.now _ c.has_room.ensures c.if-not-has_room.true in
     sym (placed_full a.buf.now a.at (reserved A) (omega (arith, h, length-reserved A)))
 
-pub overflow_add-at : goal.overflow_add-at
-overflow_add-at c = let a = c.args in
-    omega (arith, room _ a.buf.now _ c.has_room.ensures c.if-not-has_room.false)
-
 pub returns-in_err-noted : goal.returns-in_err-noted
 returns-in_err-noted c = let a = c.args in
     let A = annotation_bytes (sids_of a.annotations.now) in
     let h = put-none a.buf.now a.at (sids_of a.annotations.now) c.write_before.new.buf c.in_err-noted.ensures in
     rw (c.from_residual.ensures, h.1) (sym (placed_full a.buf.now a.at (reserved A) (omega (arith, h.0, length-reserved A))))
 
-pub overflow_add-header : goal.overflow_add-header
-overflow_add-header c =
-    let a = c.args in
-    let h = put_some a.buf.now a.at (sids_of a.annotations.now) c.write_before.new.buf c.in_ok-noted.noted c.in_ok-noted.ensures in
-    omega (arith, h.0, h.1)
-
 pub overflow_add-header-2 : goal.overflow_add-header-2
 overflow_add-header-2 c =
-    let a = c.args in
-    let h = put_some a.buf.now a.at (sids_of a.annotations.now) c.write_before.new.buf c.in_ok-noted.noted c.in_ok-noted.ensures in
-    omega (arith, h.0, h.1)
-
-pub overflow_add-at-2 : goal.overflow_add-at-2
-overflow_add-at-2 c =
-    let a = c.args in
-    let h = put_some a.buf.now a.at (sids_of a.annotations.now) c.write_before.new.buf c.in_ok-noted.noted c.in_ok-noted.ensures in
-    omega (arith, h.0, h.1)
-
-pub clear-requires : goal.clear-requires
-clear-requires c =
     let a = c.args in
     let h = put_some a.buf.now a.at (sids_of a.annotations.now) c.write_before.new.buf c.in_ok-noted.noted c.in_ok-noted.ensures in
     omega (arith, h.0, h.1)

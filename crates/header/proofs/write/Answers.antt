@@ -26,11 +26,6 @@ pub returns-then-body-lt-LONG : goal.returns-then-body-lt-LONG
 returns-then-body-lt-LONG c = let a = c.args in
     c.put.ensures ∙ ap (placed a.buf.now a.at) (sym (header_short (a.code / 16 * 16) a.body (omega arith)))
 
-pub returns-then-not-has_room : goal.returns-then-not-has_room
-returns-then-not-has_room c = let a = c.args in
-    let h = no_room c.has_room.result a.buf.now _ c.has_room.ensures c.if-not-has_room.true in
-    sym (placed_full a.buf.now a.at (header_bytes (a.code / 16 * 16) a.body) (omega (arith, length_header (a.code / 16 * 16) a.body)))
-
 pub returns-in_err-one : goal.returns-in_err-one
 returns-in_err-one c = let a = c.args in
     let h = fits a.buf.now a.at a.body _ _ (omega arith) c.encoded_size_of-size.ensures c.has_room.ensures c.if-not-has_room.false in

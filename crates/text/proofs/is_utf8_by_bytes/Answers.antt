@@ -13,11 +13,6 @@ pub loop-b-init : goal.loop-b-init
 unfolding utf8
 loop-b-init c = rw c.tails-d.ensures refl
 
-pub loop-b-preserved : goal.loop-b-preserved
-loop-b-preserved c = let l = c.loop-b in
-    let s = c.args.s.now in
-    l.invariant ∙ (ap (utf8_from (due l.d)) (drop-next s l.b-index (omega arith)) ∙ sym (c.in-Some.ensures (drop (l.b-index + 1) s)))
-
 pub returns : goal.returns
 returns c = let l = c.loop-b in
     sym (l.invariant ∙ utf8_end l.d c.args.s.now l.b-index (omega arith))

@@ -76,20 +76,6 @@ returns-then-buf-end c =
     let k = plain v a.self.used _ a.buf.now a.self.fits (omega arith) (omega arith) (omega arith) c.encoded_size_of-size.ensures in
     sym (k.closed ∙ spliced_full a.self.used v.start (out_of v a.self.used a.buf.now) a.buf.now _ (omega (arith, k.whole)))
 
-pub move_bytes-moved-requires : goal.move_bytes-moved-requires
-move_bytes-moved-requires c =
-    let a = c.args in
-    let v = a.self.c in
-    let k = plain v a.self.used _ a.buf.now a.self.fits (omega arith) (omega arith) (omega arith) c.encoded_size_of-size.ensures in
-    (omega (arith, k.within), omega arith)
-
-pub put_header-requires : goal.put_header-requires
-put_header-requires c =
-    let a = c.args in
-    let v = a.self.c in
-    let k = plain v a.self.used _ a.buf.now a.self.fits (omega arith) (omega arith) (omega arith) c.encoded_size_of-size.ensures in
-    (k.high, omega (arith, k.within, c.encoded_size_of-size.ensures))
-
 pub returns : goal.returns
 returns c =
     let a = c.args in
