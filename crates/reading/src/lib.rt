@@ -1,8 +1,13 @@
 // What a reader answers, by value. What it answers when is defined in specs/; a refusal's number is the one thing that is computed here.
 #![tactic(auto)]
 
-ghost use Rattle.std.specs.Prelude.{◌≡◌};
+ghost use Rattle.std.specs.Prelude.{◌≡◌, ◌+◌, ◌<◌};
 ghost use Rattle.reading.specs.Refusals.{number};
+
+pub mod codes;
+
+// Containers that may be open at once.
+pub const MOST_OPEN: u8 = 32;
 
 // Why a reader stops (document 02, Item 1). The definition `number` gives each its number.
 #[derive(Clone, Copy, Debug, PartialEq, Eq)]
@@ -33,6 +38,13 @@ pub struct Number {
     pub next: usize,
 }
 
+// The name of an item, none where its holder's items have no names, and the place behind it.
+#[derive(Clone, Copy, Debug, PartialEq, Eq)]
+pub struct Name {
+    pub value: Option<u64>,
+    pub next: usize,
+}
+
 // A type byte, and where its body starts and stops.
 #[derive(Clone, Copy, Debug, PartialEq, Eq)]
 pub struct Header {
@@ -47,21 +59,15 @@ pub struct Header {
 pub struct Wrapped {
     pub sids: usize,
     pub sids_end: usize,
-    pub kind: u8,
-    pub start: usize,
-    pub stop: usize,
+    pub header: Header,
 }
 
-// What stands at a place: its name (0 where there are none), its annotations' sids, its type byte and its body. The next item stands at `stop`.
-// A NOP pad has a type byte below 0F; a version marker has E0 and no body.
+// What stands at a place: its name, in a struct, and behind that its annotations' sids, its type byte and its body. The next item stands where the
+// body stops. A NOP pad has a type byte below 0F; a version marker has E0 and no body.
 #[derive(Clone, Copy, Debug, PartialEq, Eq)]
 pub struct Item {
-    pub name: u64,
-    pub sids: usize,
-    pub sids_end: usize,
-    pub kind: u8,
-    pub start: usize,
-    pub stop: usize,
+    pub name: Option<u64>,
+    pub held: Wrapped,
 }
 
 // What holds items: its type byte (0 for the stream itself), the least name that may follow in it, and how many containers are open.
@@ -70,6 +76,27 @@ pub struct Holder {
     pub kind: u8,
     pub least: u64,
     pub depth: u8,
+}
+
+impl Holder {
+    // The stream itself: no container has its type byte, and nothing is open.
+    pub const STREAM: Holder = Holder {
+        kind: 0,
+        least: 0,
+        depth: 0,
+    };
+
+    // A container of this type byte that stands in it.
+    pub fn inside(self, kind: u8) -> Holder
+        requires { self.depth < 255 }
+        ensures { (result.kind ≡ kind) × ((result.least ≡ 0) × (result.depth ≡ self.depth + 1)) }
+    {
+        Holder {
+            kind,
+            least: 0,
+            depth: self.depth + 1,
+        }
+    }
 }
 
 // Where a walk stopped: at an item that it does not read, by its place.
