@@ -73,8 +73,8 @@ any_value-returns-in-Err t c = λ f h.
     let a = c.args in
     sym (value_stops f a.s.now a.holder.kind a.holder.least a.holder.depth a.at c.in-Err.refusal (sym c.item.ensures ∙ c.in-Err.is))
 
-pub any_value-overflow_add-inside : goal.any_value-overflow_add-inside
-any_value-overflow_add-inside t c =
+pub any_value-inside-requires : goal.any_value-inside-requires
+any_value-inside-requires t c =
     let a = c.args in
     let is = sym c.item.ensures ∙ c.in-Ok-Some.is ∙ ap Ok c.in-Ok-Some.field-0-is in
     let p = item_bounds a.s.now a.holder.kind a.holder.least a.holder.depth a.at c.in-Ok-Some.item is in
@@ -86,14 +86,14 @@ any_value-slice_bounds-body-end t c =
     let a = c.args in
     let is = sym c.item.ensures ∙ c.in-Ok-Some.is ∙ ap Ok c.in-Ok-Some.field-0-is in
     let p = item_bounds a.s.now a.holder.kind a.holder.least a.holder.depth a.at c.in-Ok-Some.item is in
-    sym (length-take-le c.in-Ok-Some.item.stop a.s.now p.held.within)
+    sym (length-take-le c.in-Ok-Some.item.held.header.stop a.s.now p.held.within)
 
 pub any_value-body-requires : goal.any_value-body-requires
 any_value-body-requires t c =
     let a = c.args in
     let is = sym c.item.ensures ∙ c.in-Ok-Some.is ∙ ap Ok c.in-Ok-Some.field-0-is in
     let w = (item_bounds a.s.now a.holder.kind a.holder.least a.holder.depth a.at c.in-Ok-Some.item is).held in
-    let prefix = length-take-le c.in-Ok-Some.item.stop a.s.now w.within in
+    let prefix = length-take-le c.in-Ok-Some.item.held.header.stop a.s.now w.within in
     (omega (arith, prefix, w.after, w.behind, w.before, w.body, w.within), tt)
 
 pub any_value-returns-in_err-body : goal.any_value-returns-in_err-body
@@ -101,11 +101,12 @@ any_value-returns-in_err-body t c = λ f h.
     let a = c.args in
     let is = sym c.item.ensures ∙ c.in-Ok-Some.is ∙ ap Ok c.in-Ok-Some.field-0-is in
     let w = (item_bounds a.s.now a.holder.kind a.holder.least a.holder.depth a.at c.in-Ok-Some.item is).held in
-    let prefix = length-take-le c.in-Ok-Some.item.stop a.s.now w.within in
+    let prefix = length-take-le c.in-Ok-Some.item.held.header.stop a.s.now w.within in
     let stopped : c.from_residual.result ≡ Err c.in_err-body.field-0.0 = search rules in
     stopped
-    ∙ ap (λ (e : Ending). past e (record { next = c.in-Ok-Some.item.stop; least = raised a.holder.least c.in-Ok-Some.item.kind c.in-Ok-Some.item.name }))
-    (c.in_err-body.ensures f (omega (arith, prefix, w.after, w.behind, w.before, w.body, w.within)))
+    ∙ ap (λ (e : Ending). past e (record { next = c.in-Ok-Some.item.held.header.stop; least = raised a.holder.least c.in-Ok-Some.item.held.header.kind c.in-Ok-Some.item.name }))
+    (rw (c.inside.ensures.0, c.inside.ensures.1.0, c.inside.ensures.1.1) at
+    (c.in_err-body.ensures f (omega (arith, prefix, w.after, w.behind, w.before, w.body, w.within))))
     ∙ sym (value_container f a.s.now a.holder.kind a.holder.least a.holder.depth a.at c.in-Ok-Some.item is (sym c.is_container.ensures ∙ c.if-is_container.true))
 
 pub any_value-returns : goal.any_value-returns
@@ -114,12 +115,13 @@ any_value-returns t c = λ f h.
     let i = c.in-Ok-Some.item in
     let is = sym c.item.ensures ∙ c.in-Ok-Some.is ∙ ap Ok c.in-Ok-Some.field-0-is in
     let w = (item_bounds a.s.now a.holder.kind a.holder.least a.holder.depth a.at i is).held in
-    let prefix = length-take-le i.stop a.s.now w.within in
-    ap (λ (l : ℕ). Ok (Some (record { next = i.stop; least = l }))) c.least_after.ensures
+    let prefix = length-take-le i.held.header.stop a.s.now w.within in
+    ap (λ (l : ℕ). Ok (Some (record { next = i.held.header.stop; least = l }))) c.least_after.ensures
     ∙ (elim c.if-is_container.branch [
       | any_value-then-is_container+in_ok-body b ↦
-          ap (λ (e : Ending). past e (record { next = i.stop; least = raised a.holder.least i.kind i.name }))
-          (b.in_ok-body.ensures f (omega (arith, prefix, w.after, w.behind, w.before, w.body, w.within)))
+          ap (λ (e : Ending). past e (record { next = i.held.header.stop; least = raised a.holder.least i.held.header.kind i.name }))
+          (rw (b.inside.ensures.0, b.inside.ensures.1.0, b.inside.ensures.1.1) at
+          (b.in_ok-body.ensures f (omega (arith, prefix, w.after, w.behind, w.before, w.body, w.within))))
           ∙ sym (value_container f a.s.now a.holder.kind a.holder.least a.holder.depth a.at i is (sym c.is_container.ensures ∙ b.if-is_container.true))
       | any_value-else-is_container b ↦
           sym (value_leaf f a.s.now a.holder.kind a.holder.least a.holder.depth a.at i is (sym c.is_container.ensures ∙ b.if-is_container.false))
