@@ -1,4 +1,4 @@
-// The reader's answers as numbers in a lent slice: 0 where it reads, and else the refusal's number.
+// The reader's answers as C takes them, numbers in a lent slice: 0 where it reads, and else the refusal's number.
 #![tactic(auto)]
 
 ghost use Rattle.std.specs.Prelude.{◌≡◌, ℕ, List, [], ◌∷◌};
@@ -7,7 +7,7 @@ ghost use Rattle.read_answers.specs.Answers.{timestamp_answer, symbol_answer};
 
 use reading::{Decimal, Fraction, Header, Item, Number, Offset, Refusal, Shown, Stopped};
 
-// A type byte that begins nothing: there is no item more.
+// A type byte that begins nothing, so that C is given a number where there is no item more.
 const NO_MORE: u64 = 0xFF;
 
 fn store(lent: &mut [u64], i: usize, n: u64)

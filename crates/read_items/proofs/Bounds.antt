@@ -131,6 +131,11 @@ unwrapped_bounds s at h w k e = by_kind (is_wrapper h.kind) e
           within = omega (arith, k.within);
         }
 
+-- what the header behind a name holds has its body within the bytes
+pub body_bounds : (s : List ℕ) (parent at : ℕ) (h : Header) (w : Wrapped) → head_in s parent at ≡ Ok h → unwrapped s (Ok h) ≡ Ok w
+    → (w.header.start ≤ w.header.stop) × (w.header.stop ≤ length s)
+body_bounds s parent at h w p q = let k = unwrapped_bounds s at h w (head_bounds s parent at h p) q in (k.body, k.within)
+
 -- what a header behind a name holds
 held_bounds : (s : List ℕ) (parent at : ℕ) (w : Wrapped) → unwrapped s (head_in s parent at) ≡ Ok w
     → Held at (length s) w.sids w.sids_end w.header.start w.header.stop

@@ -220,7 +220,7 @@ fn judge(s: &[u8], holder: Holder, name: Option<u64>, held: Wrapped) -> Result<O
 }
 
 // The item whose name is read; its header stands behind that. Document 01 names `let .. else` here, where `?` would do.
-#[tactic(auto, using(crate::proofs::Bounds::head_bounds))]
+#[tactic(auto, using(crate::proofs::Bounds::head_bounds, crate::proofs::Bounds::body_bounds))]
 fn named_item(s: &[u8], holder: Holder, name: Name) -> Result<Option<Item>, Refusal>
     ensures { result ≡ named s.now holder.kind holder.least holder.depth (Ok name) }
 {

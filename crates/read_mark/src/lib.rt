@@ -32,7 +32,7 @@ fn is_local_outside(minute: u64, offset: Offset) -> bool
 }
 
 // By the UTC year; then, with a time and a known offset, by the local one.
-#[tactic(auto, using(crate::proofs::Marked::marks, crate::proofs::Marked::time_is, crate::proofs::Marked::calendar_time))]
+#[tactic(auto, using(crate::proofs::Marked::marks, crate::proofs::Marked::calendar_time))]
 fn is_marked(offset: Option<Offset>, fields: Fields) -> bool
     requires { are_fields (fields_told fields) ≡ true }
     ensures { result ≡ out_of_calendar (offset_told offset) (fields_told fields) }

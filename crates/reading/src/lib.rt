@@ -129,6 +129,7 @@ pub struct Offset {
 }
 
 // How many UTC fields a timestamp has, from the year down, and the fields, 0 where there is none.
+// The count is a number, and no enum of precisions: one to six fields stand in a body, four of them too, an hour without minute, before they are refused.
 #[derive(Clone, Copy, Debug, PartialEq, Eq)]
 pub struct Fields {
     pub count: u8,
@@ -156,6 +157,7 @@ pub struct Timestamp {
 }
 
 // What the reader shows of a timestamp's body: the timestamp, and beside it the out-of-calendar mark (document 02, Item 2).
+// The mark says something of the timestamp, and not whether there is one.
 #[derive(Clone, Copy, Debug, PartialEq, Eq)]
 pub struct Shown {
     pub timestamp: Timestamp,

@@ -11,6 +11,7 @@ use reading::codes::{MARKER, NULL, TIMESTAMP};
 use reading::{Header, Holder, Item, Refusal};
 
 // Only a timestamp has a mark, and a null is none.
+#[tactic(auto, using(crate::proofs::Marks::told_mark, crate::proofs::Marks::timestamp_mark, crate::proofs::Marks::no_mark))]
 fn has_mark(kind: u8, body: &[u8]) -> bool
     ensures { result ≡ mark_in (scalar_in kind body.now) }
 {
@@ -65,6 +66,7 @@ fn is_whole(s: &[u8], found: Result<Option<Item>, Refusal>) -> bool
 }
 
 // Most strings are not one item, so that is asked first.
+#[tactic(auto, using(crate::proofs::Steps::not_whole, crate::proofs::Steps::whole))]
 pub fn is_one_value(s: &[u8]) -> bool
     ensures { result ≡ is_one_value s.now }
 {
