@@ -42,10 +42,13 @@ bit true = 1
 abbrev pub no_more : ℕ
 no_more = 0xFF
 
--- name, sids' start and stop, type byte, body's start and stop
+-- name, 0 where there is none; sids' start and stop, type byte, body's start and stop
 abbrev pub item_numbers : ℕ → Std.Option Item → List ℕ
 item_numbers at None = 0 ∷ at ∷ at ∷ no_more ∷ at ∷ at ∷ []
-item_numbers at (Some i) = i.name ∷ i.sids ∷ i.sids_end ∷ i.kind ∷ i.start ∷ i.stop ∷ []
+item_numbers at (Some i) =
+    let w = i.held in
+    let h = w.header in
+    unwrap_or i.name 0 ∷ w.sids ∷ w.sids_end ∷ h.kind ∷ h.start ∷ h.stop ∷ []
 
 abbrev pub item_answer : ℕ → Result (Std.Option Item) Refusal → List ℕ → Answered
 item_answer at item lent = answered_by (item_numbers at) item lent

@@ -1,13 +1,13 @@
-// The reader's answers as numbers in a lent slice: 0 where it reads, and else the refusal's number.
+// The reader's answers as C takes them, numbers in a lent slice: 0 where it reads, and else the refusal's number.
 #![tactic(auto)]
 
 ghost use Rattle.std.specs.Prelude.{◌≡◌, ℕ, List, [], ◌∷◌};
 ghost use Rattle.read_answers.specs.Answers.{Answered, stored, laid, answered_by, bit, item_numbers, timestamp_numbers, item_answer, reading_answer, number_answer, decimal_answer};
 ghost use Rattle.read_answers.specs.Answers.{timestamp_answer, symbol_answer};
 
-use reading::{Decimal, Fraction, Item, Number, Offset, Refusal, Shown, Stopped};
+use reading::{Decimal, Fraction, Header, Item, Number, Offset, Refusal, Shown, Stopped};
 
-// A type byte that begins nothing: there is no item more.
+// A type byte that begins nothing, so that C is given a number where there is no item more.
 const NO_MORE: u64 = 0xFF;
 
 fn store(lent: &mut [u64], i: usize, n: u64)
@@ -61,14 +61,15 @@ impl Numbers for ItemAt {
     fn put(self, lent: &mut [u64]) {
         let at = self.at as u64;
         match self.item {
-            Some(i) => {
+            Some(Item { name, held }) => {
+                let Header { kind, start, stop } = held.header;
                 let numbers = [
-                    i.name,
-                    i.sids as u64,
-                    i.sids_end as u64,
-                    u64::from(i.kind),
-                    i.start as u64,
-                    i.stop as u64,
+                    name.unwrap_or(0),
+                    held.sids as u64,
+                    held.sids_end as u64,
+                    u64::from(kind),
+                    start as u64,
+                    stop as u64,
                 ];
                 lay(lent, numbers);
             }

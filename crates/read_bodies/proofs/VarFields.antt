@@ -19,6 +19,7 @@ use Rattle.ion.proofs.Tests.{by_cases}
 use Rattle.reading.specs.declared.Number.{Number}
 use Rattle.reading.specs.declared.Refusal.{Refusal}
 use Rattle.reading.specs.declared.Refusal.TheVariants.{NotIon}
+use Rattle.reading.specs.Headers as Headers
 use Rattle.reading.specs.Headers.{var_uint_from}
 use Rattle.read_bodies.specs.declared.VarInt.{VarInt}
 use Rattle.read_bodies.specs.Places.{number_in, groups_at, var_uint_at, signed_in, var_int_at, with_sign}
@@ -80,6 +81,12 @@ groups-at s at acc =
     let n : at + length (drop at s) ≡ length s = omega (arith, length-drop at s, leb-true at (length s) p) in
     from-groups acc at (drop at s) ∙ ap (λ (size : ℕ). number_in size (in_u64 (groups acc (drop at s)))) n)
     (λ p. rw (drop_of_length-le s {i = at} (omega (arith, leb-false at (length s) p))) (unfold var_uint_from groups in refl))
+
+pub var_uint_same : (s : List ℕ) (at : ℕ) → Headers.var_uint_at NotIon s at ≡ var_uint_at s at
+unfolding groups_at var_uint_at var_uint Headers.var_uint_at
+var_uint_same s at = groups-at s at 0
+
+pub ruleset a_number = (groups-at, var_uint_same)
 
 -- ---- the first byte of a VarInt
 
@@ -236,3 +243,7 @@ var_int_is s at v e = go (var_int (drop at s)) refl e
           within = omega (arith, p.1, n);
           is = q ∙ ap some (pair (cc (f, g)) (p.2 ∙ ap (λ (i : ℕ). drop i s) n));
         }
+
+-- the place behind a VarInt is within the bytes
+pub var_int_within : (s : List ℕ) (at : ℕ) (n : VarInt) → var_int_at s at ≡ Ok n → n.next ≤ length s
+var_int_within s at n e = (var_int_is s at n e).within

@@ -21,7 +21,10 @@ const MOST: u64 = 0x8000_0000_0000_0000;
 
 // ---- "VarUInt and VarInt Fields"
 
+// Bodies give one refusal, so these two take no other; each is the function of one definition of the grammar.
+
 // The VarUInt at a place.
+#[tactic(auto, using(crate::proofs::VarFields::a_number))]
 pub fn var_uint(b: &[u8], at: usize) -> Result<Number, Refusal>
     ensures { result ≡ var_uint_at b.now at }
 {
@@ -29,6 +32,7 @@ pub fn var_uint(b: &[u8], at: usize) -> Result<Number, Refusal>
 }
 
 // The VarUInt whose groups before `at` make `acc`.
+#[tactic(auto, using(crate::proofs::VarFields::a_number))]
 fn groups(b: &[u8], at: usize, acc: u64) -> Result<Number, Refusal>
     ensures { result ≡ groups_at b.now at acc }
 {

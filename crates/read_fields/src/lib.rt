@@ -6,10 +6,11 @@ ghost use Rattle.reading.specs.Headers.{var_uint_from, var_uint_at};
 
 use reading::{Number, Refusal};
 
-const END_FLAG: u8 = 0x80;
+// The bit that only a last group has.
+pub const END_FLAG: u8 = 0x80;
 
 // The greatest number that seven more bits leave within 64.
-const MAX_BEFORE_GROUP: u64 = 0x1FF_FFFF_FFFF_FFFF;
+pub const MAX_BEFORE_GROUP: u64 = 0x1FF_FFFF_FFFF_FFFF;
 
 // The VarUInt whose groups before `at` make `acc`, group by group of seven bits. How many they are is not limited, since leading groups may be zero.
 #[tactic(auto, using(crate::proofs::VarUInts::a_byte))]

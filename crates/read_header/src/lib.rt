@@ -5,34 +5,12 @@ ghost use Rattle.std.specs.Prelude.{◌≡◌, ◌≤◌, ◌/◌, ◌%◌, leng
 ghost use Rattle.reading.specs.Headers.{impossible, alone, measured, never, framed, header_at, marker_at, top_header_at};
 ghost use Rattle.read_header.specs.Usual.{least_length, usual};
 
+use reading::codes::{
+    ANNOTATIONS, BOOL, FLOAT, LONG, MARKER, NEGATIVE_INT, NULL, RESERVED, SORTED, STRUCT, TIMESTAMP,
+};
 use reading::{Header, Number, Refusal};
 
-// Type codes. They are numbers, and no enum: four bits of the type byte, which is answered as it stands, and the tables below go by them.
-const BOOL: u8 = 1;
-
-const NEGATIVE_INT: u8 = 3;
-
-const FLOAT: u8 = 4;
-
-const TIMESTAMP: u8 = 6;
-
-const STRUCT: u8 = 13;
-
-const ANNOTATIONS: u8 = 14;
-
-const RESERVED: u8 = 15;
-
-// Low four bits that are not a length.
-const SORTED: u8 = 1;
-
-const LONG: u8 = 14;
-
-const NULL: u8 = 15;
-
-// The version marker. Its first byte begins nothing else.
-const MARKER_START: u8 = 0xE0;
-
-const MARKER: [u8; 4] = [MARKER_START, 0x01, 0x00, 0xEA];
+const VERSION_MARKER: [u8; 4] = [MARKER, 0x01, 0x00, 0xEA];
 
 // No value, pad or wrapper has this type byte.
 fn is_impossible(b: u8) -> bool
@@ -171,14 +149,14 @@ fn marker_at(s: &[u8], at: usize) -> Result<Header, Refusal>
     ensures { result ≡ marker_at s.now at }
 {
     let rest = &s[at..];
-    if rest.starts_with(&MARKER) {
+    if rest.starts_with(&VERSION_MARKER) {
         return Ok(Header {
-            kind: MARKER_START,
-            start: at + MARKER.len(),
-            stop: at + MARKER.len(),
+            kind: MARKER,
+            start: at + VERSION_MARKER.len(),
+            stop: at + VERSION_MARKER.len(),
         });
     }
-    if MARKER.starts_with(rest) {
+    if VERSION_MARKER.starts_with(rest) {
         return Err(Refusal::CutShort);
     }
     Err(Refusal::NotIon)
@@ -192,7 +170,7 @@ pub fn top_header_at(s: &[u8], at: usize) -> Result<Header, Refusal>
     let Some(&b) = s.get(at) else {
         return Err(Refusal::CutShort);
     };
-    if b == MARKER_START {
+    if b == MARKER {
         return marker_at(s, at);
     }
     any_header_at(s, at, Refusal::CutShort)

@@ -80,7 +80,7 @@ pub ruleset an_int = (short_int, end_outside, end_past, end_zero, end_other, end
 -- ---- the item before that place
 
 abbrev int_of : ℕ → ℕ → ℕ → Item
-int_of b at next = record { name = 0; sids = at + 1; sids_end = at + 1; kind = b; start = at + 1; stop = next }
+int_of b at next = record { name = None; held = record { sids = at + 1; sids_end = at + 1; header = record { kind = b; start = at + 1; stop = next } } }
 
 -- the item is an int where its header is a usual one and its body reads
 module _ (s : List ℕ) (parent at b : ℕ) (sequence : is_sequence parent ≡ true) (is : get_or s at 0 ≡ b) (header : usual b ≡ true)

@@ -10,7 +10,9 @@ ghost use Rattle.reading.specs.Items.{raised, judged, named, item_at};
 ghost use Rattle.read_items.specs.Ints.{is_sequence, is_short_int, int_end};
 ghost use Rattle.read_items.specs.Sids.{groups_with};
 
-use reading::{Header, Holder, Item, Number, Refusal, Wrapped};
+use read_fields::{END_FLAG, MAX_BEFORE_GROUP};
+use reading::codes::{LONG, MARKER};
+use reading::{Header, Holder, Item, MOST_OPEN, Name, Number, Refusal, Wrapped};
 
 // Type bytes. Those below null's are pads. They are numbers, and no enum: an item answers the byte of the stream as it stands, its length bits too.
 const NULL: u8 = 0x0F;
@@ -29,23 +31,7 @@ const SORTED_STRUCT: u8 = 0xD1;
 
 const NULL_STRUCT: u8 = 0xDF;
 
-const MARKER: u8 = 0xE0;
-
 const NULL_WRAPPER: u8 = 0xEF;
-
-// The parent's type byte where that is the stream itself: no container has it.
-const STREAM: u8 = 0;
-
-// Low four bits of a type byte whose length is a field.
-const LONG: u8 = 14;
-
-// Containers that may be open at once.
-const MOST_OPEN: u8 = 32;
-
-const END_FLAG: u8 = 0x80;
-
-// The greatest number that seven more bits leave within 64.
-const MAX_BEFORE_GROUP: u64 = 0x1FF_FFFF_FFFF_FFFF;
 
 pub fn is_pad(kind: u8) -> bool
     ensures { result ≡ is_pad kind }
@@ -73,18 +59,19 @@ pub fn has_names(parent: u8) -> bool
     (STRUCT <= parent) & (parent < NULL_STRUCT)
 }
 
-// The least name that may follow: a pad's does not count.
-pub fn least_after(least: u64, kind: u8, name: u64) -> u64
+// The least name that may follow: a pad's does not count. It is 0 where items have none.
+pub fn least_after(least: u64, kind: u8, name: Option<u64>) -> u64
     ensures { result ≡ raised least kind name }
 {
-    if is_pad(kind) { least } else { name }
+    if is_pad(kind) { least } else { name.unwrap_or(0) }
 }
 
 // In a sorted struct a name may repeat but not fall, a pad's aside.
-fn name_falls(holder: Holder, kind: u8, name: u64) -> bool
+fn name_falls(holder: Holder, kind: u8, name: Option<u64>) -> bool
     ensures { result ≡ falls holder.kind holder.least kind name }
 {
-    (holder.kind == SORTED_STRUCT) & (!(kind < NULL) & (name < holder.least))
+    (holder.kind == SORTED_STRUCT)
+        & (!is_pad(kind) & name.is_some_and(|name| name < holder.least))
 }
 
 // The groups of a VarUInt so far and a byte more. A last group leaves none.
@@ -115,21 +102,28 @@ pub fn are_sids(part: &[u8]) -> bool
     whole
 }
 
-// The name of the item at `at`; 0 where items have none.
-fn name_at(s: &[u8], parent: u8, at: usize) -> Result<Number, Refusal>
+// The name of the item at `at`, where items have one.
+fn name_at(s: &[u8], parent: u8, at: usize) -> Result<Name, Refusal>
     ensures { result ≡ name_at s.now parent at }
 {
-    if has_names(parent) {
-        return read_fields::var_uint(s, at, Refusal::NotIon);
+    if !has_names(parent) {
+        return Ok(Name {
+            value: None,
+            next: at,
+        });
     }
-    Ok(Number { value: 0, next: at })
+    let Number { value, next } = read_fields::var_uint(s, at, Refusal::NotIon)?;
+    Ok(Name {
+        value: Some(value),
+        next,
+    })
 }
 
 // The header behind the name. Only the stream itself can be cut short.
 fn head_in(s: &[u8], parent: u8, at: usize) -> Result<Header, Refusal>
     ensures { result ≡ head_in s.now parent at }
 {
-    if parent == STREAM {
+    if parent == Holder::STREAM.kind {
         return read_header::top_header_at(s, at);
     }
     read_header::header_at(s, at, Refusal::NotIon)
@@ -139,16 +133,14 @@ fn head_in(s: &[u8], parent: u8, at: usize) -> Result<Header, Refusal>
 fn wrapped_value(s: &[u8], from: usize, to: usize) -> Result<Wrapped, Refusal>
     ensures { result ≡ filled s.now from to (header_at NotIon s.now to) }
 {
-    let Header { kind, start, stop } = read_header::header_at(s, to, Refusal::NotIon)?;
-    if is_pad(kind) | (is_wrapper(kind) | !(stop == s.len())) {
+    let header = read_header::header_at(s, to, Refusal::NotIon)?;
+    if is_pad(header.kind) | (is_wrapper(header.kind) | !(header.stop == s.len())) {
         return Err(Refusal::NotIon);
     }
     Ok(Wrapped {
         sids: from,
         sids_end: to,
-        kind,
-        start,
-        stop,
+        header,
     })
 }
 
@@ -188,16 +180,13 @@ fn unwrap(s: &[u8], header: Header) -> Result<Wrapped, Refusal>
     requires { header.stop ≤ length s.now }
     ensures { result ≡ unwrapped s.now (Ok header) }
 {
-    let Header { kind, start, stop } = header;
-    if is_wrapper(kind) {
-        return wrapped(&s[..stop], start);
+    if is_wrapper(header.kind) {
+        return wrapped(&s[..header.stop], header.start);
     }
     Ok(Wrapped {
-        sids: start,
-        sids_end: start,
-        kind,
-        start,
-        stop,
+        sids: header.start,
+        sids_end: header.start,
+        header,
     })
 }
 
@@ -213,17 +202,11 @@ fn body_reads(kind: u8, body: &[u8]) -> bool
 
 // Whether the name, the body and the count of open containers let the item stand.
 #[tactic(auto, using(crate::proofs::Parts::part_slice))]
-fn judge(s: &[u8], holder: Holder, name: u64, held: Wrapped) -> Result<Option<Item>, Refusal>
-    requires { (held.start ≤ held.stop) × (held.stop ≤ length s.now) }
+fn judge(s: &[u8], holder: Holder, name: Option<u64>, held: Wrapped) -> Result<Option<Item>, Refusal>
+    requires { (held.header.start ≤ held.header.stop) × (held.header.stop ≤ length s.now) }
     ensures { result ≡ judged s.now holder.kind holder.least holder.depth name (Ok held) }
 {
-    let Wrapped {
-        sids,
-        sids_end,
-        kind,
-        start,
-        stop,
-    } = held;
+    let Header { kind, start, stop } = held.header;
     if name_falls(holder, kind, name) {
         return Err(Refusal::NotIon);
     }
@@ -233,24 +216,17 @@ fn judge(s: &[u8], holder: Holder, name: u64, held: Wrapped) -> Result<Option<It
     if is_container(kind) & (MOST_OPEN <= holder.depth) {
         return Err(Refusal::TooDeep);
     }
-    Ok(Some(Item {
-        name,
-        sids,
-        sids_end,
-        kind,
-        start,
-        stop,
-    }))
+    Ok(Some(Item { name, held }))
 }
 
-// The item whose name is read; its header stands behind that.
-#[tactic(auto, using(crate::proofs::Bounds::head_bounds))]
-fn named_item(s: &[u8], holder: Holder, name: Number) -> Result<Option<Item>, Refusal>
+// The item whose name is read; its header stands behind that. Document 01 names `let .. else` here, where `?` would do.
+#[tactic(auto, using(crate::proofs::Bounds::head_bounds, crate::proofs::Bounds::body_bounds))]
+fn named_item(s: &[u8], holder: Holder, name: Name) -> Result<Option<Item>, Refusal>
     ensures { result ≡ named s.now holder.kind holder.least holder.depth (Ok name) }
 {
     let found = head_in(s, holder.kind, name.next);
     let Ok(header) = found else {
-        return found.and(Ok(None));
+        return Err(found.unwrap_err());
     };
     judge(s, holder, name.value, unwrap(s, header)?)
 }
@@ -277,7 +253,7 @@ fn is_sequence(parent: u8) -> bool
     (LIST <= parent) & (parent < STRUCT)
 }
 
-// An int of 1 to 13 bytes, of either sign: their type codes are 2 and 3.
+// An int of 1 to 13 bytes, of either sign: the two type codes differ in their last bit.
 fn is_short_int(kind: u8) -> bool
     ensures { result ≡ is_short_int kind }
 {

@@ -46,3 +46,5 @@ shifted_east n k e =
     by_cases (leb (5259493440 - n) k)
     (λ p. rw (p, behind_range (n + k) (omega (arith, leb-true (5259493440 - n) k p))))
     (λ p. rw (p, in-range (n + k) (omega arith) (omega (arith, leb-false (5259493440 - n) k p))))
+
+pub ruleset a_shift = (minute_range, shifted_west, shifted_east)

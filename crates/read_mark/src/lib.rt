@@ -20,6 +20,7 @@ const LIMIT: u64 = 5_259_493_440;
 const TIMED: u8 = 5;
 
 // An offset may be as large as an i64, so it is held to what is left on its side: no sum is made.
+#[tactic(auto, using(crate::proofs::Shifted::a_shift))]
 fn is_local_outside(minute: u64, offset: Offset) -> bool
     requires { is_calendar_minute (pos minute) ≡ true }
     ensures { result ≡ not (is_calendar_minute (pos minute +ℤ number (signed offset.negative offset.minutes))) }
@@ -31,7 +32,7 @@ fn is_local_outside(minute: u64, offset: Offset) -> bool
 }
 
 // By the UTC year; then, with a time and a known offset, by the local one.
-#[tactic(auto, using(crate::proofs::Marked::marks))]
+#[tactic(auto, using(crate::proofs::Marked::marks, crate::proofs::Marked::calendar_time))]
 fn is_marked(offset: Option<Offset>, fields: Fields) -> bool
     requires { are_fields (fields_told fields) ≡ true }
     ensures { result ≡ out_of_calendar (offset_told offset) (fields_told fields) }
@@ -56,7 +57,7 @@ fn is_marked(offset: Option<Offset>, fields: Fields) -> bool
 }
 
 // A body that does not read has no mark.
-#[tactic(auto, using(crate::proofs::Read::shown_by))]
+#[tactic(auto, using(crate::proofs::Read::shown_by, crate::proofs::Read::fields_told_hold))]
 pub fn timestamp(body: &[u8]) -> Result<Shown, Refusal>
     ensures { result ≡ shown_in body.now }
 {

@@ -4,29 +4,10 @@
 ghost use Rattle.std.specs.Prelude.{◌≡◌, ◌||◌, ℕ, eqb};
 ghost use Rattle.reading.specs.Scalars.{is_some, scalar_in};
 
-// Type codes of scalars.
-const BOOL: u8 = 1;
-
-const POSITIVE_INT: u8 = 2;
-
-const NEGATIVE_INT: u8 = 3;
-
-const FLOAT: u8 = 4;
-
-const DECIMAL: u8 = 5;
-
-const TIMESTAMP: u8 = 6;
-
-const SYMBOL: u8 = 7;
-
-const STRING: u8 = 8;
-
-const CLOB: u8 = 9;
-
-const BLOB: u8 = 10;
-
-// Low four bits of a null.
-const NULL: u8 = 15;
+use reading::codes::{
+    ANNOTATIONS, BLOB, BOOL, CLOB, DECIMAL, FLOAT, NEGATIVE_INT, NULL, POSITIVE_INT, STRING,
+    SYMBOL, TIMESTAMP,
+};
 
 // "4: float": no bytes, a binary32 or a binary64.
 fn is_float_size(size: usize) -> bool
@@ -40,7 +21,7 @@ pub fn reads(kind: u8, body: &[u8]) -> bool
     ensures { result ≡ is_some (scalar_in kind body.now) }
 {
     if kind % 16 == NULL {
-        return kind / 16 < 14;
+        return kind / 16 < ANNOTATIONS;
     }
     match kind / 16 {
         BOOL => kind % 16 < 2,

@@ -141,3 +141,5 @@ fraction_some s at inside = front (length s) (drop at s) (rw (length-drop at s) 
         (Ok (cond (t && not (eqb m 0)) (Some (record { digits = m; coefficient = e.next })) None)) (Err NotIon)) p
 
 pub ruleset fraction_parts = (fraction_none, fraction_some)
+
+pub ruleset a_coefficient = (fits_below, fits-zero)

@@ -46,6 +46,8 @@ date_days y m d n e q =
     kept true b = refl
     kept false b = refl
 
+pub ruleset a_date = (date_past, date_years, date_days)
+
 -- ---- fields
 
 module _ (y m d h i s : ℕ) where
@@ -69,3 +71,5 @@ module _ (y m d h i s : ℕ) where
       rw (and-true (ltb i 60)) (and_assoc (is_year y) (is_day y m d) (ltb h 24 && ltb i 60))
   fields-from_day (suc (suc (suc (suc (suc (suc zero)))))) k l = and_assoc (is_year y) (is_day y m d) (ltb h 24 && (ltb i 60 && ltb s 60))
   fields-from_day (suc (suc (suc (suc (suc (suc (suc n))))))) k l = absurd (omega arith)
+
+pub ruleset some_fields = (fields_to_month, fields-from_day)

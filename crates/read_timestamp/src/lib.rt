@@ -40,7 +40,7 @@ fn known_offset(offset: VarInt) -> Option<Offset>
 
 const MOST_FIELDS: usize = 6;
 
-// At most six VarUInts, as many as there are bytes for.
+// At most six VarUInts, as many as there are bytes for. They lie in fixed memory.
 fn fields_at(body: &[u8], at: usize) -> Result<FieldsTo, Refusal>
     requires { at ≤ length body.now }
     ensures { result ≡ fields_at body.now at }
@@ -71,6 +71,7 @@ fn fields_at(body: &[u8], at: usize) -> Result<FieldsTo, Refusal>
 }
 
 // A year from 0 to 10000, and a day of the calendar.
+#[tactic(auto, using(crate::proofs::Tested::a_date))]
 fn is_date(year: u64, month: u64, day: u64) -> bool
     ensures { result ≡ (is_year year && is_day year month day) }
 {
@@ -82,6 +83,7 @@ fn is_date(year: u64, month: u64, day: u64) -> bool
 }
 
 // Year; month; day; hour and minute together; second.
+#[tactic(auto, using(crate::proofs::Tested::some_fields))]
 fn are_fields(f: Fields) -> bool
     requires { f.count ≤ 6 }
     ensures { result ≡ are_fields (fields_told f) }
@@ -121,6 +123,7 @@ fn is_zero(c: &[u8]) -> bool
 }
 
 // Below one and not below zero, with the Int's bytes; an exponent that is not below zero only has zero.
+#[tactic(auto, using(crate::proofs::Coefficients::a_coefficient))]
 fn coefficient_fits(exponent: VarInt, c: &[u8]) -> bool
     ensures { result ≡ is_some (fraction_of (signed exponent.negative exponent.magnitude) (int_field c.now)) }
 {
@@ -131,7 +134,7 @@ fn coefficient_fits(exponent: VarInt, c: &[u8]) -> bool
 }
 
 // What follows the fields: nothing, or an exponent and a coefficient.
-#[tactic(auto, using(crate::proofs::Coefficients::fraction_parts, std::proofs::lemmas::List::take_rest))]
+#[tactic(auto, using(crate::proofs::Coefficients::fraction_parts, read_bodies::proofs::VarFields::var_int_within, std::proofs::lemmas::List::take_rest))]
 fn fraction_at(body: &[u8], at: usize) -> Result<Option<Fraction>, Refusal>
     ensures { result ≡ fraction_at body.now at }
 {
@@ -155,7 +158,7 @@ fn fraction_at(body: &[u8], at: usize) -> Result<Option<Fraction>, Refusal>
 // ---- the body
 
 // "6: timestamp".
-#[tactic(auto, using(crate::proofs::Whole::by_parts))]
+#[tactic(auto, using(crate::proofs::Whole::by_parts, crate::proofs::Gathered::fields_few, read_bodies::proofs::VarFields::var_int_within))]
 pub fn timestamp(body: &[u8]) -> Result<Timestamp, Refusal>
     ensures { result ≡ timestamp_in body.now }
 {

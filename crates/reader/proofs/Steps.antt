@@ -24,8 +24,8 @@ Go = List ℕ → ℕ → ℕ → ℕ → ℕ → Walk
 -- two ways to go on that agree where an item goes on make the same step
 step_same : (go on : Go) (s : List ℕ) (parent least depth at : ℕ) (x : Found)
     → ((i : Item) → x ≡ Ok (Some i)
-    → (go (take i.stop s) i.kind 0 (depth + 1) i.start ≡ on (take i.stop s) i.kind 0 (depth + 1) i.start)
-    × (go s parent (raised least i.kind i.name) depth i.stop ≡ on s parent (raised least i.kind i.name) depth i.stop))
+    → (go (take i.held.header.stop s) i.held.header.kind 0 (depth + 1) i.held.header.start ≡ on (take i.held.header.stop s) i.held.header.kind 0 (depth + 1) i.held.header.start)
+    × (go s parent (raised least i.held.header.kind i.name) depth i.held.header.stop ≡ on s parent (raised least i.held.header.kind i.name) depth i.held.header.stop))
     → step_walk go s parent least depth at x ≡ step_walk on s parent least depth at x
 step_same go on s parent least depth at (Ok None) h = refl
 step_same go on s parent least depth at (Err r) h = refl
@@ -40,10 +40,10 @@ walk_fuel (suc f) (suc g) s parent least depth at h k =
     step_same (λ t p l d i. walk_from f t p l d i) (λ t p l d i. walk_from g t p l d i) s parent least depth at (item_at s parent least depth at)
     (λ i e.
     let p = item_bounds s parent least depth at i e in
-    let q = length-take-le i.stop s p.held.within in (
-      walk_fuel f g (take i.stop s) i.kind 0 (depth + 1) i.start (omega (arith, q, p.held.after, p.held.behind, p.held.before, p.held.body, p.held.within))
+    let q = length-take-le i.held.header.stop s p.held.within in (
+      walk_fuel f g (take i.held.header.stop s) i.held.header.kind 0 (depth + 1) i.held.header.start (omega (arith, q, p.held.after, p.held.behind, p.held.before, p.held.body, p.held.within))
           (omega (arith, q, p.held.after, p.held.behind, p.held.before, p.held.body, p.held.within)),
-      walk_fuel f g s parent (raised least i.kind i.name) depth i.stop
+      walk_fuel f g s parent (raised least i.held.header.kind i.name) depth i.held.header.stop
           (omega (arith, p.held.after, p.held.behind, p.held.before, p.held.body, p.held.within))
           (omega (arith, p.held.after, p.held.behind, p.held.before, p.held.body, p.held.within)),
     ))
@@ -60,14 +60,14 @@ walk_by_items s end parent least depth at =
     (item_at (take end s) parent least depth at)
     (λ i e.
     let k = (item_bounds (take end s) parent least depth at i e).held in
-    let m : i.stop ≤ end = omega (arith, n, k.within) in
-    let z : length (take i.stop (take end s)) ≡ i.stop = length-take-le i.stop (take end s) k.within in
-    let y : length (take i.stop s) ≡ i.stop = length-take-le i.stop s (omega (arith, m, w)) in (
-      rw (z, le-leb i.stop (length s) (omega (arith, m, w)), take-take i.stop end s m)
-          (walk_fuel (length s) (suc (length s)) (take i.stop s) i.kind 0 (depth + 1) i.start (omega (arith, y, k.after, k.behind, k.before, m, w))
+    let m : i.held.header.stop ≤ end = omega (arith, n, k.within) in
+    let z : length (take i.held.header.stop (take end s)) ≡ i.held.header.stop = length-take-le i.held.header.stop (take end s) k.within in
+    let y : length (take i.held.header.stop s) ≡ i.held.header.stop = length-take-le i.held.header.stop s (omega (arith, m, w)) in (
+      rw (z, le-leb i.held.header.stop (length s) (omega (arith, m, w)), take-take i.held.header.stop end s m)
+          (walk_fuel (length s) (suc (length s)) (take i.held.header.stop s) i.held.header.kind 0 (depth + 1) i.held.header.start (omega (arith, y, k.after, k.behind, k.before, m, w))
           (omega (arith, y, m, w))),
       rw (n, p)
-          (walk_fuel (length s) (suc (length s)) (take end s) parent (raised least i.kind i.name) depth i.stop
+          (walk_fuel (length s) (suc (length s)) (take end s) parent (raised least i.held.header.kind i.name) depth i.held.header.stop
           (omega (arith, n, w, k.after, k.behind, k.before, k.body)) (omega (arith, n, w))),
     ))))
     (λ p. rw p refl)

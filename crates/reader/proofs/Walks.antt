@@ -14,7 +14,7 @@ use Rattle.reading.specs.declared.Passed.{Passed}
 use Rattle.reading.specs.declared.Refusal.{Refusal}
 use Rattle.reading.specs.Items.{opens, raised, Found, item_at}
 use Rattle.reading.specs.Scalars.{sids_of}
-use Rattle.reading.specs.Walk.{Event, ends, Ending, Walk, before, name_in, annotations, leaf_walk, ◌and_then◌, shows, container_walk, step_walk, walk_from}
+use Rattle.reading.specs.Walk.{Event, ends, Ending, Walk, before, name_shown, annotations, leaf_walk, ◌and_then◌, shows, container_walk, step_walk, walk_from}
 use Rattle.read_items.specs.Ints.{int_end}
 use Rattle.read_items.proofs.Bounds.{item_bounds}
 use Rattle.read_items.proofs.Fuel.{fuelled}
@@ -46,29 +46,29 @@ step_ends : (f : ℕ) (s : List ℕ) (parent least depth at : ℕ) (x : Found) �
     (step_walk (on_from f) s parent least depth at x).1 ≡ behind f s parent depth (value_from f s least depth at x)
 step_ends f s parent least depth at (Ok None) = refl
 step_ends f s parent least depth at (Err r) = refl
-step_ends f s parent least depth at (Ok (Some i)) = by_kind (opens i.kind)
+step_ends f s parent least depth at (Ok (Some i)) = by_kind (opens i.held.header.kind)
   where
     inside : Walk
-    inside = walk_from f (take i.stop s) i.kind 0 (depth + 1) i.start
+    inside = walk_from f (take i.held.header.stop s) i.held.header.kind 0 (depth + 1) i.held.header.start
 
     an : List ℕ
-    an = annotations (sids_of (slice i.sids i.sids_end s))
+    an = annotations (sids_of (slice i.held.sids i.held.sids_end s))
 
     passed : Passed
-    passed = record { next = i.stop; least = raised least i.kind i.name }
+    passed = record { next = i.held.header.stop; least = raised least i.held.header.kind i.name }
 
     on : Walk
-    on = walk_from f s parent passed.least depth i.stop
+    on = walk_from f s parent passed.least depth i.held.header.stop
 
     past_container : (es : List Event) (x : Ending) → (before es x on).1 ≡ behind f s parent depth (past x passed)
     past_container es (Ok u) = refl
     past_container es (Err e) = refl
 
     by_kind : (x : Bool)
-        → (cond x (container_walk i.kind (name_in parent i.name) an inside) (leaf_walk i.kind (name_in parent i.name) an (slice i.start i.stop s)) and_then on).1
+        → (cond x (container_walk i.held.header.kind (name_shown i.name) an inside) (leaf_walk i.held.header.kind (name_shown i.name) an (slice i.held.header.start i.held.header.stop s)) and_then on).1
         ≡ behind f s parent depth (cond x (past inside.1 passed) (Ok (Some passed)))
     by_kind true =
-        rw (container_ends i.kind (name_in parent i.name) an inside) (past_container (container_walk i.kind (name_in parent i.name) an inside).0 inside.1)
+        rw (container_ends i.held.header.kind (name_shown i.name) an inside) (past_container (container_walk i.held.header.kind (name_shown i.name) an inside).0 inside.1)
     by_kind false = refl
 
 -- ---- the walk from a place, for any fuel above none
@@ -92,13 +92,13 @@ module _ (f : ℕ) (s : List ℕ) (parent least depth at : ℕ) where
   value_stops r e = rw (e) refl
 
   module _ (i : Item) (is : item_at s parent least depth at ≡ Ok (Some i)) where
-    pub value_leaf : opens i.kind ≡ false → value_at f s parent least depth at ≡ Ok (Some (record { next = i.stop; least = raised least i.kind i.name }))
+    pub value_leaf : opens i.held.header.kind ≡ false → value_at f s parent least depth at ≡ Ok (Some (record { next = i.held.header.stop; least = raised least i.held.header.kind i.name }))
     unfolding value_at
     value_leaf o = rw (is, o) refl
 
-    pub value_container : opens i.kind ≡ true
+    pub value_container : opens i.held.header.kind ≡ true
         → value_at f s parent least depth at
-        ≡ past (walk_from f (take i.stop s) i.kind 0 (depth + 1) i.start).1 (record { next = i.stop; least = raised least i.kind i.name })
+        ≡ past (walk_from f (take i.held.header.stop s) i.held.header.kind 0 (depth + 1) i.held.header.start).1 (record { next = i.held.header.stop; least = raised least i.held.header.kind i.name })
     unfolding value_at
     value_container o = rw (is, o) refl
 
@@ -115,20 +115,20 @@ module _ (f : ℕ) (s : List ℕ) (parent least depth at : ℕ) where
       by_item : (x : Found) → item_at s parent least depth at ≡ x → value_from f s least depth at x ≡ Ok (Some p) → (at < p.next) × (p.next ≤ length s)
       by_item (Ok None) q e = cc
       by_item (Err r) q e = cc
-      by_item (Ok (Some i)) q e = by_kind (opens i.kind) e
+      by_item (Ok (Some i)) q e = by_kind (opens i.held.header.kind) e
         where
-          placed : i.stop ≡ p.next → (at < p.next) × (p.next ≤ length s)
+          placed : i.held.header.stop ≡ p.next → (at < p.next) × (p.next ≤ length s)
           placed z = let w = (item_bounds s parent least depth at i q).held in
               (omega (arith, w.after, w.behind, w.before, w.body), omega (arith, w.within))
 
-          by_inside : (x : Ending) → past x (record { next = i.stop; least = raised least i.kind i.name }) ≡ Ok (Some p) → (at < p.next) × (p.next ≤ length s)
+          by_inside : (x : Ending) → past x (record { next = i.held.header.stop; least = raised least i.held.header.kind i.name }) ≡ Ok (Some p) → (at < p.next) × (p.next ≤ length s)
           by_inside (Ok u) e = placed (cc)
           by_inside (Err r) e = cc
 
           by_kind : (x : Bool)
-              → cond x (past (walk_from f (take i.stop s) i.kind 0 (depth + 1) i.start).1 (record { next = i.stop; least = raised least i.kind i.name }))
-              (Ok (Some (record { next = i.stop; least = raised least i.kind i.name })))
+              → cond x (past (walk_from f (take i.held.header.stop s) i.held.header.kind 0 (depth + 1) i.held.header.start).1 (record { next = i.held.header.stop; least = raised least i.held.header.kind i.name }))
+              (Ok (Some (record { next = i.held.header.stop; least = raised least i.held.header.kind i.name })))
               ≡ Ok (Some p)
               → (at < p.next) × (p.next ≤ length s)
-          by_kind true e = by_inside (walk_from f (take i.stop s) i.kind 0 (depth + 1) i.start).1 e
+          by_kind true e = by_inside (walk_from f (take i.held.header.stop s) i.held.header.kind 0 (depth + 1) i.held.header.start).1 e
           by_kind false e = placed (cc)

@@ -21,9 +21,9 @@ abbrev pub value_from : ℕ → List ℕ → ℕ → ℕ → ℕ → Found → V
 value_from f s least depth at (Ok None) = Ok None
 value_from f s least depth at (Err r) = Err (record { refusal = r; place = at })
 value_from f s least depth at (Ok (Some i)) =
-    cond (opens i.kind)
-    (past (walk_from f (take i.stop s) i.kind 0 (depth + 1) i.start).1 (record { next = i.stop; least = raised least i.kind i.name }))
-    (Ok (Some (record { next = i.stop; least = raised least i.kind i.name })))
+    let h = i.held.header in
+    let p : Passed = record { next = h.stop; least = raised least h.kind i.name } in
+    cond (opens h.kind) (past (walk_from f (take h.stop s) h.kind 0 (depth + 1) h.start).1 p) (Ok (Some p))
 
 unfoldable pub value_at : ℕ → List ℕ → ℕ → ℕ → ℕ → ℕ → Value
 value_at f s parent least depth at = value_from f s least depth at (item_at s parent least depth at)

@@ -5,7 +5,7 @@ ghost use Rattle.std.specs.Prelude.{◌≡◌, ℕ, ◌+◌, ◌-◌, ◌≤◌,
 ghost use Rattle.reading.specs.Walk.{walk_from, walk_in};
 ghost use Rattle.reader.specs.Values.{value_at, next_in};
 
-use reading::{Holder, Item, Passed, Refusal, Stopped};
+use reading::{Header, Holder, Item, Passed, Refusal, Stopped};
 
 // The item at `at` and all that it holds; none where the bytes end. The end and the ints of a list are asked first: they take no call.
 #[cycle(body_value)]
@@ -31,17 +31,13 @@ fn any_value(s: &[u8], holder: Holder, at: usize) -> Result<Option<Passed>, Stop
         Ok(None) => return Ok(None),
         Err(refusal) => return Err(Stopped { refusal, place: at }),
     };
-    if read_items::is_container(item.kind) {
-        let inside = Holder {
-            kind: item.kind,
-            least: 0,
-            depth: holder.depth + 1,
-        };
-        body(&s[..item.stop], inside, item.start)?;
+    let Header { kind, start, stop } = item.held.header;
+    if read_items::is_container(kind) {
+        body(&s[..stop], holder.inside(kind), start)?;
     }
     Ok(Some(Passed {
-        next: item.stop,
-        least: read_items::least_after(holder.least, item.kind, item.name),
+        next: stop,
+        least: read_items::least_after(holder.least, kind, item.name),
     }))
 }
 

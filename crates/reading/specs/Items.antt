@@ -2,11 +2,12 @@
 -- The bytes s reach to the end of what the item stands in. That is given by its type byte, `parent`, which is 0 for the stream itself:
 -- no container has that type byte.
 -- Assumes nothing.
-use Rattle.std.specs.Prelude.{ℕ, ◌+◌, Bool, cond, ◌&&◌, ◌||◌, not, List, ltb, leb, eqb, length, take, Result, Ok, Err, Option, Some, None}
+use Rattle.std.specs.Prelude.{ℕ, ◌+◌, Bool, false, cond, ◌&&◌, ◌||◌, not, List, ltb, leb, eqb, length, take, Result, Ok, Err, Option, Some, None, unwrap_or}
 use Rattle.std.proofs.Math.Seq.{slice}
 use Rattle.reading.specs.declared.Refusal.{Refusal}
 use Rattle.reading.specs.declared.Refusal.TheVariants.{PastTheEnd, TooDeep, NotIon}
 use Rattle.reading.specs.declared.Number.{Number}
+use Rattle.reading.specs.declared.Name.{Name}
 use Rattle.reading.specs.declared.Header.{Header}
 use Rattle.reading.specs.declared.Wrapped.{Wrapped}
 use Rattle.reading.specs.declared.Item.{Item}
@@ -42,8 +43,12 @@ is_sorted_struct parent = eqb parent 0xD1
 
 -- ---- the name, then the header: only where the stream ends is running out of bytes 14
 
-abbrev pub name_at : List ℕ → ℕ → ℕ → Result Number Refusal
-name_at s parent at = cond (has_names parent) (var_uint_at NotIon s at) (Ok (record { value = 0; next = at }))
+abbrev pub name_of : Result Number Refusal → Result Name Refusal
+name_of (Err r) = Err r
+name_of (Ok n) = Ok (record { value = Some n.value; next = n.next })
+
+abbrev pub name_at : List ℕ → ℕ → ℕ → Result Name Refusal
+name_at s parent at = cond (has_names parent) (name_of (var_uint_at NotIon s at)) (Ok (record { value = None; next = at }))
 
 abbrev pub head_in : List ℕ → ℕ → ℕ → Result Header Refusal
 head_in s parent at = cond (is_stream parent) (top_header_at s at) (header_at NotIon s at)
@@ -55,7 +60,7 @@ abbrev pub filled : List ℕ → ℕ → ℕ → Result Header Refusal → Resul
 filled s from to (Err r) = Err r
 filled s from to (Ok h) =
     cond (is_pad h.kind || (is_wrapper h.kind || not (eqb h.stop (length s)))) (Err NotIon)
-    (Ok (record { sids = from; sids_end = to; kind = h.kind; start = h.start; stop = h.stop }))
+    (Ok (record { sids = from; sids_end = to; header = h }))
 
 -- at least one sid; the sids end where their length says
 abbrev pub annotated : List ℕ → Result Number Refusal → Result Wrapped Refusal
@@ -73,7 +78,7 @@ abbrev pub unwrapped : List ℕ → Result Header Refusal → Result Wrapped Ref
 unwrapped s (Err r) = Err r
 unwrapped s (Ok h) =
     cond (is_wrapper h.kind) (wrapped_at (take h.stop s) h.start)
-    (Ok (record { sids = h.start; sids_end = h.start; kind = h.kind; start = h.start; stop = h.stop }))
+    (Ok (record { sids = h.start; sids_end = h.start; header = h }))
 
 -- ---- the content
 
@@ -81,13 +86,17 @@ unwrapped s (Ok h) =
 abbrev pub reads : ℕ → List ℕ → Bool
 reads b body = is_pad b || (is_marker b || (opens b || is_some (scalar_in b body)))
 
--- in a sorted struct a name may repeat but not fall, a pad's aside
-abbrev pub falls : ℕ → ℕ → ℕ → ℕ → Bool
-falls parent least b name = is_sorted_struct parent && (not (is_pad b) && ltb name least)
+abbrev pub is_below : ℕ → Option ℕ → Bool
+is_below least None = false
+is_below least (Some name) = ltb name least
 
--- the least name that may follow
-abbrev pub raised : ℕ → ℕ → ℕ → ℕ
-raised least b name = cond (is_pad b) least name
+-- in a sorted struct a name may repeat but not fall, a pad's aside
+abbrev pub falls : ℕ → ℕ → ℕ → Option ℕ → Bool
+falls parent least b name = is_sorted_struct parent && (not (is_pad b) && is_below least name)
+
+-- the least name that may follow: 0 where items have none
+abbrev pub raised : ℕ → ℕ → Option ℕ → ℕ
+raised least b name = cond (is_pad b) least (unwrap_or name 0)
 
 -- document 01: a state has room for 32
 abbrev pub most_open : ℕ
@@ -97,14 +106,14 @@ most_open = 32
 abbrev pub Found : Type 0
 Found = Result (Option Item) Refusal
 
-abbrev pub judged : List ℕ → ℕ → ℕ → ℕ → ℕ → Result Wrapped Refusal → Found
+abbrev pub judged : List ℕ → ℕ → ℕ → ℕ → Option ℕ → Result Wrapped Refusal → Found
 judged s parent least depth name (Err r) = Err r
 judged s parent least depth name (Ok w) =
-    cond (falls parent least w.kind name || not (reads w.kind (slice w.start w.stop s))) (Err NotIon)
-    (cond (opens w.kind && leb most_open depth) (Err TooDeep)
-    (Ok (Some (record { name = name; sids = w.sids; sids_end = w.sids_end; kind = w.kind; start = w.start; stop = w.stop }))))
+    cond (falls parent least w.header.kind name || not (reads w.header.kind (slice w.header.start w.header.stop s))) (Err NotIon)
+    (cond (opens w.header.kind && leb most_open depth) (Err TooDeep)
+    (Ok (Some (record { name = name; held = w }))))
 
-abbrev pub named : List ℕ → ℕ → ℕ → ℕ → Result Number Refusal → Found
+abbrev pub named : List ℕ → ℕ → ℕ → ℕ → Result Name Refusal → Found
 named s parent least depth (Err r) = Err r
 named s parent least depth (Ok n) = judged s parent least depth n.value (unwrapped s (head_in s parent n.next))
 

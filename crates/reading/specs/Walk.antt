@@ -1,6 +1,7 @@
 -- The walk (document 02, Item 1): the items from a place to the end of the bytes, containers entered, up to the first header that does not read;
 -- and what a reading is as a list of such events.
 -- Assumes nothing.
+use Rattle.std.specs.Prelude as Std
 use Rattle.std.specs.Prelude.{ℕ, zero, suc, ◌+◌, cond, List, [], ◌∷◌, ◌++◌, ltb, leb, length, take, Result, Ok, Err, Some, None}
 use Rattle.std.proofs.Math.Option.{Option, none, some}
 use Rattle.std.proofs.Math.Seq.{slice}
@@ -12,7 +13,7 @@ use Rattle.reading.specs.declared.Refusal.TheVariants.{PastTheEnd}
 use Rattle.reading.specs.declared.Item.{Item}
 use Rattle.reading.specs.declared.Stopped.{Stopped}
 use Rattle.reading.specs.Scalars.{scalar_in, sids_of}
-use Rattle.reading.specs.Items.{has_names, is_marker, opens, raised, Found, item_at}
+use Rattle.reading.specs.Items.{is_marker, opens, raised, Found, item_at}
 
 -- ---- events: what a walk shows, in the order of the stream
 
@@ -94,8 +95,9 @@ abbrev pub shows : List Event → Walk
 shows es = (es, Ok tt)
 
 -- the name of an item, which only a struct's have
-abbrev pub name_in : ℕ → ℕ → Option ℕ
-name_in parent name = cond (has_names parent) (some name) none
+abbrev pub name_shown : Std.Option ℕ → Option ℕ
+name_shown None = none
+name_shown (Some name) = some name
 
 -- the annotations that these sids are
 abbrev pub annotations : Option (List ℕ) → List ℕ
@@ -117,16 +119,19 @@ abbrev pub container_walk : ℕ → Option ℕ → List ℕ → Walk → Walk
 container_walk b name an inner = shows (begins name an (container_type b) ∷ []) and_then (inner and_then shows (ends ∷ []))
 
 -- what an item shows: itself, or, given how to go on from a place, all that it holds
-abbrev pub item_walk : (List ℕ → ℕ → ℕ → ℕ → ℕ → Walk) → List ℕ → ℕ → ℕ → Item → Walk
-item_walk go s parent depth i =
-    cond (opens i.kind)
-    (container_walk i.kind (name_in parent i.name) (annotations (sids_of (slice i.sids i.sids_end s))) (go (take i.stop s) i.kind 0 (depth + 1) i.start))
-    (leaf_walk i.kind (name_in parent i.name) (annotations (sids_of (slice i.sids i.sids_end s))) (slice i.start i.stop s))
+abbrev pub item_walk : (List ℕ → ℕ → ℕ → ℕ → ℕ → Walk) → List ℕ → ℕ → Item → Walk
+item_walk go s depth i =
+    let w = i.held in
+    let h = w.header in
+    cond (opens h.kind)
+    (container_walk h.kind (name_shown i.name) (annotations (sids_of (slice w.sids w.sids_end s))) (go (take h.stop s) h.kind 0 (depth + 1) h.start))
+    (leaf_walk h.kind (name_shown i.name) (annotations (sids_of (slice w.sids w.sids_end s))) (slice h.start h.stop s))
 
 abbrev pub step_walk : (List ℕ → ℕ → ℕ → ℕ → ℕ → Walk) → List ℕ → ℕ → ℕ → ℕ → ℕ → Found → Walk
 step_walk go s parent least depth at (Ok None) = shows []
 step_walk go s parent least depth at (Err r) = ([], refused r at)
-step_walk go s parent least depth at (Ok (Some i)) = item_walk go s parent depth i and_then go s parent (raised least i.kind i.name) depth i.stop
+step_walk go s parent least depth at (Ok (Some i)) =
+    item_walk go s depth i and_then go s parent (raised least i.held.header.kind i.name) depth i.held.header.stop
 
 -- from a place, with the parent, the least name and the open containers as `item_at` has them; f bounds the items
 unfoldable pub walk_from : ℕ → List ℕ → ℕ → ℕ → ℕ → ℕ → Walk

@@ -1,8 +1,13 @@
 // What a reader answers, by value. What it answers when is defined in specs/; a refusal's number is the one thing that is computed here.
 #![tactic(auto)]
 
-ghost use Rattle.std.specs.Prelude.{◌≡◌};
+ghost use Rattle.std.specs.Prelude.{◌≡◌, ◌+◌, ◌%◌};
 ghost use Rattle.reading.specs.Refusals.{number};
+
+pub mod codes;
+
+// Containers that may be open at once.
+pub const MOST_OPEN: u8 = 32;
 
 // Why a reader stops (document 02, Item 1). The definition `number` gives each its number.
 #[derive(Clone, Copy, Debug, PartialEq, Eq)]
@@ -33,6 +38,13 @@ pub struct Number {
     pub next: usize,
 }
 
+// The name of an item, none where its holder's items have no names, and the place behind it.
+#[derive(Clone, Copy, Debug, PartialEq, Eq)]
+pub struct Name {
+    pub value: Option<u64>,
+    pub next: usize,
+}
+
 // A type byte, and where its body starts and stops.
 #[derive(Clone, Copy, Debug, PartialEq, Eq)]
 pub struct Header {
@@ -47,21 +59,15 @@ pub struct Header {
 pub struct Wrapped {
     pub sids: usize,
     pub sids_end: usize,
-    pub kind: u8,
-    pub start: usize,
-    pub stop: usize,
+    pub header: Header,
 }
 
-// What stands at a place: its name (0 where there are none), its annotations' sids, its type byte and its body. The next item stands at `stop`.
-// A NOP pad has a type byte below 0F; a version marker has E0 and no body.
+// What stands at a place: its name, in a struct, and behind that its annotations' sids, its type byte and its body. The next item stands where the
+// body stops. A NOP pad has a type byte below 0F; a version marker has E0 and no body.
 #[derive(Clone, Copy, Debug, PartialEq, Eq)]
 pub struct Item {
-    pub name: u64,
-    pub sids: usize,
-    pub sids_end: usize,
-    pub kind: u8,
-    pub start: usize,
-    pub stop: usize,
+    pub name: Option<u64>,
+    pub held: Wrapped,
 }
 
 // What holds items: its type byte (0 for the stream itself), the least name that may follow in it, and how many containers are open.
@@ -70,6 +76,26 @@ pub struct Holder {
     pub kind: u8,
     pub least: u64,
     pub depth: u8,
+}
+
+impl Holder {
+    // The stream itself: no container has its type byte, and nothing is open.
+    pub const STREAM: Holder = Holder {
+        kind: 0,
+        least: 0,
+        depth: 0,
+    };
+
+    // A container of this type byte that stands in it. C may give any depth, so the sum wraps; a container is entered only where fewer than 32 are open.
+    pub fn inside(self, kind: u8) -> Holder
+        ensures { (result.kind ≡ kind) × ((result.least ≡ 0) × (result.depth ≡ (self.depth + 1) % 256)) }
+    {
+        Holder {
+            kind,
+            least: 0,
+            depth: self.depth.wrapping_add(1),
+        }
+    }
 }
 
 // Where a walk stopped: at an item that it does not read, by its place.
@@ -102,6 +128,7 @@ pub struct Offset {
 }
 
 // How many UTC fields a timestamp has, from the year down, and the fields, 0 where there is none.
+// The count is a number, and no enum of precisions: one to six fields stand in a body, four of them too, an hour without minute, before they are refused.
 #[derive(Clone, Copy, Debug, PartialEq, Eq)]
 pub struct Fields {
     pub count: u8,
@@ -129,6 +156,7 @@ pub struct Timestamp {
 }
 
 // What the reader shows of a timestamp's body: the timestamp, and beside it the out-of-calendar mark (document 02, Item 2).
+// The mark says something of the timestamp, and not whether there is one.
 #[derive(Clone, Copy, Debug, PartialEq, Eq)]
 pub struct Shown {
     pub timestamp: Timestamp,

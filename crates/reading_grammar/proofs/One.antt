@@ -48,7 +48,7 @@ pub record OneFound (b : List ℕ) (v : Value) : Type 0 where
   pub good : reads kind body ≡ true
   pub unwraps : (out : Refusal) (s : List ℕ) (at : ℕ) (r : List ℕ) (from to start stop : ℕ) → from ≡ at + length x
       → to ≡ from + length names → start ≡ to + length y → stop ≡ start + length body
-      → Rest s at (b ++ r) → unwrapped s (header_at out s at) ≡ Ok (record { sids = from; sids_end = to; kind = kind; start = start; stop = stop })
+      → Rest s at (b ++ r) → unwrapped s (header_at out s at) ≡ Ok (record { sids = from; sids_end = to; header = record { kind = kind; start = start; stop = stop } })
   pub walks : (t : List ℕ) (start f depth : ℕ) (name : Option ℕ) → Rest t start body → length body < f → depth + tree_depth v ≤ 32
       → content_walk f t depth name an kind start body ≡ shows (tree_events name v)
 
@@ -100,7 +100,7 @@ module _ (h l n b an : List ℕ) (a : ℕ) (v : Value) (hd : Header annotation_c
   -- the wrapper's body, of which t is the end: its value is found
   pub wrapped_found : (t : List ℕ) (at from to start stop : ℕ) → from ≡ at + length l → to ≡ from + length n
       → start ≡ to + length w.header → stop ≡ start + length w.body → length t ≡ stop
-      → Rest t at (l ++ (n ++ b)) → wrapped_at t at ≡ Ok (record { sids = from; sids_end = to; kind = w.kind; start = start; stop = stop })
+      → Rest t at (l ++ (n ++ b)) → wrapped_at t at ≡ Ok (record { sids = from; sids_end = to; header = record { kind = w.kind; start = start; stop = stop } })
   unfolding wrapped_at
   wrapped_found t at from to start stop p q i j len x =
       let y : Rest t from (n ++ b) = rest-next l (n ++ b) from p x in

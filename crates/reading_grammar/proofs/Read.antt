@@ -1,12 +1,14 @@
 -- A walk that comes to its end shows a reading: by recursion over the fuel.
 -- Assumes nothing.
-use Rattle.std.specs.Prelude.{Ok, Err, Some, None}
+use Rattle.std.specs.Prelude.{Ok, Err, Option, Some, None}
+use Rattle.reading.specs.Headers.{var_uint_at}
 use Rattle.reading.specs.Items.{Found}
 use Prim.Native.Nat.{ℕ, zero, suc, ◌+◌, ◌≤◌, ◌<◌}
 use native.Mathlib.Omega.{arith}
 use mathlib.Core.Path.{◌≡◌, refl, sym, ◌∙◌, ap, subst}
 use mathlib.Core.Bool.{Bool, true, false, cond}
 use mathlib.Core.List.{List, [], ◌∷◌, ◌++◌}
+use mathlib.Core.Option as Math
 use mathlib.Core.Option.{none, some}
 use lib.Dec.{ltb, leb}
 use lib.ListN.{length, drop, length-append, length-drop}
@@ -22,13 +24,13 @@ use Rattle.reading.specs.declared.Refusal.TheVariants.{NotIon}
 use Rattle.reading.specs.Items.{is_pad, is_stream, has_names, is_sorted_struct, falls, raised, item_at}
 use Rattle.reading.specs.Walk as Shown
 use Rattle.reading.specs.Walk.{Event, leaf, begins, ends, tree_events, member_events, field_events, stream_events, tree_depth, members_depth, fields_depth}
-use Rattle.reading.specs.Walk.{stream_depth, higher, Walk, before, ◌and_then◌, shows, name_in, container_type, leaf_walk, container_walk, item_walk}
+use Rattle.reading.specs.Walk.{stream_depth, higher, Walk, before, ◌and_then◌, shows, name_shown, container_type, leaf_walk, container_walk, item_walk}
 use Rattle.reading.specs.Walk.{step_walk, walk_from, walk_in, walk}
 use Rattle.reading_grammar.specs.Exact.{WalkIsReading}
 use Rattle.reading_grammar.proofs.Tests.{contrary}
 use Rattle.reading_grammar.proofs.Places.{Rest, rest-length, rest-next}
 use Rattle.reading_grammar.proofs.Numbers.{found_number}
-use Rattle.reading_grammar.proofs.Items.{item_judged, headed_here, item_end}
+use Rattle.reading_grammar.proofs.Items.{item_judged, headed_here, unnamed, number_of, item_end}
 use Rattle.reading_grammar.proofs.Values.{then_whole, MembersRead, FieldsRead, MembersSound, FieldsSound, ItemRead, a_pad}
 use Rattle.reading_grammar.proofs.Values.{a_value, a_marker, item_read}
 
@@ -44,13 +46,17 @@ pub nothing_left : {s : List ℕ} {at : ℕ} (b : List ℕ) → Rest s at b → 
 nothing_left [] x e = refl
 nothing_left (a ∷ b) x e = absurd (omega (arith, rest-length x))
 
+-- an item read with another name
+with_name : {s : List ℕ} {parent depth next stop k : ℕ} {m n : Math.Option ℕ} {es : List Event} → m ≡ n
+    → ItemRead s parent depth next stop k m es → ItemRead s parent depth next stop k n es
+with_name {s} {parent} {depth} {next} {stop} {k} {m} {n} {es} e d = subst (λ (x : Math.Option ℕ). ItemRead s parent depth next stop k x es) e d
+
 -- the members from an item on, given those behind it
-members_item : (s : List ℕ) (parent depth at stop k name : ℕ) (b : List ℕ) (es ws : List Event) → has_names parent ≡ false
-    → is_stream parent ≡ false → Rest s at b
-    → ItemRead s parent depth at stop k (name_in parent name) es
+members_item : (s : List ℕ) (parent depth at stop k : ℕ) (b : List ℕ) (es ws : List Event) → is_stream parent ≡ false → Rest s at b
+    → ItemRead s parent depth at stop k none es
     → ((r : List ℕ) → Rest s stop r → length r < length b → MembersRead r depth ws) → MembersRead b depth (es ++ ws)
 unfolding member_events members_depth
-members_item s parent depth at stop k name b es ws n ns x (a_pad p r y e pos rd pd z) ih =
+members_item s parent depth at stop k b es ws ns x (a_pad p r y e pos rd pd z) ih =
     let q : b ≡ p ++ r = rest_unique x y in
     let m = ih r (rest-next p r stop e y) (omega (arith, ap length q, length-append p r)) in
     record {
@@ -59,29 +65,28 @@ members_item s parent depth at stop k name b es ws n ns x (a_pad p r y e pos rd 
       shallow = m.shallow;
       shown = ap (λ (u : List Event). u ++ ws) z ∙ m.shown;
     }
-members_item s parent depth at stop k name b es ws n ns x (a_value p r v y e pos rd pd sh z) ih =
+members_item s parent depth at stop k b es ws ns x (a_value p r v y e pos rd pd sh z) ih =
     let q : b ≡ p ++ r = rest_unique x y in
     let m = ih r (rest-next p r stop e y) (omega (arith, ap length q, length-append p r)) in
-    let z' : es ≡ tree_events none v = rw n at z in
     record {
       vs = member v m.vs;
       reading = subst (λ (u : List ℕ). u ⟶ members (member v m.vs)) (sym q) (members-next rd m.reading);
       shallow = higher-both (tree_depth v) (members_depth m.vs) depth sh m.shallow;
-      shown = ap (λ (u : List Event). u ++ ws) z' ∙ ap (λ (u : List Event). tree_events none v ++ u) m.shown;
+      shown = ap (λ (u : List Event). u ++ ws) z ∙ ap (λ (u : List Event). tree_events none v ++ u) m.shown;
     }
-members_item s parent depth at stop k name b es ws n ns x (a_marker r y e st pd z) ih = contrary ns st
+members_item s parent depth at stop k b es ws ns x (a_marker r y e st pd z) ih = contrary ns st
 
-not_fallen : (parent least k name : ℕ) → falls parent least k name ≡ false → is_pad k ≡ false → is_sorted_struct parent ≡ true → leb least name ≡ true
+not_fallen : (parent least k name : ℕ) → falls parent least k (Some name) ≡ false → is_pad k ≡ false → is_sorted_struct parent ≡ true → leb least name ≡ true
 not_fallen parent least k name up pd g = le-leb least name (ltb-false name least (rw (g, pd) at up))
 
 -- the fields from an item on, behind its name l, given those behind it
-fields_item : (s : List ℕ) (parent least depth next stop k name : ℕ) (l m : List ℕ) (es ws : List Event) → has_names parent ≡ true
-    → is_stream parent ≡ false → falls parent least k name ≡ false → VarUInt l name → Rest s next m
-    → ItemRead s parent depth next stop k (name_in parent name) es
-    → ((r : List ℕ) → Rest s stop r → length r < length m → FieldsRead r parent (raised least k name) depth ws)
+fields_item : (s : List ℕ) (parent least depth next stop k name : ℕ) (l m : List ℕ) (es ws : List Event)
+    → is_stream parent ≡ false → falls parent least k (Some name) ≡ false → VarUInt l name → Rest s next m
+    → ItemRead s parent depth next stop k (some name) es
+    → ((r : List ℕ) → Rest s stop r → length r < length m → FieldsRead r parent (raised least k (Some name)) depth ws)
     → FieldsRead (l ++ m) parent least depth (es ++ ws)
 unfolding field_events fields_depth
-fields_item s parent least depth next stop k name l m es ws n ns up v x (a_pad p r y e pos rd pd z) ih =
+fields_item s parent least depth next stop k name l m es ws ns up v x (a_pad p r y e pos rd pd z) ih =
     let q : m ≡ p ++ r = rest_unique x y in
     let d = ih r (rest-next p r stop e y) (omega (arith, ap length q, length-append p r)) in
     record {
@@ -91,18 +96,17 @@ fields_item s parent least depth next stop k name l m es ws n ns up v x (a_pad p
       shown = ap (λ (u : List Event). u ++ ws) z ∙ d.shown;
       rises = λ g. ap (λ (u : Bool). sorted (cond u least name) d.fs) (sym pd) ∙ d.rises g;
     }
-fields_item s parent least depth next stop k name l m es ws n ns up v x (a_value p r w y e pos rd pd sh z) ih =
+fields_item s parent least depth next stop k name l m es ws ns up v x (a_value p r w y e pos rd pd sh z) ih =
     let q : m ≡ p ++ r = rest_unique x y in
     let d = ih r (rest-next p r stop e y) (omega (arith, ap length q, length-append p r)) in
-    let z' : es ≡ tree_events (some name) w = rw n at z in
     record {
       fs = field name w d.fs;
       reading = subst (λ (u : List ℕ). (l ++ u) ⟶ fields (field name w d.fs)) (sym q) (fields-next l v rd d.reading);
       shallow = higher-both (tree_depth w) (fields_depth d.fs) depth sh d.shallow;
-      shown = ap (λ (u : List Event). u ++ ws) z' ∙ ap (λ (u : List Event). tree_events (some name) w ++ u) d.shown;
+      shown = ap (λ (u : List Event). u ++ ws) z ∙ ap (λ (u : List Event). tree_events (some name) w ++ u) d.shown;
       rises = λ g. and-true (not_fallen parent least k name up pd g) (ap (λ (u : Bool). sorted (cond u least name) d.fs) (sym pd) ∙ d.rises g);
     }
-fields_item s parent least depth next stop k name l m es ws n ns up v x (a_marker r y e st pd z) ih = contrary ns st
+fields_item s parent least depth next stop k name l m es ws ns up v x (a_marker r y e st pd z) ih = contrary ns st
 
 module _ (f : ℕ) (ihm : MembersSound f) (ihf : FieldsSound f) where
   members_step : (s : List ℕ) (parent least depth at : ℕ) (b : List ℕ) → has_names parent ≡ false → is_stream parent ≡ false → depth ≤ 32
@@ -116,18 +120,18 @@ module _ (f : ℕ) (ihm : MembersSound f) (ihf : FieldsSound f) where
   members_step s parent least depth at b n ns le x size (Ok (Some i)) q e =
       let j = item_judged s parent least depth at i q in
       let t =
-      then_whole (item_walk (λ t p l d m. walk_from f t p l d m) s parent depth i)
-      (walk_from f s parent (raised least i.kind i.name) depth i.stop) e in
+      then_whole (item_walk (λ t p l d m. walk_from f t p l d m) s depth i)
+      (walk_from f s parent (raised least i.held.header.kind i.name) depth i.held.header.stop) e in
       let here : at ≡ j.next = headed_here j n in
       let d =
       item_read f ihm ihf s parent least depth at i j le (omega (arith, rest-length x)) (omega arith)
       (omega (arith, j.inside)) t.0 in
       subst (λ (es : List Event). MembersRead b depth es) (sym t.2)
-      (members_item s parent depth j.next i.stop i.kind i.name b
-      (item_walk (λ t p l d m. walk_from f t p l d m) s parent depth i).0
-      (walk_from f s parent (raised least i.kind i.name) depth i.stop).0 n ns
-      (subst (λ (m : ℕ). Rest s m b) here x) d
-      (λ r y lt. ihm s parent (raised least i.kind i.name) depth i.stop r n ns le y (omega arith) t.1))
+      (members_item s parent depth j.next i.held.header.stop i.held.header.kind b
+      (item_walk (λ t p l d m. walk_from f t p l d m) s depth i).0
+      (walk_from f s parent (raised least i.held.header.kind i.name) depth i.held.header.stop).0 ns
+      (subst (λ (m : ℕ). Rest s m b) here x) (with_name (ap name_shown (unnamed j n)) d)
+      (λ r y lt. ihm s parent (raised least i.held.header.kind i.name) depth i.held.header.stop r n ns le y (omega arith) t.1))
 
   fields_step : (s : List ℕ) (parent least depth at : ℕ) (b : List ℕ) → has_names parent ≡ true → is_stream parent ≡ false → depth ≤ 32
       → Rest s at b → length b < suc f
@@ -146,9 +150,10 @@ module _ (f : ℕ) (ihm : MembersSound f) (ihf : FieldsSound f) where
   fields_step s parent least depth at b n ns le x size (Ok (Some i)) q e =
       let j = item_judged s parent least depth at i q in
       let t =
-      then_whole (item_walk (λ t p l d m. walk_from f t p l d m) s parent depth i)
-      (walk_from f s parent (raised least i.kind i.name) depth i.stop) e in
-      let v = found_number NotIon s at (record { value = i.name; next = j.next }) (rw n at j.named) in
+      then_whole (item_walk (λ t p l d m. walk_from f t p l d m) s depth i)
+      (walk_from f s parent (raised least i.held.header.kind i.name) depth i.held.header.stop) e in
+      let k = number_of (record { value = i.name; next = j.next }) (var_uint_at NotIon s at) (rw n at j.named) in
+      let v = found_number NotIon s at (record { value = k.0; next = j.next }) k.2 in
       let x' : Rest s at (v.front ++ v.rest) = record { within = x.within; is = v.joins } in
       let y : Rest s j.next v.rest = rest-next v.front v.rest j.next v.ends x' in
       let c : b ≡ v.front ++ v.rest = rest_unique x x' in
@@ -156,13 +161,16 @@ module _ (f : ℕ) (ihm : MembersSound f) (ihf : FieldsSound f) where
       item_read f ihm ihf s parent least depth at i j le (omega (arith, rest-length x)) (omega (arith, v.ends))
       y.within t.0 in
       subst (λ (es : List Event). FieldsRead b parent least depth es) (sym t.2)
-      (subst (λ (u : List ℕ). FieldsRead u parent least depth ((item_walk (λ t p l d m. walk_from f t p l d m) s parent depth i).0
-      ++ (walk_from f s parent (raised least i.kind i.name) depth i.stop).0)) (sym c)
-      (fields_item s parent least depth j.next i.stop i.kind i.name v.front v.rest
-      (item_walk (λ t p l d m. walk_from f t p l d m) s parent depth i).0
-      (walk_from f s parent (raised least i.kind i.name) depth i.stop).0
-      n ns j.rises v.reads y d
-      (λ r z lt. ihf s parent (raised least i.kind i.name) depth i.stop r n ns le z (omega (arith, ap length c, length-append v.front v.rest)) t.1)))
+      (subst (λ (u : List ℕ). FieldsRead u parent least depth ((item_walk (λ t p l d m. walk_from f t p l d m) s depth i).0
+      ++ (walk_from f s parent (raised least i.held.header.kind i.name) depth i.held.header.stop).0)) (sym c)
+      (fields_item s parent least depth j.next i.held.header.stop i.held.header.kind k.0 v.front v.rest
+      (item_walk (λ t p l d m. walk_from f t p l d m) s depth i).0
+      (walk_from f s parent (raised least i.held.header.kind i.name) depth i.held.header.stop).0
+      ns (subst (λ (m : Option ℕ). falls parent least i.held.header.kind m ≡ false) k.1 j.rises) v.reads y (with_name (ap name_shown k.1) d)
+      (λ r z lt. subst (λ (m : Option ℕ). FieldsRead r parent (raised least i.held.header.kind m) depth
+      (walk_from f s parent (raised least i.held.header.kind i.name) depth i.held.header.stop).0) k.1
+      (ihf s parent (raised least i.held.header.kind i.name) depth i.held.header.stop r n ns le z (omega (arith, ap length c, length-append v.front v.rest))
+      t.1))))
 
 -- with enough fuel, walks over bodies that come to their end show readings
 pub bodies_sound : (f : ℕ) → MembersSound f × FieldsSound f
@@ -184,11 +192,11 @@ pub record StreamRead (b : List ℕ) (es : List Event) : Type 0 where
   pub shallow : stream_depth is ≤ 32
   pub shown : es ≡ stream_events is
 
-stream_item : (s : List ℕ) (at stop k name : ℕ) (b : List ℕ) (es ws : List Event) → Rest s at b
-    → ItemRead s 0 0 at stop k (name_in 0 name) es → ((r : List ℕ) → Rest s stop r → length r < length b → StreamRead r ws)
+stream_item : (s : List ℕ) (at stop k : ℕ) (b : List ℕ) (es ws : List Event) → Rest s at b
+    → ItemRead s 0 0 at stop k none es → ((r : List ℕ) → Rest s stop r → length r < length b → StreamRead r ws)
     → StreamRead b (es ++ ws)
 unfolding stream_events stream_depth
-stream_item s at stop k name b es ws x (a_pad p r y e pos rd pd z) ih =
+stream_item s at stop k b es ws x (a_pad p r y e pos rd pd z) ih =
     let q : b ≡ p ++ r = rest_unique x y in
     let m = ih r (rest-next p r stop e y) (omega (arith, ap length q, length-append p r)) in
     record {
@@ -197,7 +205,7 @@ stream_item s at stop k name b es ws x (a_pad p r y e pos rd pd z) ih =
       shallow = m.shallow;
       shown = ap (λ (u : List Event). u ++ ws) z ∙ m.shown;
     }
-stream_item s at stop k name b es ws x (a_value p r v y e pos rd pd sh z) ih =
+stream_item s at stop k b es ws x (a_value p r v y e pos rd pd sh z) ih =
     let q : b ≡ p ++ r = rest_unique x y in
     let m = ih r (rest-next p r stop e y) (omega (arith, ap length q, length-append p r)) in
     let h : 0 + higher (tree_depth v) (stream_depth m.is) ≤ 32 = higher-both (tree_depth v) (stream_depth m.is) 0 sh (omega (arith, m.shallow)) in
@@ -207,7 +215,7 @@ stream_item s at stop k name b es ws x (a_value p r v y e pos rd pd sh z) ih =
       shallow = omega (arith, h);
       shown = ap (λ (u : List Event). u ++ ws) z ∙ ap (λ (u : List Event). tree_events none v ++ u) m.shown;
     }
-stream_item s at stop k name b es ws x (a_marker r y e st pd z) ih =
+stream_item s at stop k b es ws x (a_marker r y e st pd z) ih =
     let q : b ≡ 0xE0 ∷ 0x01 ∷ 0x00 ∷ 0xEA ∷ r = rest_unique x y in
     let m = ih r (rest-next (0xE0 ∷ 0x01 ∷ 0x00 ∷ 0xEA ∷ []) r stop e y) (omega (arith, ap length q)) in
     record {
@@ -231,16 +239,16 @@ stream_step f ih s least at b x size (Ok None) q e =
     record { is = []; reading = rw (nothing_left b x (item_end s 0 least 0 at q)) stream_end; shallow = omega arith; shown = refl }
 stream_step f ih s least at b x size (Ok (Some i)) q e =
     let j = item_judged s 0 least 0 at i q in
-    let t = then_whole (item_walk (λ t p l d m. walk_from f t p l d m) s 0 0 i) (walk_from f s 0 (raised least i.kind i.name) 0 i.stop) e in
+    let t = then_whole (item_walk (λ t p l d m. walk_from f t p l d m) s 0 i) (walk_from f s 0 (raised least i.held.header.kind i.name) 0 i.held.header.stop) e in
     let here : at ≡ j.next = headed_here j refl in
     let d =
     item_read f (bodies_sound f).0 (bodies_sound f).1 s 0 least 0 at i j (omega arith)
     (omega (arith, rest-length x)) (omega arith) (omega (arith, j.inside)) t.0 in
     subst (λ (es : List Event). StreamRead b es) (sym t.2)
-    (stream_item s j.next i.stop i.kind i.name b (item_walk (λ t p l d m. walk_from f t p l d m) s 0 0 i).0
-    (walk_from f s 0 (raised least i.kind i.name) 0 i.stop).0
-    (subst (λ (m : ℕ). Rest s m b) here x) d
-    (λ r y lt. ih s (raised least i.kind i.name) i.stop r y (omega arith) t.1))
+    (stream_item s j.next i.held.header.stop i.held.header.kind b (item_walk (λ t p l d m. walk_from f t p l d m) s 0 i).0
+    (walk_from f s 0 (raised least i.held.header.kind i.name) 0 i.held.header.stop).0
+    (subst (λ (m : ℕ). Rest s m b) here x) (with_name (ap name_shown (unnamed j refl)) d)
+    (λ r y lt. ih s (raised least i.held.header.kind i.name) i.held.header.stop r y (omega arith) t.1))
 
 stream_sound : (f : ℕ) → StreamSound f
 unfolding walk_from

@@ -1,6 +1,6 @@
 -- One step of the walk, at a value, at a pad and at a version marker of the grammar.
 -- Assumes nothing.
-use Rattle.std.specs.Prelude.{Ok, Some}
+use Rattle.std.specs.Prelude.{Ok, Option, Some, None, unwrap_or}
 use Prim.Native.Nat.{ℕ, suc, ◌+◌, ◌/◌, ◌%◌, ◌≤◌, ◌<◌}
 use native.Mathlib.Omega.{arith}
 use mathlib.Core.Path.{◌≡◌, sym, ◌∙◌, ap}
@@ -17,8 +17,8 @@ use Rattle.reading.specs.declared.Refusal.{Refusal}
 use Rattle.reading.specs.declared.Refusal.TheVariants.{NotIon, CutShort}
 use Rattle.reading.specs.Headers.{header_at, marked, marker_at, top_header_at}
 use Rattle.reading.specs.Scalars.{code_from, body_of, scalar_in}
-use Rattle.reading.specs.Items.{is_pad, opens, is_sorted_struct, is_stream, name_at, head_in, item_at}
-use Rattle.reading.specs.Walk.{Event, marker, tree_events, tree_depth, shows, name_in, item_walk, walk_from}
+use Rattle.reading.specs.Items.{is_pad, opens, is_sorted_struct, is_stream, is_below, name_at, head_in, item_at}
+use Rattle.reading.specs.Walk.{Event, marker, tree_events, tree_depth, shows, name_shown, item_walk, walk_from}
 use Rattle.reading_grammar.proofs.Places.{Rest, rest-length, rest-next, rest-slice, rest_within, rest_head}
 use Rattle.reading_grammar.proofs.One.{OneFound, PadFound}
 
@@ -39,9 +39,9 @@ front_byte (a ∷ b) r h x = rest_head x
 not_deep : (k depth d : ℕ) → (opens k ≡ true → 0 < d) → depth + d ≤ 32 → (opens k && leb 32 depth) ≡ false
 not_deep k depth d g h = by_cases (opens k) (λ p. let z : 0 < d = g p in rw (p, lt-leb 32 depth (omega arith))) (λ p. rw p)
 
-module _ (s : List ℕ) (parent least depth at name next : ℕ) (b : List ℕ) (v : Value) (r : List ℕ) (w : OneFound b v)
+module _ (s : List ℕ) (parent least depth at : ℕ) (name : Option ℕ) (next : ℕ) (b : List ℕ) (v : Value) (r : List ℕ) (w : OneFound b v)
     (inside : at < length s) (named : name_at s parent at ≡ Ok (record { value = name; next = next }))
-    (x : Rest s next (b ++ r)) (rises : (is_sorted_struct parent && ltb name least) ≡ false)
+    (x : Rest s next (b ++ r)) (rises : (is_sorted_struct parent && is_below least name) ≡ false)
     (from to start stop : ℕ) (p : from ≡ next + length w.x) (q : to ≡ from + length w.names) (i : start ≡ to + length w.y)
     (j : stop ≡ start + length w.body) where
   apart : Rest s next (w.x ++ (w.names ++ (w.y ++ (w.body ++ r))))
@@ -63,7 +63,7 @@ module _ (s : List ℕ) (parent least depth at name next : ℕ) (b : List ℕ) (
 
   -- the item, where one more container may be open
   pub item_placed : (opens w.kind && leb 32 depth) ≡ false
-      → item_at s parent least depth at ≡ Ok (Some (record { name = name; sids = from; sids_end = to; kind = w.kind; start = start; stop = stop }))
+      → item_at s parent least depth at ≡ Ok (Some (record { name = name; held = record { sids = from; sids_end = to; header = record { kind = w.kind; start = start; stop = stop } } }))
   unfolding item_at
   item_placed low =
       rw (
@@ -79,20 +79,20 @@ module _ (s : List ℕ) (parent least depth at name next : ℕ) (b : List ℕ) (
         low,
       )
 
-module _ (s : List ℕ) (parent least depth at name next : ℕ) (b : List ℕ) (v : Value) (r : List ℕ) (w : OneFound b v)
+module _ (s : List ℕ) (parent least depth at : ℕ) (name : Option ℕ) (next : ℕ) (b : List ℕ) (v : Value) (r : List ℕ) (w : OneFound b v)
     (inside : at < length s) (named : name_at s parent at ≡ Ok (record { value = name; next = next }))
-    (x : Rest s next (b ++ r)) (rises : (is_sorted_struct parent && ltb name least) ≡ false) (shallow : depth + tree_depth v ≤ 32)
+    (x : Rest s next (b ++ r)) (rises : (is_sorted_struct parent && is_below least name) ≡ false) (shallow : depth + tree_depth v ≤ 32)
     (from to start stop : ℕ) (p : from ≡ next + length w.x) (q : to ≡ from + length w.names) (i : start ≡ to + length w.y)
     (j : stop ≡ start + length w.body) where
-  item_found : item_at s parent least depth at ≡ Ok (Some (record { name = name; sids = from; sids_end = to; kind = w.kind; start = start; stop = stop }))
+  item_found : item_at s parent least depth at ≡ Ok (Some (record { name = name; held = record { sids = from; sids_end = to; header = record { kind = w.kind; start = start; stop = stop } } }))
   item_found =
       item_placed s parent least depth at name next b v r w inside named x rises from to start stop p q i j
       (not_deep w.kind depth (tree_depth v) w.deep shallow)
 
   item_walks : (f : ℕ) → length b ≤ f
-      → item_walk (λ t k l d m. walk_from f t k l d m) s parent depth
-      (record { name = name; sids = from; sids_end = to; kind = w.kind; start = start; stop = stop })
-      ≡ shows (tree_events (name_in parent name) v)
+      → item_walk (λ t k l d m. walk_from f t k l d m) s depth
+      (record { name = name; held = record { sids = from; sids_end = to; header = record { kind = w.kind; start = start; stop = stop } } })
+      ≡ shows (tree_events (name_shown name) v)
   item_walks f h =
       let lt : length w.body < f =
       omega (
@@ -108,12 +108,12 @@ module _ (s : List ℕ) (parent least depth at name next : ℕ) (b : List ℕ) (
         w.known,
         body-slice s parent least depth at name next b v r w inside named x rises from to start stop p q i j,
       )
-      (w.walks (take stop s) start f depth (name_in parent name) (rest_within w.body r stop j
+      (w.walks (take stop s) start f depth (name_shown name) (rest_within w.body r stop j
       (body_here s parent least depth at name next b v r w inside named x rises from to start stop p q i j))
       lt shallow)
 
-  pub step_value : (f : ℕ) (es : List Event) → length b ≤ f → walk_from f s parent name depth stop ≡ shows es
-      → walk_from (suc f) s parent least depth at ≡ shows (tree_events (name_in parent name) v ++ es)
+  pub step_value : (f : ℕ) (es : List Event) → length b ≤ f → walk_from f s parent (unwrap_or name 0) depth stop ≡ shows es
+      → walk_from (suc f) s parent least depth at ≡ shows (tree_events (name_shown name) v ++ es)
   unfolding walk_from
   step_value f es h g = rw (item_found, item_walks f h, w.pad, g)
 
@@ -127,7 +127,7 @@ pad_shows-none k body e =
     let lo : k % 16 ≡ k = omega arith in
     rw (hi, lo, ne_eqb k 15 (λ q. omega arith))
 
-module _ (s : List ℕ) (parent least depth at name next : ℕ) (b r : List ℕ) (w : PadFound b) (inside : at < length s)
+module _ (s : List ℕ) (parent least depth at : ℕ) (name : Option ℕ) (next : ℕ) (b r : List ℕ) (w : PadFound b) (inside : at < length s)
     (named : name_at s parent at ≡ Ok (record { value = name; next = next })) (x : Rest s next (b ++ r))
     (stop : ℕ) (j : stop ≡ next + length b) where
   pad_byte : eqb (get_or s next 0) 0xE0 ≡ false
@@ -136,7 +136,7 @@ module _ (s : List ℕ) (parent least depth at name next : ℕ) (b r : List ℕ)
       (λ e. let h : w.kind < 15 = ltb-true w.kind 15 w.is.pad in omega (arith, front_byte b r w.pos x, w.byte, h))
 
   pub pad_item : item_at s parent least depth at
-      ≡ Ok (Some (record { name = name; sids = next + w.size; sids_end = next + w.size; kind = w.kind; start = next + w.size; stop = stop }))
+      ≡ Ok (Some (record { name = name; held = record { sids = next + w.size; sids_end = next + w.size; header = record { kind = w.kind; start = next + w.size; stop = stop } } }))
   unfolding item_at
   pad_item =
       rw (
@@ -159,12 +159,13 @@ module _ (s : List ℕ) (parent least depth at name next : ℕ) (b r : List ℕ)
 
 pub marker_item : {s : List ℕ} {at : ℕ} (least depth : ℕ) (b : List ℕ) → Rest s at (0xE0 ∷ 0x01 ∷ 0x00 ∷ 0xEA ∷ b)
     → item_at s 0 least depth at ≡ Ok (Some (record {
-      name = 0;
-      sids = at + 1 + 1 + 1 + 1;
-      sids_end = at + 1 + 1 + 1 + 1;
-      kind = 0xE0;
-      start = at + 1 + 1 + 1 + 1;
-      stop = at + 1 + 1 + 1 + 1;
+      name = None;
+      held =
+          record {
+            sids = at + 1 + 1 + 1 + 1;
+            sids_end = at + 1 + 1 + 1 + 1;
+            header = record { kind = 0xE0; start = at + 1 + 1 + 1 + 1; stop = at + 1 + 1 + 1 + 1 };
+          };
     }))
 unfolding item_at top_header_at marker_at marked
 marker_item {s} {at} least depth b x =

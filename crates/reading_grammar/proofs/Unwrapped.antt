@@ -37,10 +37,6 @@ sids_none : {l an : List ℕ} → l ⟶ sids an → an ≡ [] → length l ≡ 0
 sids_none sids_end e = refl
 sids_none (sids_next l {b} {an} {a} v r) e = absurd (let z : ◌≡◌ {A = ℕ} 0 1 = cc in omega arith)
 
--- what a wrapper holds, without its sids
-abbrev headed_by : Wrapped → Head
-headed_by w = record { kind = w.kind; start = w.start; stop = w.stop }
-
 -- the wrapper's body, from `at` to the end of t: the length l of the sids n, and the one value's bytes b
 record Wrapping (t : List ℕ) (at : ℕ) (w : Wrapped) : Type 0 where
   l : List ℕ
@@ -53,10 +49,10 @@ record Wrapping (t : List ℕ) (at : ℕ) (w : Wrapped) : Type 0 where
   stops : w.sids_end ≡ w.sids + length n
   known : sids_of n ≡ some an
   some_sid : an ≢ []
-  headed : header_at NotIon t w.sids_end ≡ Ok (headed_by w)
-  pad : is_pad w.kind ≡ false
-  wrapper : is_wrapper w.kind ≡ false
-  ends : w.stop ≡ length t
+  headed : header_at NotIon t w.sids_end ≡ Ok w.header
+  pad : is_pad w.header.kind ≡ false
+  wrapper : is_wrapper w.header.kind ≡ false
+  ends : w.header.stop ≡ length t
 
 module _ (t : List ℕ) (at : ℕ) (w : Wrapped) where
   wrapping_filled : (l n b an : List ℕ) (i j : ℕ) → Rest t at (l ++ (n ++ b)) → VarUInt l (length n) → i ≡ at + length l → j ≡ i + length n
@@ -69,7 +65,7 @@ module _ (t : List ℕ) (at : ℕ) (w : Wrapped) where
       (λ m.
       let d = or_parts (is_pad h.kind) _ m in
       let g = or_parts (is_wrapper h.kind) _ d.1 in
-      let c : record { sids = i; sids_end = j; kind = h.kind; start = h.start; stop = h.stop } ≡ w = cc in
+      let c : record { sids = i; sids_end = j; header = h } ≡ w = cc in
       subst (λ (x : Wrapped). Wrapping t at x) c
       (record {
         l = l;
@@ -124,19 +120,19 @@ pub record Valued (s : List ℕ) (at : ℕ) (w : Wrapped) : Type 0 where
   pub tail : List ℕ
   pub body : List ℕ
   pub here : Rest s at (p ++ rest)
-  pub ends : w.stop ≡ at + length p
+  pub ends : w.header.stop ≡ at + length p
   pub shorter : length body < length p
   pub known : annotations (sids_of (slice w.sids w.sids_end s)) ≡ an
-  pub held : slice w.start w.stop s ≡ body
-  pub inner : Rest (take w.stop s) w.start body
-  pub possible : impossible (w.kind / 16) (w.kind % 16) ≡ false
-  pub framing : Framing w.kind (length body) tail
-  pub value : (v : Value) → (w.kind ∷ (tail ++ body)) ⟶ bare an v → p ⟶ one v
-  pub pad : is_pad w.kind ≡ true → p ≡ w.kind ∷ (tail ++ body)
+  pub held : slice w.header.start w.header.stop s ≡ body
+  pub inner : Rest (take w.header.stop s) w.header.start body
+  pub possible : impossible (w.header.kind / 16) (w.header.kind % 16) ≡ false
+  pub framing : Framing w.header.kind (length body) tail
+  pub value : (v : Value) → (w.header.kind ∷ (tail ++ body)) ⟶ bare an v → p ⟶ one v
+  pub pad : is_pad w.header.kind ≡ true → p ≡ w.header.kind ∷ (tail ++ body)
 
 -- a value as it stands: no sids
 abbrev as_it_stands : Head → Wrapped
-as_it_stands h = record { sids = h.start; sids_end = h.start; kind = h.kind; start = h.start; stop = h.stop }
+as_it_stands h = record { sids = h.start; sids_end = h.start; header = h }
 
 bare_valued : (s : List ℕ) (at : ℕ) (h : Head) → Framed s at h → Valued s at (as_it_stands h)
 unfolding sids_of var_uints
@@ -187,32 +183,32 @@ module _ (s : List ℕ) (at : ℕ) (h : Head) (f : Framed s at h) (wr : is_wrapp
   body_parts : f.body ≡ w.l ++ (w.n ++ w.b)
   body_parts = sym in_t.is ∙ w.here.is
 
-  ends_there : v.stop ≡ h.stop
+  ends_there : v.header.stop ≡ h.stop
   ends_there = w.ends ∙ rest-length in_t ∙ sym f.stops
 
-  inner_head : Framed (take h.stop s) v.sids_end (headed_by v)
-  inner_head = header_framed NotIon (take h.stop s) v.sids_end (headed_by v) w.headed
+  inner_head : Framed (take h.stop s) v.sids_end v.header
+  inner_head = header_framed NotIon (take h.stop s) v.sids_end v.header w.headed
 
   at_value : Rest (take h.stop s) v.sids_end w.b
   at_value = rest-next w.n w.b v.sids_end w.stops (rest-next w.l (w.n ++ w.b) v.sids w.starts w.here)
 
-  value_bytes : w.b ≡ v.kind ∷ (inner_head.tail ++ inner_head.body)
+  value_bytes : w.b ≡ v.header.kind ∷ (inner_head.tail ++ inner_head.body)
   value_bytes =
       let g = inner_head in
-      let e : w.b ≡ v.kind ∷ (g.tail ++ (g.body ++ g.rest)) = sym at_value.is ∙ g.here.is in
+      let e : w.b ≡ v.header.kind ∷ (g.tail ++ (g.body ++ g.rest)) = sym at_value.is ∙ g.here.is in
       let z : length (g.body ++ g.rest) ≡ length g.body =
       omega (arith, rest-length g.here, g.starts, g.stops, w.ends, length-append g.tail (g.body ++ g.rest)) in
       rw (nothing_left g.body g.rest z) at e
 
-  all_here : Rest s h.start (w.l ++ (w.n ++ (v.kind ∷ (inner_head.tail ++ (inner_head.body ++ f.rest)))))
+  all_here : Rest s h.start (w.l ++ (w.n ++ (v.header.kind ∷ (inner_head.tail ++ (inner_head.body ++ f.rest)))))
   all_here = simp append_assoc at (rw value_bytes at (rw body_parts at in_s))
 
-  body_there : Rest s v.start (inner_head.body ++ f.rest)
+  body_there : Rest s v.header.start (inner_head.body ++ f.rest)
   body_there =
       let g = inner_head in
-      rest-next (v.kind ∷ g.tail) (g.body ++ f.rest) v.start (omega (arith, g.starts))
-      (rest-next w.n (v.kind ∷ (g.tail ++ (g.body ++ f.rest))) v.sids_end w.stops
-      (rest-next w.l (w.n ++ (v.kind ∷ (g.tail ++ (g.body ++ f.rest)))) v.sids w.starts all_here))
+      rest-next (v.header.kind ∷ g.tail) (g.body ++ f.rest) v.header.start (omega (arith, g.starts))
+      (rest-next w.n (v.header.kind ∷ (g.tail ++ (g.body ++ f.rest))) v.sids_end w.stops
+      (rest-next w.l (w.n ++ (v.header.kind ∷ (g.tail ++ (g.body ++ f.rest)))) v.sids w.starts all_here))
 
   wrapped_valued : Valued s at v
   wrapped_valued =
@@ -237,12 +233,12 @@ module _ (s : List ℕ) (at : ℕ) (h : Head) (f : Framed s at h) (wr : is_wrapp
             );
         known =
             rw (
-              rest-slice w.n (v.kind ∷ (g.tail ++ (g.body ++ f.rest))) v.sids_end w.stops
-                  (rest-next w.l (w.n ++ (v.kind ∷ (g.tail ++ (g.body ++ f.rest)))) v.sids w.starts all_here),
+              rest-slice w.n (v.header.kind ∷ (g.tail ++ (g.body ++ f.rest))) v.sids_end w.stops
+                  (rest-next w.l (w.n ++ (v.header.kind ∷ (g.tail ++ (g.body ++ f.rest)))) v.sids w.starts all_here),
               w.known,
             );
-        held = rest-slice g.body f.rest v.stop g.stops body_there;
-        inner = rest_within g.body f.rest v.stop g.stops body_there;
+        held = rest-slice g.body f.rest v.header.stop g.stops body_there;
+        inner = rest_within g.body f.rest v.header.stop g.stops body_there;
         possible = g.possible;
         framing = g.framing;
         value = λ x r. rw body_parts

@@ -25,7 +25,7 @@ use Rattle.reading.specs.Scalars.{scalar_in}
 use Rattle.reading.specs.Items.{is_pad, is_marker, opens, is_stream, has_names, is_sorted_struct, reads, head_in, unwrapped}
 use Rattle.reading.specs.Walk as Shown
 use Rattle.reading.specs.Walk.{Event, leaf, begins, ends, tree_events, member_events, field_events, stream_events, tree_depth, members_depth, fields_depth}
-use Rattle.reading.specs.Walk.{stream_depth, higher, Walk, before, ◌and_then◌, shows, name_in, container_type, leaf_walk, container_walk, item_walk}
+use Rattle.reading.specs.Walk.{stream_depth, higher, Walk, before, ◌and_then◌, shows, name_shown, container_type, leaf_walk, container_walk, item_walk}
 use Rattle.reading.specs.Walk.{step_walk, walk_from, walk_in, walk}
 use Rattle.reading_grammar.proofs.Tests.{contrary, some_of}
 use Rattle.reading_grammar.proofs.Places.{Rest, rest-length}
@@ -33,7 +33,7 @@ use Rattle.reading_grammar.proofs.TypeBytes as K
 use Rattle.reading_grammar.proofs.Framing.{Framing}
 use Rattle.reading_grammar.proofs.Derived.{pad_reading, scalar_reading, Opening, opening, list_reading, sexp_reading, struct_reading}
 use Rattle.reading_grammar.proofs.Unwrapped.{Valued, found_value}
-use Rattle.reading_grammar.proofs.Items.{nameless, Judged, marked-bytes}
+use Rattle.reading_grammar.proofs.Items.{Judged, marked-bytes}
 use Rattle.reading_grammar.proofs.Steps.{out_in, pad_shows-none}
 
 -- ---- two walks in a row that come to their end
@@ -180,31 +180,31 @@ not_marker : (k : ℕ) → impossible (k / 16) (k % 16) ≡ false → is_marker 
 not_marker k can = ne_eqb k 0xE0 (λ e. contrary can (rw e))
 
 module _ (f : ℕ) (ihm : MembersSound f) (ihf : FieldsSound f) (s : List ℕ) (parent depth next : ℕ) (i : Item)
-    (w : Valued s next (nameless i))
-    (le : depth ≤ 32) (shallow : (opens i.kind && leb 32 depth) ≡ false) (good : reads i.kind (slice i.start i.stop s) ≡ true) (size : length w.p ≤ f) where
-  value_read : is_pad i.kind ≡ false → (item_walk (λ t p l d m. walk_from f t p l d m) s parent depth i).1 ≡ Ok tt
-      → BareRead (i.kind ∷ (w.tail ++ w.body)) w.an depth (name_in parent i.name)
-      (item_walk (λ t p l d m. walk_from f t p l d m) s parent depth i)
+    (w : Valued s next i.held)
+    (le : depth ≤ 32) (shallow : (opens i.held.header.kind && leb 32 depth) ≡ false) (good : reads i.held.header.kind (slice i.held.header.start i.held.header.stop s) ≡ true) (size : length w.p ≤ f) where
+  value_read : is_pad i.held.header.kind ≡ false → (item_walk (λ t p l d m. walk_from f t p l d m) s depth i).1 ≡ Ok tt
+      → BareRead (i.held.header.kind ∷ (w.tail ++ w.body)) w.an depth (name_shown i.name)
+      (item_walk (λ t p l d m. walk_from f t p l d m) s depth i)
   value_read p e =
-      by_cases (opens i.kind)
+      by_cases (opens i.held.header.kind)
       (λ q.
       let u : depth < 32 = leb-false 32 depth (rw q at shallow) in
       let lt : length w.body < f = omega (arith, w.shorter) in
       rw (q, w.known)
-      (container_read f ihm ihf w.an i.kind w.tail w.body w.framing (opening i.kind q) (take i.stop s) i.start depth (name_in parent i.name)
+      (container_read f ihm ihf w.an i.held.header.kind w.tail w.body w.framing (opening i.held.header.kind q) (take i.held.header.stop s) i.held.header.start depth (name_shown i.name)
       w.inner lt u (rw q at e)))
-      (λ q. rw (q, w.known, w.held) (leaf_read w.an i.kind w.tail w.body depth (name_in parent i.name) w.possible w.framing le p
-      (not_marker i.kind w.possible) q (rw w.held at good)))
+      (λ q. rw (q, w.known, w.held) (leaf_read w.an i.held.header.kind w.tail w.body depth (name_shown i.name) w.possible w.framing le p
+      (not_marker i.held.header.kind w.possible) q (rw w.held at good)))
 
-  value_item : (item_walk (λ t p l d m. walk_from f t p l d m) s parent depth i).1 ≡ Ok tt
-      → ItemRead s parent depth next i.stop i.kind (name_in parent i.name) (item_walk (λ t p l d m. walk_from f t p l d m) s parent depth i).0
+  value_item : (item_walk (λ t p l d m. walk_from f t p l d m) s depth i).1 ≡ Ok tt
+      → ItemRead s parent depth next i.held.header.stop i.held.header.kind (name_shown i.name) (item_walk (λ t p l d m. walk_from f t p l d m) s depth i).0
   value_item e =
-      by_cases (is_pad i.kind)
+      by_cases (is_pad i.held.header.kind)
       (λ p.
-      let c = K.padding i.kind (ltb-true i.kind 15 p) in
+      let c = K.padding i.held.header.kind (ltb-true i.held.header.kind 15 p) in
       a_pad w.p w.rest w.here w.ends (omega (arith, w.shorter))
-      (rw (w.pad p) (pad_reading i.kind w.tail w.body w.framing p)) p
-      (rw (c.shut, c.marker, pad_shows-none i.kind (slice i.start i.stop s) p)))
+      (rw (w.pad p) (pad_reading i.held.header.kind w.tail w.body w.framing p)) p
+      (rw (c.shut, c.marker, pad_shows-none i.held.header.kind (slice i.held.header.start i.held.header.stop s) p)))
       (λ p.
       let b = value_read p e in
       a_value w.p w.rest b.v w.here w.ends (omega (arith, w.shorter)) (w.value b.v b.reading) p b.shallow b.shown)
@@ -218,13 +218,13 @@ record MarkerFound (s : List ℕ) (next k stop : ℕ) : Type 0 where
   ends : stop ≡ next + 4
 
 marker-found : (s : List ℕ) (next : ℕ) (w : Wrapped) (o : Result Head Refusal) → marker_at s next ≡ o → unwrapped s o ≡ Ok w
-    → MarkerFound s next w.kind w.stop
+    → MarkerFound s next w.header.kind w.header.stop
 unfolding marker_at
 marker-found s next w (Err r) q e = cc
 marker-found s next w (Ok h) q e =
     let m = marked-bytes (0xE0 ∷ 0x01 ∷ 0x00 ∷ 0xEA ∷ []) next (drop next s) h q in
-    let k : 0xE0 ≡ w.kind = cc (m.2) in
-    let p : h.stop ≡ w.stop = cc (m.2) in
+    let k : 0xE0 ≡ w.header.kind = cc (m.2) in
+    let p : h.stop ≡ w.header.stop = cc (m.2) in
     record { rest = m.0; bytes = m.1; kind = sym k; ends = omega (arith, m.3) }
 
 stream_marker_head : (s : List ℕ) (parent next : ℕ) → (is_stream parent && eqb (get_or s next 0) 0xE0) ≡ true → head_in s parent next ≡ marker_at s next
@@ -239,14 +239,14 @@ other_head s parent next e = by_cases (is_stream parent) (λ p. rw (p, (rw p at 
 
 module _ (f : ℕ) (ihm : MembersSound f) (ihf : FieldsSound f) (s : List ℕ) (parent least depth at : ℕ) (i : Item) (j : Judged s parent least depth at i)
     (le : depth ≤ 32) (size : length s ≤ at + f) (after : at ≤ j.next) (within : j.next ≤ length s) where
-  pub item_read : (item_walk (λ t p l d m. walk_from f t p l d m) s parent depth i).1 ≡ Ok tt
-      → ItemRead s parent depth j.next i.stop i.kind (name_in parent i.name) (item_walk (λ t p l d m. walk_from f t p l d m) s parent depth i).0
+  pub item_read : (item_walk (λ t p l d m. walk_from f t p l d m) s depth i).1 ≡ Ok tt
+      → ItemRead s parent depth j.next i.held.header.stop i.held.header.kind (name_shown i.name) (item_walk (λ t p l d m. walk_from f t p l d m) s depth i).0
   item_read e =
       by_cases (is_stream parent && eqb (get_or s j.next 0) 0xE0)
       (λ p.
-      let m = marker-found s j.next (nameless i) (marker_at s j.next) refl (rw (stream_marker_head s parent j.next p) at j.unwraps) in
+      let m = marker-found s j.next i.held (marker_at s j.next) refl (rw (stream_marker_head s parent j.next p) at j.unwraps) in
       a_marker m.rest (record { within = within; is = m.bytes }) m.ends (both {a = is_stream parent} p).0 (rw m.kind) (rw m.kind))
       (λ p.
-      let w = found_value (out_in parent) s j.next (nameless i) (rw (other_head s parent j.next p) at j.unwraps) in
+      let w = found_value (out_in parent) s j.next i.held (rw (other_head s parent j.next p) at j.unwraps) in
       value_item f ihm ihf s parent depth j.next i w le j.shallow j.good
       (omega (arith, rest-length w.here, length-append w.p w.rest)) e)

@@ -1,6 +1,6 @@
 -- Every reading is what the walk shows: recursion over the grammar's productions.
 -- Assumes nothing.
-use Rattle.std.specs.Prelude.{Ok}
+use Rattle.std.specs.Prelude.{Ok, Option, Some, None, unwrap_or}
 use Rattle.reading.specs.Walk.{Ending, refused}
 use Prim.Native.Nat.{ℕ, zero, suc, ◌+◌, ◌≤◌, ◌<◌}
 use native.Mathlib.Omega.{arith}
@@ -22,9 +22,9 @@ use Rattle.ion.proofs.Tests.{by_cases, both}
 use Rattle.ion.proofs.Fields.{var_uint_pos}
 use Rattle.reading.specs.declared.Refusal.{Refusal}
 use Rattle.reading.specs.declared.Refusal.TheVariants.{NotIon}
-use Rattle.reading.specs.Items.{is_sorted_struct, has_names, name_at, item_at, most_open}
+use Rattle.reading.specs.Items.{is_sorted_struct, has_names, is_below, name_at, item_at, most_open}
 use Rattle.reading.specs.Walk.{Event, tree_events, member_events, field_events, stream_events, tree_depth, members_depth, fields_depth, stream_depth, higher}
-use Rattle.reading.specs.Walk.{Walk, shows, name_in, walk_from, walk_in, walk}
+use Rattle.reading.specs.Walk.{Walk, shows, name_shown, walk_from, walk_in, walk}
 use Rattle.reading_grammar.specs.Exact.{ReadingIsWalked}
 use Rattle.reading_grammar.proofs.Places.{Rest, rest-length, rest-next}
 use Rattle.reading_grammar.proofs.Numbers.{number-found, sids_found}
@@ -69,11 +69,11 @@ pub one_length : {b : List ℕ} {v : Value} → OneFound b v → 0 < length b
 one_length {b} w = omega (arith, ap length w.joins, length-append w.x (w.names ++ (w.y ++ w.body)), w.pos)
 
 -- a value behind its name, and all that follows
-value_step : (f : ℕ) (s : List ℕ) (parent least depth at name next : ℕ) (p b : List ℕ) (v : Value) (es : List Event) → OneFound p v
+value_step : (f : ℕ) (s : List ℕ) (parent least depth at : ℕ) (name : Option ℕ) (next : ℕ) (p b : List ℕ) (v : Value) (es : List Event) → OneFound p v
     → at < length s → name_at s parent at ≡ Ok (record { value = name; next = next }) → Rest s next (p ++ b)
-    → (is_sorted_struct parent && ltb name least) ≡ false → depth + tree_depth v ≤ 32 → length p ≤ f
-    → (Rest s (next + length p) b → walk_from f s parent name depth (next + length p) ≡ shows es)
-    → walk_from (suc f) s parent least depth at ≡ shows (tree_events (name_in parent name) v ++ es)
+    → (is_sorted_struct parent && is_below least name) ≡ false → depth + tree_depth v ≤ 32 → length p ≤ f
+    → (Rest s (next + length p) b → walk_from f s parent (unwrap_or name 0) depth (next + length p) ≡ shows es)
+    → walk_from (suc f) s parent least depth at ≡ shows (tree_events (name_shown name) v ++ es)
 value_step f s parent least depth at name next p b v es w inside named x rises shallow le rest =
     let size : length p ≡ length w.x + (length w.names + (length w.y + length w.body)) =
     omega (
@@ -88,7 +88,7 @@ value_step f s parent least depth at name next p b v es w inside named x rises s
     refl refl refl (omega arith) f es le (rest (rest-next p b (next + length p) refl x))
 
 -- a pad behind its name, and all that follows
-pad_step : (f : ℕ) (s : List ℕ) (parent least depth at name next : ℕ) (p b : List ℕ) (es : List Event) → PadFound p → at < length s
+pad_step : (f : ℕ) (s : List ℕ) (parent least depth at : ℕ) (name : Option ℕ) (next : ℕ) (p b : List ℕ) (es : List Event) → PadFound p → at < length s
     → name_at s parent at ≡ Ok (record { value = name; next = next }) → Rest s next (p ++ b)
     → (Rest s (next + length p) b → walk_from f s parent least depth (next + length p) ≡ shows es) → walk_from (suc f) s parent least depth at ≡ shows es
 pad_step f s parent least depth at name next p b es w inside named x rest =
@@ -96,13 +96,13 @@ pad_step f s parent least depth at name next p b es w inside named x rest =
 
 -- ---- members
 
-pub no_name : (s : List ℕ) (parent at : ℕ) → has_names parent ≡ false → name_at s parent at ≡ Ok (record { value = 0; next = at })
+pub no_name : (s : List ℕ) (parent at : ℕ) → has_names parent ≡ false → name_at s parent at ≡ Ok (record { value = None; next = at })
 no_name s parent at e = rw e
 
 found-members_pad : (p b : List ℕ) (vs : Members Scalar) → PadFound p → MembersFound b vs → MembersFound (p ++ b) vs
 found-members_pad p b vs w ih zero s parent least depth at n t u x lt le = absurd (omega arith)
 found-members_pad p b vs w ih (suc f) s parent least depth at n t u x lt le =
-    pad_step f s parent least depth at 0 at p b (member_events vs) w (omega (arith, rest-length x, length-append p b, w.pos)) (no_name s parent at n) x
+    pad_step f s parent least depth at None at p b (member_events vs) w (omega (arith, rest-length x, length-append p b, w.pos)) (no_name s parent at n) x
     (λ y. ih f s parent least depth (at + length p) n t u y (omega (arith, length-append p b, w.pos)) le)
 
 found-members-next : (p b : List ℕ) (v : Value) (vs : Members Scalar) → OneFound p v → MembersFound b vs → MembersFound (p ++ b) (member v vs)
@@ -110,23 +110,22 @@ unfolding member_events members_depth
 found-members-next p b v vs w ih zero s parent least depth at n t u x lt le = absurd (omega arith)
 found-members-next p b v vs w ih (suc f) s parent least depth at n t u x lt le =
     let pos : 0 < length p = one_length w in
-    rw n at
-    (value_step f s parent least depth at 0 at p b v (member_events vs) w (omega (arith, rest-length x, length-append p b))
+    value_step f s parent least depth at None at p b v (member_events vs) w (omega (arith, rest-length x, length-append p b))
     (no_name s parent at n) x (rw u) (higher_left (tree_depth v) (members_depth vs) depth le)
     (omega (arith, length-append p b)) (λ y. ih f s parent 0 depth (at + length p) n t u y (omega (arith, length-append p b))
-    (higher_right (tree_depth v) (members_depth vs) depth le)))
+    (higher_right (tree_depth v) (members_depth vs) depth le))
 
 -- ---- fields
 
 pub name_found : (s : List ℕ) (parent at k next : ℕ) (l r : List ℕ) → has_names parent ≡ true → VarUInt l k → next ≡ at + length l
-    → Rest s at (l ++ r) → name_at s parent at ≡ Ok (record { value = k; next = next })
+    → Rest s at (l ++ r) → name_at s parent at ≡ Ok (record { value = Some k; next = next })
 name_found s parent at k next l r n e p x = rw (n, number-found NotIon l r next e p x)
 
 found-fields_pad : (l p b : List ℕ) (k : ℕ) (fs : Fields Scalar) → VarUInt l k → PadFound p → FieldsFound b fs → FieldsFound (l ++ (p ++ b)) fs
 found-fields_pad l p b k fs e w ih zero s parent least depth at n t u x lt le = absurd (omega arith)
 found-fields_pad l p b k fs e w ih (suc f) s parent least depth at n t u x lt le =
     let size : length (l ++ (p ++ b)) ≡ length l + (length p + length b) = omega (arith, length-append l (p ++ b), length-append p b) in
-    pad_step f s parent least depth at k (at + length l) p b (field_events fs) w (omega (arith, rest-length x, w.pos))
+    pad_step f s parent least depth at (Some k) (at + length l) p b (field_events fs) w (omega (arith, rest-length x, w.pos))
     (name_found s parent at k (at + length l) l (p ++ b) n e refl x) (rest-next l (p ++ b) (at + length l) refl x)
     (λ y. ih f s parent least depth (at + length l + length p) n t u y (omega (arith, w.pos)) le)
 
@@ -144,12 +143,11 @@ found-fields-next l p b k v fs e w ih zero s parent least depth at n t u x lt le
 found-fields-next l p b k v fs e w ih (suc f) s parent least depth at n t u x lt le =
     let pos : 0 < length p = one_length w in
     let size : length (l ++ (p ++ b)) ≡ length l + (length p + length b) = omega (arith, length-append l (p ++ b), length-append p b) in
-    rw n at
-    (value_step f s parent least depth at k (at + length l) p b v (field_events fs) w (omega (arith, rest-length x))
+    value_step f s parent least depth at (Some k) (at + length l) p b v (field_events fs) w (omega (arith, rest-length x))
     (name_found s parent at k (at + length l) l (p ++ b) n e refl x) (rest-next l (p ++ b) (at + length l) refl x)
     (rises parent least k fs v u) (higher_left (tree_depth v) (fields_depth fs) depth le) (omega arith)
     (λ y. ih f s parent k depth (at + length l + length p) n t (λ q. (both {a = leb least k} (u q)).1) y (omega arith)
-    (higher_right (tree_depth v) (fields_depth fs) depth le)))
+    (higher_right (tree_depth v) (fields_depth fs) depth le))
 
 two_bytes : (l p b : List ℕ) {k : ℕ} → VarUInt l k → 0 < length p → length (l ++ (p ++ b)) ≢ 1
 two_bytes l p b e h q = omega (arith, length-append l (p ++ b), length-append p b, var_uint_pos l e)
@@ -159,7 +157,7 @@ two_bytes l p b e h q = omega (arith, length-append l (p ++ b), length-append p 
 found_stream_pad : (p b : List ℕ) (is : List (Item Scalar)) → PadFound p → StreamFound b is → StreamFound (p ++ b) is
 found_stream_pad p b is w ih zero s least at x lt le = absurd (omega arith)
 found_stream_pad p b is w ih (suc f) s least at x lt le =
-    pad_step f s 0 least 0 at 0 at p b (stream_events is) w (omega (arith, rest-length x, length-append p b, w.pos)) refl x
+    pad_step f s 0 least 0 at None at p b (stream_events is) w (omega (arith, rest-length x, length-append p b, w.pos)) refl x
     (λ y. ih f s least (at + length p) y (omega (arith, length-append p b, w.pos)) le)
 
 found_stream_next : (p b : List ℕ) (v : Value) (is : List (Item Scalar)) → OneFound p v → StreamFound b is → StreamFound (p ++ b) (value v ∷ is)
@@ -168,7 +166,7 @@ found_stream_next p b v is w ih zero s least at x lt le = absurd (omega arith)
 found_stream_next p b v is w ih (suc f) s least at x lt le =
     let pos : 0 < length p = one_length w in
     let le' : 0 + higher (tree_depth v) (stream_depth is) ≤ 32 = omega arith in
-    value_step f s 0 least 0 at 0 at p b v (stream_events is) w (omega (arith, rest-length x, length-append p b)) refl x refl
+    value_step f s 0 least 0 at None at p b v (stream_events is) w (omega (arith, rest-length x, length-append p b)) refl x refl
     (higher_left (tree_depth v) (stream_depth is) 0 le')
     (omega (arith, length-append p b)) (λ y. ih f s 0 (at + length p) y (omega (arith, length-append p b))
     (omega (arith, higher_right (tree_depth v) (stream_depth is) 0 le')))

@@ -4,7 +4,8 @@ use crate::refusal::{Refusal, answered};
 use entry_reading::{gm_read_decimal, gm_read_symbol, gm_read_timestamp};
 use std::fmt;
 
-// "Typed Value Formats": a type byte is the type code and four low bits, of which 15 is a null.
+// "Typed Value Formats": a type byte is the type code and four low bits, of which 15 is a null. The program stands on the entry points alone, as a host
+// does, so the numbers have their names here again.
 pub(crate) const NULL: u8 = 15;
 
 const BOOL: u8 = 1;

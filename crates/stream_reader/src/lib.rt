@@ -6,25 +6,18 @@ ghost use Rattle.stream_reader.specs.Top.{top_item, top_reading};
 
 use reading::{Holder, Item, Refusal, Stopped};
 
-// At top level nothing is open, and names have no order.
-const TOP: Holder = Holder {
-    kind: 0,
-    least: 0,
-    depth: 0,
-};
-
 // The item at a position of a stream.
 pub fn item_in(stream: &[u8], position: usize) -> Result<Option<Item>, Refusal>
     ensures { result ≡ top_item stream.now position }
 {
-    read_items::item(stream, TOP, position)
+    read_items::item(stream, Holder::STREAM, position)
 }
 
 // How the walk over a stream ends, from a position on.
 pub fn reading_from(stream: &[u8], position: usize) -> Result<(), Stopped>
     ensures { result ≡ top_reading stream.now position }
 {
-    reader::read(stream, stream.len(), TOP, position)
+    reader::read(stream, stream.len(), Holder::STREAM, position)
 }
 
 #[derive(Clone, Copy)]

@@ -10,7 +10,7 @@ use lib.ListN.{length, take}
 use lib.Seq.{slice}
 use borrow.Author.Tests.{ne_eqb}
 use Rattle.reading.specs.declared.Item.{Item}
-use Rattle.std.specs.Prelude.{Ok, Err, Some, None}
+use Rattle.std.specs.Prelude.{Ok, Err, Some, None, unwrap_or}
 use Rattle.reading.specs.Items.{is_pad, opens, Found, item_at}
 use Rattle.reading.specs.Scalars.{scalar_in}
 use Rattle.reading.specs.Bodies.{mark_in}
@@ -39,25 +39,25 @@ module _ (f : ℕ) (some : 1 ≤ f) (s : List ℕ) (parent least depth at : ℕ)
 
   module _ (inside : at < length s) where
     module _ (i : Item) (is : item_at s parent least depth at ≡ Ok (Some i)) where
-      pub at_pad : is_pad i.kind ≡ true → false ≡ unpadded_from f s parent least depth at
+      pub at_pad : is_pad i.held.header.kind ≡ true → false ≡ unpadded_from f s parent least depth at
       unfolding unpadded_from
       at_pad e = fuelled (λ g. false ≡ unpadded_from g s parent least depth at) f some
           (λ g p. rw (ne_eqb at (length s) (λ q. omega arith), is, e) refl)
 
-      module _ (e : is_pad i.kind ≡ false) where
-        pub wrong_content : false ≡ content_by (f - 1) s depth i.kind i.start i.stop → false ≡ unpadded_from f s parent least depth at
+      module _ (e : is_pad i.held.header.kind ≡ false) where
+        pub wrong_content : false ≡ content_by (f - 1) s depth i.held.header.kind i.held.header.start i.held.header.stop → false ≡ unpadded_from f s parent least depth at
         unfolding unpadded_from
         wrong_content c = fuelled (λ g. false ≡ unpadded_from g s parent least depth at) f some
-            (λ g p. let c' : false ≡ content_by g s depth i.kind i.start i.stop = rw p at c in
+            (λ g p. let c' : false ≡ content_by g s depth i.held.header.kind i.held.header.start i.held.header.stop = rw p at c in
             rw (ne_eqb at (length s) (λ q. omega arith), is, e, ← c') refl)
 
-        pub goes_past : (r : Bool) → true ≡ content_by (f - 1) s depth i.kind i.start i.stop → r ≡ unpadded_from (f - 1) s parent i.name depth i.stop
+        pub goes_past : (r : Bool) → true ≡ content_by (f - 1) s depth i.held.header.kind i.held.header.start i.held.header.stop → r ≡ unpadded_from (f - 1) s parent (unwrap_or i.name 0) depth i.held.header.stop
             → r ≡ unpadded_from f s parent least depth at
         unfolding unpadded_from
         goes_past r c k = fuelled (λ g. r ≡ unpadded_from g s parent least depth at) f some
             (λ g p.
-            let c' : true ≡ content_by g s depth i.kind i.start i.stop = rw p at c in
-            let k' : r ≡ unpadded_from g s parent i.name depth i.stop = rw p at k in
+            let c' : true ≡ content_by g s depth i.held.header.kind i.held.header.start i.held.header.stop = rw p at c in
+            let k' : r ≡ unpadded_from g s parent (unwrap_or i.name 0) depth i.held.header.stop = rw p at k in
             rw (ne_eqb at (length s) (λ q. omega arith), is, e, ← c') k')
 
 -- ---- what an item holds

@@ -1,7 +1,7 @@
 -- Whether the items from a place on read, none of them a NOP pad and none an out-of-calendar timestamp, containers entered: by what the reader
 -- answers at each place. The crate unpadded_grammar shows that the grammar says the same.
 -- Assumes nothing.
-use Rattle.std.specs.Prelude.{ℕ, zero, suc, ◌+◌, Bool, false, cond, ◌&&◌, ◌||◌, not, List, eqb, length, take, Ok, Err, Some, None}
+use Rattle.std.specs.Prelude.{ℕ, zero, suc, ◌+◌, Bool, false, cond, ◌&&◌, ◌||◌, not, List, eqb, length, take, Ok, Err, Some, None, unwrap_or}
 use Rattle.std.proofs.Math.Seq.{slice}
 use Rattle.reading.specs.Scalars.{scalar_in}
 use Rattle.reading.specs.Bodies.{mark_in}
@@ -16,7 +16,8 @@ abbrev pub step_is : (List ℕ → ℕ → ℕ → ℕ → ℕ → Bool) → Lis
 step_is go s parent least depth (Err r) = false
 step_is go s parent least depth (Ok None) = false
 step_is go s parent least depth (Ok (Some i)) =
-    not (is_pad i.kind) && (content_is go s depth i.kind i.start i.stop && go s parent i.name depth i.stop)
+    let h = i.held.header in
+    not (is_pad h.kind) && (content_is go s depth h.kind h.start h.stop && go s parent (unwrap_or i.name 0) depth h.stop)
 
 -- with the parent, the least name and the open containers as `item_at` has them; f bounds the items
 unfoldable pub unpadded_from : ℕ → List ℕ → ℕ → ℕ → ℕ → ℕ → Bool
@@ -31,7 +32,7 @@ content_by f s depth b start stop = content_is (λ t p l d i. unpadded_from f t 
 abbrev pub is_whole : List ℕ → Found → Bool
 is_whole s (Err r) = false
 is_whole s (Ok None) = false
-is_whole s (Ok (Some i)) = eqb i.stop (length s) && not (is_marker i.kind)
+is_whole s (Ok (Some i)) = eqb i.held.header.stop (length s) && not (is_marker i.held.header.kind)
 
 -- One value, without pad and mark.
 unfoldable pub is_one_value : List ℕ → Bool

@@ -7,23 +7,11 @@ ghost use Rattle.reading.specs.Bodies.{mark_in};
 ghost use Rattle.reading.specs.Items.{opens};
 ghost use Rattle.unpadded.specs.Rule.{content_by, is_whole, unpadded_from, is_one_value};
 
-use reading::{Holder, Item, Refusal};
-
-// A version marker's type byte, a timestamp's type code, and the low four bits of a null.
-const MARKER: u8 = 0xE0;
-
-const TIMESTAMP: u8 = 6;
-
-const NULL: u8 = 15;
-
-// The stream itself.
-const STREAM: Holder = Holder {
-    kind: 0,
-    least: 0,
-    depth: 0,
-};
+use reading::codes::{MARKER, NULL, TIMESTAMP};
+use reading::{Header, Holder, Item, Refusal};
 
 // Only a timestamp has a mark, and a null is none.
+#[tactic(auto, using(crate::proofs::Marks::told_mark, crate::proofs::Marks::timestamp_mark, crate::proofs::Marks::no_mark))]
 fn has_mark(kind: u8, body: &[u8]) -> bool
     ensures { result ≡ mark_in (scalar_in kind body.now) }
 {
@@ -33,21 +21,17 @@ fn has_mark(kind: u8, body: &[u8]) -> bool
     false
 }
 
-// What an item holds: a container's items, or a scalar.
+// What stands in an item's body: a container's items, or a scalar.
 #[cycle(are_unpadded_is_content)]
-fn is_content(s: &[u8], depth: u8, item: Item) -> bool
-    requires { (item.start ≤ item.stop) × ((item.stop ≤ length s.now) × (opens item.kind ≡ true → depth < 32)) }
-    ensures { (f : ℕ) → item.stop - item.start + 1 ≤ f → result ≡ content_by f s.now depth item.kind item.start item.stop }
+fn is_content(s: &[u8], holder: Holder, header: Header) -> bool
+    requires { (header.start ≤ header.stop) × ((header.stop ≤ length s.now) × (opens header.kind ≡ true → holder.depth < 32)) }
+    ensures { (f : ℕ) → header.stop - header.start + 1 ≤ f → result ≡ content_by f s.now holder.depth header.kind header.start header.stop }
 {
-    if read_items::is_container(item.kind) {
-        let inside = Holder {
-            kind: item.kind,
-            least: 0,
-            depth: depth + 1,
-        };
-        return are_unpadded(&s[..item.stop], inside, item.start);
+    let Header { kind, start, stop } = header;
+    if read_items::is_container(kind) {
+        return are_unpadded(&s[..stop], holder.inside(kind), start);
     }
-    !has_mark(item.kind, &s[item.start..item.stop])
+    !has_mark(kind, &s[start..stop])
 }
 
 // The items from `at` to the end of the bytes. They are a loop: only containers inside containers take the stack.
@@ -59,11 +43,12 @@ fn are_unpadded(s: &[u8], holder: Holder, at: usize) -> bool
     let mut i = at;
     let mut least = holder.least;
     while let Ok(Some(item)) = read_items::item(s, Holder { least, ..holder }, i) {
-        if read_items::is_pad(item.kind) || !is_content(s, holder.depth, item) {
+        let header = item.held.header;
+        if read_items::is_pad(header.kind) || !is_content(s, holder, header) {
             return false;
         }
-        least = item.name;
-        i = item.stop;
+        least = item.name.unwrap_or(0);
+        i = header.stop;
     }
     i == s.len()
 }
@@ -73,14 +58,17 @@ fn is_whole(s: &[u8], found: Result<Option<Item>, Refusal>) -> bool
     ensures { result ≡ is_whole s.now found }
 {
     match found {
-        Ok(Some(item)) => (item.stop == s.len()) & !(item.kind == MARKER),
+        Ok(Some(Item { held, .. })) => {
+            (held.header.stop == s.len()) & !(held.header.kind == MARKER)
+        }
         _ => false,
     }
 }
 
 // Most strings are not one item, so that is asked first.
+#[tactic(auto, using(crate::proofs::Steps::not_whole, crate::proofs::Steps::whole))]
 pub fn is_one_value(s: &[u8]) -> bool
     ensures { result ≡ is_one_value s.now }
 {
-    is_whole(s, read_items::item(s, STREAM, 0)) && are_unpadded(s, STREAM, 0)
+    is_whole(s, read_items::item(s, Holder::STREAM, 0)) && are_unpadded(s, Holder::STREAM, 0)
 }

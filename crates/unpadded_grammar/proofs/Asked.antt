@@ -11,7 +11,7 @@ use lib.Seq.{slice}
 use borrow.Author.Tests.{lt-leb, eq-eqb, ne_eqb}
 use Rattle.ion.specs.Value.{Scalar}
 use Rattle.reading.specs.declared.Item.{Item}
-use Rattle.std.specs.Prelude.{Ok, Err, Some, None}
+use Rattle.std.specs.Prelude.{Ok, Err, Some, None, unwrap_or}
 use Rattle.reading.specs.Scalars.{scalar_in}
 use Rattle.reading.specs.Items.{is_pad, opens, Found, item_at}
 use Rattle.reading.specs.Walk.{higher}
@@ -38,7 +38,7 @@ abbrev pub StepsBy : Rule → (Scalar → Bool) → (ℕ → ℕ) → Type 0
 StepsBy rule mark inner =
     (f : ℕ) (s : List ℕ) (parent least depth at : ℕ) (i : Item) → at < length s → item_at s parent least depth at ≡ Ok (Some i)
     → rule (suc f) s parent least depth at
-    ≡ (not (is_pad i.kind) && (content_by rule mark inner f s depth i.kind i.start i.stop && rule f s parent i.name depth i.stop))
+    ≡ (not (is_pad i.held.header.kind) && (content_by rule mark inner f s depth i.held.header.kind i.held.header.start i.held.header.stop && rule f s parent (unwrap_or i.name 0) depth i.held.header.stop))
 
 -- A rule with its mark. Fits k d: with k containers open there is room for d more at once.
 pub record Asked : Type 1 where
@@ -62,7 +62,7 @@ unpadded_ends f s parent least depth at e = rw (eq-eqb at (length s) e)
 pub unpadded_steps : StepsBy unpadded_from (λ x. is_marked x) (λ k. k + 1)
 unfolding unpadded_from
 unpadded_steps f s parent least depth at i h e =
-    rw (ne_eqb at (length s) (λ q. omega arith), e, marked_by_mark (scalar_in i.kind (slice i.start i.stop s)))
+    rw (ne_eqb at (length s) (λ q. omega arith), e, marked_by_mark (scalar_in i.held.header.kind (slice i.held.header.start i.held.header.stop s)))
 
 unfoldable pub unpadded : Asked
 unpadded = record {
@@ -84,7 +84,8 @@ abbrev pub padless_step : (List ℕ → ℕ → ℕ → ℕ → ℕ → Bool) �
 padless_step go s parent depth (Err r) = false
 padless_step go s parent depth (Ok None) = false
 padless_step go s parent depth (Ok (Some i)) =
-    not (is_pad i.kind) && (cond (opens i.kind) (go (take i.stop s) i.kind 0 depth i.start) true && go s parent i.name depth i.stop)
+    let h = i.held.header in
+    not (is_pad h.kind) && (cond (opens h.kind) (go (take h.stop s) h.kind 0 depth h.start) true && go s parent (unwrap_or i.name 0) depth h.stop)
 
 unfoldable pub padless_from : ℕ → List ℕ → ℕ → ℕ → ℕ → ℕ → Bool
 padless_from zero s parent least depth at = false
@@ -98,7 +99,7 @@ padless_ends f s parent least depth at e = rw (eq-eqb at (length s) e)
 pub padless_steps : StepsBy padless_from (λ x. false) (λ k. k)
 unfolding padless_from
 padless_steps f s parent least depth at i h e =
-    rw (ne_eqb at (length s) (λ q. omega arith), e, marked_by-never (scalar_in i.kind (slice i.start i.stop s)))
+    rw (ne_eqb at (length s) (λ q. omega arith), e, marked_by-never (scalar_in i.held.header.kind (slice i.held.header.start i.held.header.stop s)))
 
 unfoldable pub padless : Asked
 padless = record {

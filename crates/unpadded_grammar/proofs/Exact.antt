@@ -61,23 +61,23 @@ record Valued (b : List ℕ) : Type 0 where
   reading : Reads b (value v ∷ [])
   low : stream_depth (value v ∷ []) ≤ 32
 
-kind_same : (j i : Placed) → ◌≡◌ {A = Found} (Ok (Some j)) (Ok (Some i)) → j.kind ≡ i.kind
-kind_same j i q = let e : j ≡ i = cc in ap (λ (x : Placed). x.kind) e
+kind_same : (j i : Placed) → ◌≡◌ {A = Found} (Ok (Some j)) (Ok (Some i)) → j.held.header.kind ≡ i.held.header.kind
+kind_same j i q = let e : j ≡ i = cc in ap (λ (x : Placed). x.held.header.kind) e
 
 module _ (b : List ℕ) (i : Placed) (q : item_at b 0 0 0 0 ≡ Ok (Some i))
-    (end : i.stop ≡ length b) (content : is_pad i.kind ≡ false) (plain : is_marker i.kind ≡ false) where
-  item_valued : {n : Option ℕ} {es : List Event} → ItemRead b 0 0 0 i.stop i.kind n es → Valued b
+    (end : i.held.header.stop ≡ length b) (content : is_pad i.held.header.kind ≡ false) (plain : is_marker i.held.header.kind ≡ false) where
+  item_valued : {n : Option ℕ} {es : List Event} → ItemRead b 0 0 0 i.held.header.stop i.held.header.kind n es → Valued b
   unfolding stream_depth
   item_valued (a_pad p r y e pos rd pd z) = contrary content pd
   item_valued (a_value p r v y e pos rd pd sh z) =
-      let rest : r ≡ [] = nothing_left r (rest-next p r i.stop e y) end in
+      let rest : r ≡ [] = nothing_left r (rest-next p r i.held.header.stop e y) end in
       let tail : r ⟶ stream [] = rw rest stream_end in
       record {
         v = v;
         reading = subst (λ (u : List ℕ). u ⟶ stream (value v ∷ [])) (sym (rest_unique (from_first b) y)) (stream_next rd tail);
         low = higher_within (tree_depth v) 0 32 (omega arith) (omega arith);
       }
-  item_valued (a_marker r y e st pd z) = contrary plain (eq-eqb i.kind 0xE0 (sym (kind_same _ i (sym (marker_item 0 0 r y) ∙ q))))
+  item_valued (a_marker r y e st pd z) = contrary plain (eq-eqb i.held.header.kind 0xE0 (sym (kind_same _ i (sym (marker_item 0 0 r y) ∙ q))))
 
   walked_valued : (walk_from (suc (length b)) b 0 0 0 0).1 ≡ Ok tt → Valued b
   unfolding walk_from
@@ -85,7 +85,7 @@ module _ (b : List ℕ) (i : Placed) (q : item_at b 0 0 0 0 ≡ Ok (Some i))
       let f : ℕ = length b in
       let j = item_judged b 0 0 0 0 i q in
       let w : (step_walk (λ t p l d m. walk_from f t p l d m) b 0 0 0 0 (Ok (Some i))).1 ≡ Ok tt = rw q at e in
-      let t = then_whole (item_walk (λ t p l d m. walk_from f t p l d m) b 0 0 i) (walk_from f b 0 (raised 0 i.kind i.name) 0 i.stop) w in
+      let t = then_whole (item_walk (λ t p l d m. walk_from f t p l d m) b 0 i) (walk_from f b 0 (raised 0 i.held.header.kind i.name) 0 i.held.header.stop) w in
       let here : 0 ≡ j.next = headed_here j refl in
       let ih = bodies_sound f in
       let r = item_read f ih.0 ih.1 b 0 0 0 0 i j (omega arith) (omega arith) (omega arith) (omega (arith, here)) t.0 in
@@ -93,17 +93,17 @@ module _ (b : List ℕ) (i : Placed) (q : item_at b 0 0 0 0 ≡ Ok (Some i))
 
 -- an item that the rule passes is no pad
 rule_content : (b : List ℕ) (i : Placed) → item_at b 0 0 0 0 ≡ Ok (Some i)
-    → unpadded_from (suc (length b)) b 0 0 0 0 ≡ true → is_pad i.kind ≡ false
+    → unpadded_from (suc (length b)) b 0 0 0 0 ≡ true → is_pad i.held.header.kind ≡ false
 rule_content b i q e =
     let j = item_judged b 0 0 0 0 i q in
-    not-true (is_pad i.kind) (both {a = not (is_pad i.kind)} (sym (unpadded_steps (length b) b 0 0 0 0 i j.inside q) ∙ e)).0
+    not-true (is_pad i.held.header.kind) (both {a = not (is_pad i.held.header.kind)} (sym (unpadded_steps (length b) b 0 0 0 0 i j.inside q) ∙ e)).0
 
 rule_valued : (b : List ℕ) (found : Found) → item_at b 0 0 0 0 ≡ found → is_whole b found ≡ true → unpadded_from (suc (length b)) b 0 0 0 0 ≡ true → Valued b
 rule_valued b (Err x) q e r = contrary refl e
 rule_valued b (Ok None) q e r = contrary refl e
 rule_valued b (Ok (Some i)) q e r =
-    let z = both {a = eqb i.stop (length b)} e in
-    walked_valued b i q (eqb-true i.stop (length b) z.0) (rule_content b i q r) (not-true (is_marker i.kind) z.1)
+    let z = both {a = eqb i.held.header.stop (length b)} e in
+    walked_valued b i q (eqb-true i.held.header.stop (length b) z.0) (rule_content b i q r) (not-true (is_marker i.held.header.kind) z.1)
     (rule_ends (suc (length b)) b 0 0 0 0 r)
 
 -- The rule finds values without pad and mark.
@@ -152,7 +152,7 @@ value_whole b v d =
     let start : ℕ = to + length o.y in
     let x : Rest b 0 (b ++ []) = rw (append-nil b) (from_first b) in
     rw (
-      item_placed b 0 0 0 0 0 0 b v [] o (one_length o) refl x refl from to start (length b) refl refl refl (omega (arith, one_size o))
+      item_placed b 0 0 0 0 None 0 b v [] o (one_length o) refl x refl from to start (length b) refl refl refl (omega (arith, one_size o))
           (and-false (opens o.kind)),
       eq-eqb (length b) (length b) refl,
       o.marker,

@@ -20,9 +20,10 @@ use Rattle.ion.specs.Grammar.{is-sequence, is_struct, is_sorted, is_bare, is_ann
 use Rattle.ion.specs.Grammar.{members_end, members_pad, members-next, fields_end, fields_pad, fields-next, stream_end, stream_pad, stream_marker, stream_next}
 use Rattle.ion.proofs.Tests.{by_cases, both}
 use Rattle.reading.specs.declared.Item.{Item as Found}
-use Rattle.std.specs.Prelude.{Ok}
+use Rattle.std.specs.Prelude as Std
+use Rattle.std.specs.Prelude.{Ok, Some, None, unwrap_or}
 use Rattle.reading.specs.Scalars.{code_from, body_of, scalar_in, sids_of}
-use Rattle.reading.specs.Items.{opens, has_names, is_sorted_struct, name_at}
+use Rattle.reading.specs.Items.{opens, has_names, is_sorted_struct, is_below, name_at}
 use Rattle.reading.specs.Walk.{Walk, shows, leaf, leaf_events, tree_events, tree_depth, members_depth, fields_depth, stream_depth}
 use Rattle.reading_grammar.proofs.Tests.{contrary}
 use Rattle.reading_grammar.proofs.Places.{Rest, rest-length, rest-next, rest_within}
@@ -184,9 +185,9 @@ one_size w =
     omega (arith, ap length w.joins, length-append w.x (w.names ++ (w.y ++ w.body)), inner)
 
 -- a value behind its name, and all that follows
-value_rule : (a : Asked) (f : ℕ) (s : List ℕ) (parent least depth at name next : ℕ) (b r : List ℕ) (v : Value) (p rest : Bool) → OneRule a b v p
-    → at < length s → name_at s parent at ≡ Ok (record { value = name; next = next }) → Rest s next (b ++ r) → (is_sorted_struct parent && ltb name least) ≡ false → a.Fits depth (tree_depth v)
-    → length b ≤ f → (Rest s (next + length b) r → a.rule f s parent name depth (next + length b) ≡ rest)
+value_rule : (a : Asked) (f : ℕ) (s : List ℕ) (parent least depth at : ℕ) (name : Std.Option ℕ) (next : ℕ) (b r : List ℕ) (v : Value) (p rest : Bool) → OneRule a b v p
+    → at < length s → name_at s parent at ≡ Ok (record { value = name; next = next }) → Rest s next (b ++ r) → (is_sorted_struct parent && is_below least name) ≡ false → a.Fits depth (tree_depth v)
+    → length b ≤ f → (Rest s (next + length b) r → a.rule f s parent (unwrap_or name 0) depth (next + length b) ≡ rest)
     → a.rule (suc f) s parent least depth at ≡ ((p && none_by a.mark (tree_leaves v)) && rest)
 value_rule a f s parent least depth at name next b r v p rest w inside named x rises fit le go =
     let o = w.place in
@@ -195,7 +196,7 @@ value_rule a f s parent least depth at name next b r v p rest w inside named x r
     let start : ℕ = next + length o.x + length o.names + length o.y in
     let stop : ℕ = next + length b in
     let j : stop ≡ start + length o.body = omega (arith, one_size o) in
-    let i : Found = record { name = name; sids = from; sids_end = to; kind = o.kind; start = start; stop = stop } in
+    let i : Found = record { name = name; held = record { sids = from; sids_end = to; header = record { kind = o.kind; start = start; stop = stop } } } in
     let low : (opens o.kind && leb 32 depth) ≡ false = fits_open a o.kind depth (tree_depth v) o.deep fit in
     let here : Rest s start (o.body ++ r) = body_here s parent least depth at name next b v r o inside named x rises from to start stop refl refl refl j in
     rw (
@@ -208,11 +209,14 @@ value_rule a f s parent least depth at name next b r v p rest w inside named x r
     )
 
 -- a pad behind its name
-pad_rule : (a : Asked) (f : ℕ) (s : List ℕ) (parent least depth at name next : ℕ) (b r : List ℕ) → PadFound b → at < length s
+pad_rule : (a : Asked) (f : ℕ) (s : List ℕ) (parent least depth at : ℕ) (name : Std.Option ℕ) (next : ℕ) (b r : List ℕ) → PadFound b → at < length s
     → name_at s parent at ≡ Ok (record { value = name; next = next }) → Rest s next (b ++ r) → a.rule (suc f) s parent least depth at ≡ false
 pad_rule a f s parent least depth at name next b r w inside named x =
     let i : Found =
-    record { name = name; sids = next + w.size; sids_end = next + w.size; kind = w.kind; start = next + w.size; stop = next + length b } in
+    record {
+      name = name;
+      held = record { sids = next + w.size; sids_end = next + w.size; header = record { kind = w.kind; start = next + w.size; stop = next + length b } };
+    } in
     rw (
       a.steps f s parent least depth at i inside
           (pad_item s parent least depth at name next b r w inside named x (next + length b) refl),
@@ -224,7 +228,7 @@ pad_rule a f s parent least depth at name next b r w inside named x =
 members_pad_rule : (a : Asked) (p b : List ℕ) (vs : Members Scalar) (c d : Bool) → PadFound p → c ≡ false → MembersRule a (p ++ b) vs (c && d)
 members_pad_rule a p b vs c d w e zero s parent least depth at n u x lt fit = absurd (omega arith)
 members_pad_rule a p b vs c d w e (suc f) s parent least depth at n u x lt fit =
-    rw e (pad_rule a f s parent least depth at 0 at p b w (omega (arith, rest-length x, length-append p b, w.pos)) (no_name s parent at n) x)
+    rw e (pad_rule a f s parent least depth at None at p b w (omega (arith, rest-length x, length-append p b, w.pos)) (no_name s parent at n) x)
 
 members-next_rule : (a : Asked) (p b : List ℕ) (v : Value) (vs : Members Scalar) (c d : Bool) → OneRule a p v c → MembersRule a b vs d
     → MembersRule a (p ++ b) (member v vs) (c && d)
@@ -233,7 +237,7 @@ members-next_rule a p b v vs c d w ih zero s parent least depth at n u x lt fit 
 members-next_rule a p b v vs c d w ih (suc f) s parent least depth at n u x lt fit =
     let pos : 0 < length p = one_length w.place in
     rw (none_by_append a.mark (tree_leaves v) (members_leaves vs))
-    (value_rule a f s parent least depth at 0 at p b v c (d && none_by a.mark (members_leaves vs)) w
+    (value_rule a f s parent least depth at None at p b v c (d && none_by a.mark (members_leaves vs)) w
     (omega (arith, rest-length x, length-append p b)) (no_name s parent at n) x (rw u)
     (a.left (tree_depth v) (members_depth vs) depth fit) (omega (arith, length-append p b))
     (λ y. ih f s parent 0 depth (at + length p) n u y (omega (arith, length-append p b)) (a.right (tree_depth v) (members_depth vs) depth fit))
@@ -246,7 +250,7 @@ fields_pad_rule : (a : Asked) (l p b : List ℕ) (k : ℕ) (fs : Fields Scalar) 
 fields_pad_rule a l p b k fs c d v w e zero s parent least depth at n u x lt fit = absurd (omega arith)
 fields_pad_rule a l p b k fs c d v w e (suc f) s parent least depth at n u x lt fit =
     rw e
-    (pad_rule a f s parent least depth at k (at + length l) p b w (omega (arith, rest-length x, length-append l (p ++ b), length-append p b, w.pos))
+    (pad_rule a f s parent least depth at (Some k) (at + length l) p b w (omega (arith, rest-length x, length-append l (p ++ b), length-append p b, w.pos))
     (name_found s parent at k (at + length l) l (p ++ b) n v refl x) (rest-next l (p ++ b) (at + length l) refl x))
 
 fields-next_rule : (a : Asked) (l p b : List ℕ) (k : ℕ) (v : Value) (fs : Fields Scalar) (c d : Bool) → VarUInt l k → OneRule a p v c
@@ -258,7 +262,7 @@ fields-next_rule a l p b k v fs c d e w ih (suc f) s parent least depth at n u x
     let size : length (l ++ (p ++ b)) ≡ length l + (length p + length b) = omega (arith, length-append l (p ++ b), length-append p b) in
     let up : is_sorted_struct parent ≡ true → sorted k fs ≡ true = λ q. (both {a = leb least k} (u q)).1 in
     rw (none_by_append a.mark (tree_leaves v) (fields_leaves fs))
-    (value_rule a f s parent least depth at k (at + length l) p b v c (d && none_by a.mark (fields_leaves fs)) w (omega (arith, rest-length x))
+    (value_rule a f s parent least depth at (Some k) (at + length l) p b v c (d && none_by a.mark (fields_leaves fs)) w (omega (arith, rest-length x))
     (name_found s parent at k (at + length l) l (p ++ b) n e refl x) (rest-next l (p ++ b) (at + length l) refl x) (rises parent least k fs v u)
     (a.left (tree_depth v) (fields_depth fs) depth fit) (omega arith)
     (λ y. ih f s parent k depth (at + length l + length p) n up y (omega arith) (a.right (tree_depth v) (fields_depth fs) depth fit))
@@ -269,7 +273,7 @@ fields-next_rule a l p b k v fs c d e w ih (suc f) s parent least depth at n u x
 stream_pad_rule : (a : Asked) (p b : List ℕ) (is : List (Item Scalar)) (c d : Bool) → PadFound p → c ≡ false → StreamRule a (p ++ b) is (c && d)
 stream_pad_rule a p b is c d w e zero s least at x lt fit = absurd (omega arith)
 stream_pad_rule a p b is c d w e (suc f) s least at x lt fit =
-    rw e (pad_rule a f s 0 least 0 at 0 at p b w (omega (arith, rest-length x, length-append p b, w.pos)) refl x)
+    rw e (pad_rule a f s 0 least 0 at None at p b w (omega (arith, rest-length x, length-append p b, w.pos)) refl x)
 
 stream_next_rule : (a : Asked) (p b : List ℕ) (v : Value) (is : List (Item Scalar)) (c d : Bool) → OneRule a p v c → StreamRule a b is d
     → StreamRule a (p ++ b) (value v ∷ is) (c && d)
@@ -278,7 +282,7 @@ stream_next_rule a p b v is c d w ih zero s least at x lt fit = absurd (omega ar
 stream_next_rule a p b v is c d w ih (suc f) s least at x lt fit =
     let pos : 0 < length p = one_length w.place in
     rw (none_by_append a.mark (tree_leaves v) (leaves is))
-    (value_rule a f s 0 least 0 at 0 at p b v c (d && none_by a.mark (leaves is)) w (omega (arith, rest-length x, length-append p b)) refl x refl
+    (value_rule a f s 0 least 0 at None at p b v c (d && none_by a.mark (leaves is)) w (omega (arith, rest-length x, length-append p b)) refl x refl
     (a.left (tree_depth v) (stream_depth is) 0 fit) (omega (arith, length-append p b))
     (λ y. ih f s 0 (at + length p) y (omega (arith, length-append p b)) (a.right (tree_depth v) (stream_depth is) 0 fit))
     ∙ and_swap c (none_by a.mark (tree_leaves v)) d (none_by a.mark (leaves is)))
@@ -290,7 +294,7 @@ unfolding leaves stream_depth scalar_in code_from body_of
 stream_marker_rule a b is c ih zero s least at x lt fit = absurd (omega arith)
 stream_marker_rule a b is c ih (suc f) s least at x lt fit =
     let next : ℕ = at + 1 + 1 + 1 + 1 in
-    let i : Found = record { name = 0; sids = next; sids_end = next; kind = 0xE0; start = next; stop = next } in
+    let i : Found = record { name = None; held = record { sids = next; sids_end = next; header = record { kind = 0xE0; start = next; stop = next } } } in
     a.steps f s 0 least 0 at i (omega (arith, rest-length x)) (marker_item least 0 b x)
     ∙ ih f s 0 next (rest-next (0xE0 ∷ 0x01 ∷ 0x00 ∷ 0xEA ∷ []) b next (omega arith) x) (omega arith) fit
 

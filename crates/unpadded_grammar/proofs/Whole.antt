@@ -10,7 +10,7 @@ use lib.ListN.{length, take}
 use borrow.Author.Tests.{le-ltb, eqb-true, not-true}
 use Rattle.ion.proofs.Tests.{by_cases, both}
 use Rattle.reading.specs.declared.Item.{Item}
-use Rattle.std.specs.Prelude.{Ok, Err, Some, None}
+use Rattle.std.specs.Prelude.{Ok, Err, Some, None, unwrap_or}
 use Rattle.reading.specs.Items.{is_pad, opens, raised, Found, item_at}
 use Rattle.reading.specs.Walk.{Walk, ◌and_then◌, item_walk, step_walk, walk_from}
 use Rattle.unpadded.specs.Rule.{content_is, step_is, unpadded_from}
@@ -24,11 +24,11 @@ abbrev Ends : (List ℕ → ℕ → ℕ → ℕ → ℕ → Bool) → (List ℕ 
 Ends ask go = (s : List ℕ) (parent least depth at : ℕ) → ask s parent least depth at ≡ true → (go s parent least depth at).1 ≡ Ok tt
 
 module _ (ask : List ℕ → ℕ → ℕ → ℕ → ℕ → Bool) (go : List ℕ → ℕ → ℕ → ℕ → ℕ → Walk) (ih : Ends ask go) where
-  content_ends : (s : List ℕ) (parent depth : ℕ) (i : Item) → content_is ask s depth i.kind i.start i.stop ≡ true
-      → (item_walk go s parent depth i).1 ≡ Ok tt
+  content_ends : (s : List ℕ) (parent depth : ℕ) (i : Item) → content_is ask s depth i.held.header.kind i.held.header.start i.held.header.stop ≡ true
+      → (item_walk go s depth i).1 ≡ Ok tt
   content_ends s parent depth i e =
-      by_cases (opens i.kind)
-      (λ p. rw (p, ih (take i.stop s) i.kind 0 (depth + 1) i.start (rw p at e)))
+      by_cases (opens i.held.header.kind)
+      (λ p. rw (p, ih (take i.held.header.stop s) i.held.header.kind 0 (depth + 1) i.held.header.start (rw p at e)))
       (λ p. rw p)
 
   step_ends : (s : List ℕ) (parent least depth at : ℕ) (found : Found) → step_is ask s parent least depth found ≡ true
@@ -36,11 +36,11 @@ module _ (ask : List ℕ → ℕ → ℕ → ℕ → ℕ → Bool) (go : List �
   step_ends s parent least depth at (Err r) e = contrary refl e
   step_ends s parent least depth at (Ok None) e = refl
   step_ends s parent least depth at (Ok (Some i)) e =
-      let p = both {a = not (is_pad i.kind)} e in
-      let q = both {a = content_is ask s depth i.kind i.start i.stop} p.1 in
-      then_ends (item_walk go s parent depth i) (go s parent (raised least i.kind i.name) depth i.stop)
+      let p = both {a = not (is_pad i.held.header.kind)} e in
+      let q = both {a = content_is ask s depth i.held.header.kind i.held.header.start i.held.header.stop} p.1 in
+      then_ends (item_walk go s depth i) (go s parent (raised least i.held.header.kind i.name) depth i.held.header.stop)
       (content_ends s parent depth i q.0)
-      (rw (not-true (is_pad i.kind) p.0) (ih s parent i.name depth i.stop q.1))
+      (rw (not-true (is_pad i.held.header.kind) p.0) (ih s parent (unwrap_or i.name 0) depth i.held.header.stop q.1))
 
 no_more : (s : List ℕ) (parent least depth at : ℕ) → eqb at (length s) ≡ true → item_at s parent least depth at ≡ Ok None
 unfolding item_at

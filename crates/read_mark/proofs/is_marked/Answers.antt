@@ -3,7 +3,7 @@
 use native.Mathlib.Omega.{arith}
 use mathlib.Core.Path.{sym, ◌∙◌}
 use Rattle.ion.specs.Value.{signed}
-use Rattle.read_mark.proofs.Marked.{marked_time, time_is, calendar_time}
+use Rattle.read_mark.proofs.Marked.{marked_time, time_is}
 use Rattle.read_mark.proofs.is_marked.Goals as goal
 
 pub overflow_cast-fields-2 : goal.overflow_cast-fields-2
@@ -17,10 +17,6 @@ overflow_cast-fields-4 c = omega (arith, (time_is c.args.fields c.requires c.if-
 
 pub overflow_cast-fields-5 : goal.overflow_cast-fields-5
 overflow_cast-fields-5 c = omega (arith, (time_is c.args.fields c.requires c.if-fields-lt-TIMED.false).minute)
-
-pub is_local_outside-requires : goal.is_local_outside-requires
-is_local_outside-requires c =
-    rw c.minute_number-number.ensures (calendar_time c.args.fields c.requires c.if-fields.false c.if-fields-lt-TIMED.false)
 
 pub returns : goal.returns
 returns c = let f = c.args.fields in

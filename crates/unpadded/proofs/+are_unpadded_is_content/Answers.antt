@@ -4,7 +4,7 @@ use Rattle.std.specs.Prelude.{not, Ok, Err, None}
 use Rattle.std.proofs.Math.Seq.{length-take-le}
 use Rattle.reading.specs.Scalars.{scalar_in}
 use Rattle.reading.specs.Bodies.{mark_in}
-use Rattle.read_items.proofs.Bounds.{item_bounds}
+use Rattle.read_items.proofs.Bounds.{item_bounds, one_more}
 use Rattle.read_items.proofs.Parts.{part_slice}
 use Rattle.unpadded.proofs.Steps.{no_item, at_pad, wrong_content, goes_past, content_inside, content_leaf}
 use Rattle.unpadded.proofs.+are_unpadded_is_content.Goals as goal
@@ -59,7 +59,7 @@ are_unpadded-loop-item-preserved t c =
           goes_past g (omega arith) a.s.now a.holder.kind c.loop-item.least a.holder.depth c.loop-item.i inside _ is
           (sym c.is_pad.ensures ∙ c.if-is_pad.false) r
           (sym c.if-not-is_content.false ∙ c.is_content.ensures (g - 1) (omega (arith, w.after, w.behind, w.before, w.body, w.within)))
-          (q (g - 1) (omega (arith, w.after, w.behind, w.before, w.body, w.within)))),
+          (rw c.unwrap_or-least.ensures at (q (g - 1) (omega (arith, w.after, w.behind, w.before, w.body, w.within))))),
     )
 
 pub are_unpadded-returns : goal.are_unpadded-returns
@@ -76,28 +76,24 @@ are_unpadded-returns t c =
 -- ---- what an item holds
 
 pub is_content-slice_bounds-are_unpadded-end : goal.is_content-slice_bounds-are_unpadded-end
-is_content-slice_bounds-are_unpadded-end t c = sym (length-take-le c.args.item.stop c.args.s.now c.requires.1.0)
-
-pub is_content-overflow_add-inside : goal.is_content-overflow_add-inside
-is_content-overflow_add-inside t c =
-    let h = c.requires.1.1 (sym c.is_container.ensures ∙ c.if-is_container.true) in
-    omega (arith, h)
+is_content-slice_bounds-are_unpadded-end t c = sym (length-take-le c.args.header.stop c.args.s.now c.requires.1.0)
 
 pub is_content-are_unpadded-requires : goal.is_content-are_unpadded-requires
 is_content-are_unpadded-requires t c =
-    let prefix = length-take-le c.args.item.stop c.args.s.now c.requires.1.0 in
+    let prefix = length-take-le c.args.header.stop c.args.s.now c.requires.1.0 in
     (omega (arith, prefix), omega (arith, prefix))
 
 pub is_content-returns-then-is_container : goal.is_content-returns-then-is_container
 is_content-returns-then-is_container t c = λ f h.
     let a = c.args in
-    let prefix = length-take-le a.item.stop a.s.now c.requires.1.0 in
-    c.are_unpadded.ensures f (omega (arith, prefix)) ∙ content_inside f a.s.now a.depth a.item.kind a.item.start a.item.stop
+    let prefix = length-take-le a.header.stop a.s.now c.requires.1.0 in
+    let deeper = one_more _ c.inside.ensures.1.1 (c.requires.1.1 (sym c.is_container.ensures ∙ c.if-is_container.true)) in
+    (rw (c.inside.ensures.0, c.inside.ensures.1.0, deeper) at (c.are_unpadded.ensures f (omega (arith, prefix)))) ∙ content_inside f a.s.now a.holder.depth a.header.kind a.header.start a.header.stop
     (sym c.is_container.ensures ∙ c.if-is_container.true)
 
 pub is_content-returns : goal.is_content-returns
 is_content-returns t c = λ f h.
     let a = c.args in
     ap not (c.has_mark.ensures
-    ∙ ap (λ (l : List ℕ). mark_in (scalar_in a.item.kind l)) (part_slice a.s.now a.item.start a.item.stop c.requires.0 c.requires.1.0))
-    ∙ content_leaf f a.s.now a.depth a.item.kind a.item.start a.item.stop (sym c.is_container.ensures ∙ c.if-is_container.false)
+    ∙ ap (λ (l : List ℕ). mark_in (scalar_in a.header.kind l)) (part_slice a.s.now a.header.start a.header.stop c.requires.0 c.requires.1.0))
+    ∙ content_leaf f a.s.now a.holder.depth a.header.kind a.header.start a.header.stop (sym c.is_container.ensures ∙ c.if-is_container.false)

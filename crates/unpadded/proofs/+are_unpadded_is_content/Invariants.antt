@@ -9,7 +9,7 @@ abbrev pub decreases-are_unpadded : goal.decreases-are_unpadded
 decreases-are_unpadded l = 2 * (length l.s.now - l.at)
 
 abbrev pub decreases-is_content : goal.decreases-is_content
-decreases-is_content l = 2 * (l.item.stop - l.item.start) + 1
+decreases-is_content l = 2 * (l.header.stop - l.header.start) + 1
 
 abbrev pub invariant-are_unpadded-loop-item : goal.invariant-are_unpadded-loop-item
 invariant-are_unpadded-loop-item l =
