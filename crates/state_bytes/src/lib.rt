@@ -13,7 +13,7 @@ ghost use Rattle.state_bytes.specs.StateBytes.{state_size, four, place_of, conta
 ghost use Rattle.state_bytes.specs.StateBytes.{stored_count, numbers_laid};
 
 use machine::{Container, LIST, LONGEST_BUFFER, MOST_OPEN, Refusal, STRUCT};
-use place::{CallKind, Standing};
+use place::{CallKind, PlaceCheck, Standing};
 
 // The head, the record of a container, and the state whole.
 const HEAD_SIZE: usize = 8;
@@ -191,6 +191,13 @@ pub fn check(st: &[u8], room: usize, call: CallKind) -> Result<(), Refusal>
     match st.as_array() {
         Some(st) if passes(st, room, call) => Ok(()),
         _ => place::check(&StateBytes(st), room, call),
+    }
+}
+
+impl PlaceCheck for StateBytes<'_> {
+    #[inline(always)]
+    fn check(&self, room: usize, call: CallKind) -> Result<(), Refusal> {
+        check(self.0, room, call)
     }
 }
 
