@@ -84,12 +84,11 @@ pub fn write<S: PlaceCheck, V: WriteAsIon>(
     ensures uncut { let cs = (S.state s.now).containers in IfOk result (λ h. counted_cut cs h.depth ≡ counted cs h.depth) }
 {
     s.check(buf.len(), CallKind::Value)?;
-    let used = s.used();
-    let Some(put) = values::write(buf, used, annotations, value) else {
+    let Some(put) = values::write(buf, s.used(), annotations, value) else {
         return Err(value.refusal());
     };
     Ok(Head {
-        used: used + put,
+        used: s.used() + put,
         depth: s.depth(),
         waiting: false,
     })
@@ -100,10 +99,9 @@ pub fn field_name<S: PlaceCheck>(s: &S, buf: &mut [u8], sid: u64) -> Result<Head
     ensures { let t = S.state s.now in stepped result t buf.new ≡ run (name sid) (config t buf.old) }
 {
     s.check(buf.len(), CallKind::Name)?;
-    let used = s.used();
-    let put = var_uint::write(buf, used, sid).ok_or(Refusal::NoRoom)?;
+    let put = var_uint::write(buf, s.used(), sid).ok_or(Refusal::NoRoom)?;
     Ok(Head {
-        used: used + put,
+        used: s.used() + put,
         depth: s.depth(),
         waiting: true,
     })
@@ -186,10 +184,9 @@ pub fn version_marker<S: PlaceCheck>(s: &S, buf: &mut [u8]) -> Result<Head, Refu
     ensures { let t = S.state s.now in stepped result t buf.new ≡ run version_marker (config t buf.old) }
 {
     s.check(buf.len(), CallKind::Top)?;
-    let used = s.used();
-    let put = buffer::copy(buf, used, &MARKER).ok_or(Refusal::NoRoom)?;
+    let put = buffer::copy(buf, s.used(), &MARKER).ok_or(Refusal::NoRoom)?;
     Ok(Head {
-        used: used + put,
+        used: s.used() + put,
         depth: s.depth(),
         waiting: s.waits(),
     })

@@ -24,17 +24,17 @@ returns-in_err-put g c =
     let none = c.in_err-put.ensures.ok_part in
     rw (exit_none c.from_residual-in_err-put.result _ _ _ c.from_residual-in_err-put.ensures.1 c.in_err-put.ensures.value none)
     (end_full (name a.sid) s a.buf.now (misplaced Name s) (var_uint_bytes a.sid) true refl refl refl c.in_ok-check.ensures c.write.new.buf
-    (rw (none, c.used-used.ensures) at c.write.ensures))
+    (rw (none, c.used.ensures) at c.write.ensures))
 
 pub overflow_add-result : goal.overflow_add-result
 overflow_add-result g c =
     let a = c.args in
-    omega (arith, end_fits a.buf.now c.used-used.result (var_uint_bytes a.sid) c.write.new.buf c.in_ok-put.put (rw c.in_ok-put.ensures.ok_part at c.write.ensures))
+    omega (arith, c.used.ensures, c.used-2.ensures, end_fits a.buf.now c.used.result (var_uint_bytes a.sid) c.write.new.buf c.in_ok-put.put (rw c.in_ok-put.ensures.ok_part at c.write.ensures))
 
 pub returns : goal.returns
 returns g c =
     let a = c.args in
     let s = g.S.Standing.state a.s.now in
-    rw (c.used-used.ensures, c.depth.ensures)
+    rw (c.used-2.ensures, c.depth.ensures)
     (end_put (name a.sid) s a.buf.now (misplaced Name s) (var_uint_bytes a.sid) true refl refl refl c.in_ok-check.ensures c.write.new.buf c.in_ok-put.put
-    (rw (c.in_ok-put.ensures.ok_part, c.used-used.ensures) at c.write.ensures))
+    (rw (c.in_ok-put.ensures.ok_part, c.used.ensures) at c.write.ensures))

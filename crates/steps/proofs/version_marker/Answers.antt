@@ -24,17 +24,17 @@ returns-in_err-put g c =
     let none = c.in_err-put.ensures.ok_part in
     rw (exit_none c.from_residual-in_err-put.result _ _ _ c.from_residual-in_err-put.ensures.1 c.in_err-put.ensures.value none)
     (end_full version_marker s a.buf.now (misplaced Top s) marker_bytes s.waiting refl refl refl c.in_ok-check.ensures c.copy.new.buf
-    (rw (none, c.used-used.ensures) at c.copy.ensures))
+    (rw (none, c.used.ensures) at c.copy.ensures))
 
 pub overflow_add-result : goal.overflow_add-result
 overflow_add-result g c =
     let a = c.args in
-    omega (arith, end_fits a.buf.now c.used-used.result marker_bytes c.copy.new.buf c.in_ok-put.put (rw c.in_ok-put.ensures.ok_part at c.copy.ensures))
+    omega (arith, c.used.ensures, c.used-2.ensures, end_fits a.buf.now c.used.result marker_bytes c.copy.new.buf c.in_ok-put.put (rw c.in_ok-put.ensures.ok_part at c.copy.ensures))
 
 pub returns : goal.returns
 returns g c =
     let a = c.args in
     let s = g.S.Standing.state a.s.now in
-    rw (c.used-used.ensures, c.depth.ensures, c.waits.ensures)
+    rw (c.used-2.ensures, c.depth.ensures, c.waits.ensures)
     (end_put version_marker s a.buf.now (misplaced Top s) marker_bytes s.waiting refl refl refl c.in_ok-check.ensures c.copy.new.buf c.in_ok-put.put
-    (rw (c.in_ok-put.ensures.ok_part, c.used-used.ensures) at c.copy.ensures))
+    (rw (c.in_ok-put.ensures.ok_part, c.used.ensures) at c.copy.ensures))

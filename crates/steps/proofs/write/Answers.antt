@@ -29,7 +29,7 @@ returns-in_default-clause-call g c =
     let x = g.V.WriteAsIon.argument a.value in
     scalar_none an x s a.buf.now c.write.new.buf
     (past-place (write an x) s a.buf.now (lacks_name s) (scalar_lines an x s a.buf.now) refl (sym c.in_ok-check.ensures))
-    (rw c.used-used.ensures at c.in_default.ensures) c.refusal.result c.refusal.ensures
+    (rw c.used.ensures at c.in_default.ensures) c.refusal.result c.refusal.ensures
 
 pub overflow_add-result : goal.overflow_add-result
 overflow_add-result g c =
@@ -37,9 +37,9 @@ overflow_add-result g c =
     let s = g.S.Standing.state a.s.now in
     let an = sids_of a.annotations.now in
     let x = g.V.WriteAsIon.argument a.value in
-    omega (arith, c.used-used.ensures, scalar_fits an x s a.buf.now c.write.new.buf
+    omega (arith, c.used-2.ensures, scalar_fits an x s a.buf.now c.write.new.buf
     (past-place (write an x) s a.buf.now (lacks_name s) (scalar_lines an x s a.buf.now) refl (sym c.in_ok-check.ensures))
-    c.in-Some.put (rw c.used-used.ensures at c.in-Some.ensures))
+    c.in-Some.put (rw c.used.ensures at c.in-Some.ensures))
 
 pub returns-clause-call : goal.returns-clause-call
 returns-clause-call g c =
@@ -47,10 +47,10 @@ returns-clause-call g c =
     let s = g.S.Standing.state a.s.now in
     let an = sids_of a.annotations.now in
     let x = g.V.WriteAsIon.argument a.value in
-    rw (c.used-used.ensures, c.depth.ensures)
+    rw (c.used-2.ensures, c.depth.ensures)
     (scalar_some an x s a.buf.now c.write.new.buf
     (past-place (write an x) s a.buf.now (lacks_name s) (scalar_lines an x s a.buf.now) refl (sym c.in_ok-check.ensures))
-    c.in-Some.put (rw c.used-used.ensures at c.in-Some.ensures))
+    c.in-Some.put (rw c.used.ensures at c.in-Some.ensures))
 
 pub returns-clause-uncut : goal.returns-clause-uncut
 returns-clause-uncut g c =
