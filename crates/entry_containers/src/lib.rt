@@ -4,33 +4,23 @@
 
 ghost use Rattle.std.specs.Prelude.{◌≡◌};
 ghost use Rattle.annotations.specs.Sids.{sids_of};
-ghost use Rattle.machine.specs.Call.{name, opening, closing, abandonment};
+ghost use Rattle.machine.specs.Call.{opening, closing};
 ghost use Rattle.steps.specs.Kinds.{kind_of};
 ghost use Rattle.state_bytes.specs.StateBytes.{entered, answered};
 ghost use Rattle.entry_steps.specs.Entries.{entered_as, answered_as};
 ghost use Rattle.entry_numbers.specs.EntryCall.{gm_field_name, gm_open_list, gm_open_sexp, gm_open_struct, gm_close, gm_abandon, call_of};
 
-use machine::{Container, MOST_OPEN, Refusal};
-use place::{CallKind, Standing};
+use machine::Refusal;
 use state_bytes::StateBytes;
 use steps::ContainerType;
-
-fn field_name(state: &mut [u8], buf: &mut [u8], sid: u64) -> Result<(), Refusal>
-    ensures { answered_as result state.new buf.new ≡ entered (name sid) state.old buf.old }
-{
-    state_bytes::check(state, buf.len(), CallKind::Name)?;
-    let used = StateBytes(state).used();
-    let put = var_uint::write(buf, used, sid).ok_or(Refusal::NoRoom)?;
-    state_bytes::grow(state, put, true);
-    Ok(())
-}
 
 // A field name: its sid as a VarUInt.
 pub fn gm_field_name(state: &mut [u8], buf: &mut [u8], sid: u64) -> u8
     ensures { entered_as result state.new buf.new
         ≡ entered (call_of (gm_field_name sid)) state.old buf.old }
 {
-    entry_numbers::answered(field_name(state, buf, sid))
+    let step = steps::field_name(&StateBytes(state), buf, sid);
+    entry_numbers::answered(entry_steps::stepped(state, step))
 }
 
 // An opening: it reserves two bytes for its header, and with annotations two more for the wrapper's before them.
@@ -43,22 +33,9 @@ fn open(
     ensures { answered_as result state.new buf.new
         ≡ entered (opening (sids_of annotations.now) (kind_of kind)) state.old buf.old }
 {
-    state_bytes::check(state, buf.len(), CallKind::Value)?;
-    let s = StateBytes(state);
-    let used = s.used();
-    let depth = s.depth();
-    if MOST_OPEN <= depth {
-        return Err(Refusal::TooDeep);
-    }
-    let put = containers::open(buf, used, annotations).ok_or(Refusal::NoRoom)?;
-    let container = Container {
-        start: used,
-        header: used + (put - 2),
-        code: kind.into(),
-        members: 0,
-    };
-    state_bytes::store_container(state, depth, container);
-    state_bytes::store(state, used + put, depth + 1, false);
+    let opened = steps::open(&StateBytes(state), buf, annotations, kind)?;
+    state_bytes::store_container(state, opened.head.depth - 1, opened.container);
+    entry_steps::store(state, opened.head);
     Ok(())
 }
 
@@ -87,15 +64,10 @@ fn close(state: &mut [u8], buf: &mut [u8], closed: &mut [u8]) -> Result<(), Refu
     ensures call { answered_as result state.new buf.new ≡ entered closing state.old buf.old }
     ensures figures { closed.new ≡ answered state.old buf.old closed.old }
 {
-    state_bytes::check(state, buf.len(), CallKind::Closing)?;
-    let s = StateBytes(state);
-    let used = s.used();
-    let outer = s.depth() - 1;
-    let c = s.container(outer);
-    let closing = containers::close(buf, used, c).ok_or(Refusal::NoRoom)?;
-    state_bytes::answer(closed, closing.used - c.start, c.members, closing.moved);
-    state_bytes::count(state, outer);
-    state_bytes::store(state, closing.used, outer, false);
+    let close = steps::close(&StateBytes(state), buf)?;
+    state_bytes::answer(closed, close.size, close.members, close.moved);
+    state_bytes::count(state, close.head.depth);
+    entry_steps::store(state, close.head);
     Ok(())
 }
 
@@ -109,24 +81,11 @@ pub fn gm_close(state: &mut [u8], buf: &mut [u8], closed: &mut [u8]) -> u8
     entry_numbers::answered(close(state, buf, closed))
 }
 
-fn abandon(state: &mut [u8], buf: &mut [u8]) -> Result<(), Refusal>
-    ensures { answered_as result state.new buf.new ≡ entered abandonment state.old buf.old }
-{
-    state_bytes::check(state, buf.len(), CallKind::Abandonment)?;
-    let s = StateBytes(state);
-    let used = s.used();
-    let outer = s.depth() - 1;
-    let c = s.container(outer);
-    let waits = s.outer_is_struct();
-    containers::abandon(buf, used, c.start);
-    state_bytes::store(state, c.start, outer, waits);
-    Ok(())
-}
-
 // An abandonment: the innermost container's bytes are given back, and a name before it waits again.
 pub fn gm_abandon(state: &mut [u8], buf: &mut [u8]) -> u8
     ensures { entered_as result state.new buf.new
         ≡ entered (call_of gm_abandon) state.old buf.old }
 {
-    entry_numbers::answered(abandon(state, buf))
+    let step = steps::abandon(&StateBytes(state), buf);
+    entry_numbers::answered(entry_steps::stepped(state, step))
 }

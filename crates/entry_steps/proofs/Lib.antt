@@ -1,4 +1,2 @@
 pub mod Entered
-pub mod Values
-pub mod Calls
 pub mod Start

@@ -1,9 +1,10 @@
 -- What the entry points answer and leave beside `entered`: a start.
 -- Assumes nothing.
-use Rattle.std.specs.Prelude.{ℕ, true, false, List, Result, eqb, ltb, length, replicate}
+use Rattle.std.specs.Prelude.{ℕ, true, false, List, Result, Ok, Err, eqb, ltb, length, replicate}
 use Rattle.machine.specs.declared.Refusal.{Refusal}
 use Rattle.machine.specs.Machine.{longest_buffer, start_verdict, started}
-use Rattle.machine.specs.Numbers.{verdict_of}
+use Rattle.machine.specs.Numbers.{number, verdict_of}
+use Rattle.steps.specs.declared.Head.{Head}
 use Rattle.state_bytes.specs.StateBytes.{state_size, stored_head, number_of, Entered}
 
 abbrev pub entered_as : ℕ → List ℕ → List ℕ → Entered
@@ -12,6 +13,11 @@ entered_as n st b = record { number = n; state = st; buffer = b }
 -- the same of a call whose answer is not a number yet
 abbrev pub answered_as : Result (Unit {0}) Refusal → List ℕ → List ℕ → Entered
 answered_as r st b = entered_as (number_of (verdict_of r)) st b
+
+-- of a call that stores the head alone, by what it says
+abbrev pub stepped_as : Result Head Refusal → List ℕ → List ℕ → Entered
+stepped_as (Ok h) st b = entered_as 0 (stored_head h.used h.depth h.waiting st) b
+stepped_as (Err why) st b = entered_as (number why) st b
 
 -- the bytes of a state with no container and no name
 abbrev pub empty_bytes : ℕ → List ℕ

@@ -1,17 +1,32 @@
-// What the entry points share: a scalar of any type at the end of the used bytes.
-// The laws in proofs/ say what an entry point answers and leaves, by how far it gets.
+// What the entry points share: a call that stores the head of the state alone, and a scalar of any type at the end of the used bytes.
+// The laws in proofs/ say what an entry point answers and leaves, by what the call said.
 #![tactic(auto)]
 
-ghost use Rattle.std.specs.Prelude.{◌≡◌};
+ghost use Rattle.std.specs.Prelude.{◌≡◌, ℕ, List};
 ghost use Rattle.annotations.specs.Sids.{sids_of};
 ghost use Rattle.machine.specs.Call.{write};
-ghost use Rattle.state_bytes.specs.StateBytes.{entered};
-ghost use Rattle.entry_steps.specs.Entries.{answered_as};
+ghost use Rattle.state_bytes.specs.StateBytes.{stored_head, entered};
+ghost use Rattle.entry_steps.specs.Entries.{answered_as, stepped_as};
 
 use machine::Refusal;
-use place::{CallKind, Standing};
 use state_bytes::StateBytes;
+use steps::Head;
 use values::WriteAsIon;
+
+// The head is stored; the records stay.
+pub fn store(state: &mut [u8], head: Head)
+    ensures { state.new ≡ stored_head head.used head.depth head.waiting state.old }
+{
+    state_bytes::store(state, head.used, head.depth, head.waiting);
+}
+
+// A call that stores the head alone.
+pub fn stepped(state: &mut [u8], step: Result<Head, Refusal>) -> Result<(), Refusal>
+    ensures { (b : List ℕ) → answered_as result state.new b ≡ stepped_as step state.old b }
+{
+    store(state, step?);
+    Ok(())
+}
 
 // A scalar with its annotations. It is a member of the container that it lies in.
 pub fn write<V: WriteAsIon>(
@@ -22,11 +37,8 @@ pub fn write<V: WriteAsIon>(
 ) -> Result<(), Refusal>
     ensures { answered_as result state.new buf.new ≡ entered (write (sids_of annotations.now) (V.argument value)) state.old buf.old }
 {
-    state_bytes::check(state, buf.len(), CallKind::Value)?;
-    let used = StateBytes(state).used();
-    let Some(put) = values::write(buf, used, annotations, value) else {
-        return Err(value.refusal());
-    };
-    state_bytes::grow_by_scalar(state, put);
+    let head = steps::write(&StateBytes(state), buf, annotations, value)?;
+    state_bytes::count(state, head.depth);
+    store(state, head);
     Ok(())
 }

@@ -4,7 +4,6 @@
 #![tactic(auto)]
 
 ghost use Rattle.std.specs.Prelude.{◌≡◌, length};
-ghost use Rattle.machine.specs.Call.{version_marker, emptying};
 ghost use Rattle.machine.specs.Machine.{finished_length};
 ghost use Rattle.state_bytes.specs.StateBytes.{state_of, entered};
 ghost use Rattle.entry_steps.specs.Entries.{entered_as, answered_as, start_entered};
@@ -20,8 +19,7 @@ pub use entry_scalars::{
 pub use entry_slices::{
     gm_write_blob, gm_write_clob, gm_write_decimal, gm_write_int, gm_write_string,
 };
-use machine::{LONGEST_BUFFER, MARKER, Refusal};
-use place::{CallKind, Standing};
+use machine::{LONGEST_BUFFER, Refusal};
 pub use state_bytes::STATE_SIZE;
 use state_bytes::StateBytes;
 
@@ -35,11 +33,8 @@ fn start(state: &mut [u8], buf: &mut [u8]) -> Result<(), Refusal>
         return Err(Refusal::StateUnfit);
     }
     state.fill(0);
-    if LONGEST_BUFFER < buf.len() {
-        return Err(Refusal::BufferTooLong);
-    }
-    let put = buffer::copy(buf, 0, &MARKER).ok_or(Refusal::NoRoom)?;
-    state_bytes::store(state, put, 0, false);
+    let used = steps::start(buf)?;
+    state_bytes::store(state, used, 0, false);
     Ok(())
 }
 
@@ -50,35 +45,13 @@ pub fn gm_start(state: &mut [u8], buf: &mut [u8]) -> u8
     entry_numbers::answered(start(state, buf))
 }
 
-fn version_marker(state: &mut [u8], buf: &mut [u8]) -> Result<(), Refusal>
-    ensures { answered_as result state.new buf.new ≡ entered version_marker state.old buf.old }
-{
-    state_bytes::check(state, buf.len(), CallKind::Top)?;
-    let s = StateBytes(state);
-    let used = s.used();
-    let waits = s.waits();
-    let put = buffer::copy(buf, used, &MARKER).ok_or(Refusal::NoRoom)?;
-    state_bytes::grow(state, put, waits);
-    Ok(())
-}
-
 // A version marker, at the place of the call.
 pub fn gm_version_marker(state: &mut [u8], buf: &mut [u8]) -> u8
     ensures { entered_as result state.new buf.new
         ≡ entered (call_of gm_version_marker) state.old buf.old }
 {
-    entry_numbers::answered(version_marker(state, buf))
-}
-
-fn empty(state: &mut [u8], buf: &[u8]) -> Result<(), Refusal>
-    ensures { answered_as result state.new buf.now ≡ entered emptying state.old buf.now }
-{
-    state_bytes::check(state, buf.len(), CallKind::Top)?;
-    let s = StateBytes(state);
-    let depth = s.depth();
-    let waits = s.waits();
-    state_bytes::store(state, 0, depth, waits);
-    Ok(())
+    let step = steps::version_marker(&StateBytes(state), buf);
+    entry_numbers::answered(entry_steps::stepped(state, step))
 }
 
 // An emptying: the used length becomes zero, and no byte of the buffer alters.
@@ -86,7 +59,8 @@ pub fn gm_empty(state: &mut [u8], buf: &[u8]) -> u8
     ensures { entered_as result state.new buf.now
         ≡ entered (call_of gm_empty) state.old buf.now }
 {
-    entry_numbers::answered(empty(state, buf))
+    let step = steps::empty(&StateBytes(state), buf);
+    entry_numbers::answered(entry_steps::stepped(state, step))
 }
 
 // A taking: how many bytes from the buffer's front are finished.

@@ -156,6 +156,19 @@ pub fn check<S: Standing>(s: &S, room: usize, call: CallKind) -> Result<(), Refu
     Ok(())
 }
 
+// What holds a state, and checks a call's place in the way that is fast for it.
+pub trait PlaceCheck: Standing {
+    // The first of the lines 1 to 3 that fails.
+    fn check(&self, room: usize, call: CallKind) -> Result<(), Refusal>
+        ensures { verdict_of result ≡ place_verdict (Self.state self.now) room (misplaced call (Self.state self.now)) };
+}
+
+impl PlaceCheck for State {
+    fn check(&self, room: usize, call: CallKind) -> Result<(), Refusal> {
+        check(self, room, call)
+    }
+}
+
 // How many bytes from the buffer's front are finished.
 pub fn finished_length<S: Standing>(s: &S, room: usize) -> usize
     ensures { result ≡ finished_length (S.state s.now) room }

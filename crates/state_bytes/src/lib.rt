@@ -13,7 +13,7 @@ ghost use Rattle.state_bytes.specs.StateBytes.{state_size, four, place_of, conta
 ghost use Rattle.state_bytes.specs.StateBytes.{stored_count, numbers_laid};
 
 use machine::{Container, LIST, LONGEST_BUFFER, MOST_OPEN, Refusal, STRUCT};
-use place::{CallKind, Standing};
+use place::{CallKind, PlaceCheck, Standing};
 
 // The head, the record of a container, and the state whole.
 const HEAD_SIZE: usize = 8;
@@ -146,16 +146,6 @@ fn containers_fit(st: &[u8; STATE_SIZE], used: usize, depth: usize) -> bool
     true
 }
 
-impl StateBytes<'_> {
-    // Whether the innermost container lies in a struct.
-    pub fn outer_is_struct(&self) -> bool
-        ensures { result ≡ in_struct (outer (open_containers (state_of self.now.0.now))) }
-    {
-        let depth = self.depth();
-        depth != 0 && place::in_struct(self, depth - 1)
-    }
-}
-
 // Whether the container below `depth` is a struct. At depth 0 the byte that is read is the highest of the used length, which is 0 in a buffer that is
 // not too long; of another state it says nothing.
 fn innermost_is_struct(st: &[u8; STATE_SIZE], depth: usize) -> bool
@@ -194,6 +184,13 @@ pub fn check(st: &[u8], room: usize, call: CallKind) -> Result<(), Refusal>
     }
 }
 
+impl PlaceCheck for StateBytes<'_> {
+    #[inline(always)]
+    fn check(&self, room: usize, call: CallKind) -> Result<(), Refusal> {
+        check(self.0, room, call)
+    }
+}
+
 // A number in four bytes; its higher ones are left out.
 fn four_bytes(n: usize) -> [u8; NUMBER_SIZE]
     ensures { result ≡ four_bytes n }
@@ -218,16 +215,6 @@ pub fn store(st: &mut [u8], used: usize, depth: usize, waiting: bool)
     put_four(st, 0, used);
     st[DEPTH] = (depth % 256) as u8;
     st[WAITING] = u8::from(waiting);
-}
-
-// `put` more bytes are used, and whether a name waits is stored. Four bytes hold the used length, so that nothing is lost by cutting both numbers to them.
-pub fn grow(st: &mut [u8], put: usize, waiting: bool)
-    ensures { let b = st.old in st.new ≡ stored_head ((state_of b).used + put) (state_of b).depth waiting b }
-{
-    let s = StateBytes(st);
-    let used = s.used();
-    let depth = s.depth();
-    store(st, used % FOUR_BYTES + put % FOUR_BYTES, depth, waiting);
 }
 
 // The container i is stored.
@@ -260,17 +247,6 @@ pub fn count(st: &mut [u8], depth: usize)
     let at = HEAD_SIZE + RECORD_SIZE * (depth - 1) + MEMBERS;
     let members = get_four(st, at);
     put_four(st, at, members as usize + 1);
-}
-
-// `put` more bytes are used, by a scalar: no name waits, and the innermost container has one member more.
-pub fn grow_by_scalar(st: &mut [u8], put: usize)
-    ensures { let b = st.old in st.new
-        ≡ stored_head ((state_of b).used + put) (state_of b).depth false
-        (stored_count (state_of b).depth (counted (state_of b).containers (state_of b).depth) b) }
-{
-    let depth = StateBytes(st).depth();
-    count(st, depth);
-    grow(st, put, false);
 }
 
 // The numbers that a closing answers, in a slice that is lent for them; each only where the slice holds it whole.

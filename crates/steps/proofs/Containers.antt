@@ -1,6 +1,6 @@
 -- Openings, closings and abandonments by how far they get.
 -- Assumes nothing.
-use Rattle.std.proofs.Common.{◌≡◌, ℕ, zero, suc, ◌+◌, ◌-◌, ◌<◌, ◌≤◌, Bool, true, false, not, ◌||◌, ltb, leb, List, [], ◌∷◌, ◌++◌, length, get_or, take, set, Option, Some, None, sym, refl, ap, ◌∙◌, ap₂, arith, length-append, le-ltb, lt-ltb, le-leb, leb-false, leb-true}
+use Rattle.std.proofs.Common.{◌≡◌, ℕ, zero, suc, ◌+◌, ◌-◌, ◌<◌, ◌≤◌, Bool, true, false, not, ◌||◌, ltb, leb, List, [], ◌∷◌, ◌++◌, length, get_or, take, set, Option, Some, None, Ok, sym, refl, ap, ◌∙◌, ap₂, arith, length-append, le-ltb, lt-ltb, le-leb, leb-false, leb-true}
 use mathlib.Core.Bool.{false≢true}
 use borrow.Author.Tests.{lt-leb}
 use Rattle.ion.proofs.Tests.{by_cases, both}
@@ -18,6 +18,7 @@ use Rattle.containers.specs.declared.Closing.{Closing}
 use Rattle.containers.specs.Containers.{spliced, closed_on, abandoned_on}
 use Rattle.steps.proofs.Members.{fits_chain, start-before}
 use Rattle.buffer.proofs.Laid.{placed-some}
+use Rattle.steps.specs.Heads.{opened}
 use Rattle.steps.proofs.Run.{outcome, accepted_with, run_refused, run_accepted, past-place, end_refused, end_accepted}
 
 -- ---- what a place that is accepted says
@@ -116,12 +117,33 @@ module _ (an : List ℕ) (k : ContainerType) (s : State) (b l : List ℕ)
       l) q
       ∙ end_accepted (opening an k) s b (reserve an) l shallow (s.depth + 1) false _ refl refl n e
 
+  -- the record lies below the depth
+  pub opening_head : (n : ℕ) → ◌≡◌ {A = Option ℕ × List ℕ} (Some n, l) (placed b s.used (reserve an))
+      → opened (Ok (record {
+        head = record { used = s.used + n; depth = s.depth + 1; waiting = false };
+        container = record { start = s.used; header = s.used + (n - 2); code = container_code k; members = 0 };
+      })) s l ≡ run (opening an k) (config s b)
+  opening_head n e =
+      let i : s.depth + 1 - 1 ≡ s.depth = omega arith in
+      rw i (opening_accepted n e)
+
+-- n bytes are reserved, the last two of them for the header
+pub opening_fits : (an b : List ℕ) (used : ℕ) (l : List ℕ) (n : ℕ) → ◌≡◌ {A = Option ℕ × List ℕ} (Some n, l) (placed b used (reserve an))
+    → (2 ≤ n) × (used + n ≤ length b)
+opening_fits an b used l n e =
+    let w = placed-some b used (reserve an) n l e in
+    (omega (arith, w.1, reserve_least an), omega (arith, w.0, w.1))
+
 pub opening_deep : (an : List ℕ) (k : ContainerType) (s : State) (b : List ℕ)
     → first_failing (checks (opening an k) (config s b)) ≡ first_failing (opening_lines an s b)
     → most_open ≤ s.depth → outcome (refused 4) s b ≡ run (opening an k) (config s b)
 opening_deep an k s b past d = sym (run_refused (opening an k) s b 4 (past ∙ rw (le-leb most_open s.depth d)))
 
 -- ---- a closing
+
+pub closing_some : (s : State) (b : List ℕ) → place_verdict s (length b) (not (is_open (open_containers s)) || s.waiting) ≡ accepted → 0 < s.depth
+closing_some s b p =
+    some_open s (length b) (accepted_fits s (length b) _ p) (either_not (is_open (open_containers s)) s.waiting (accepted_placed s (length b) _ p))
 
 module _ (s : State) (b l : List ℕ)
     (place : place_verdict s (length b) (not (is_open (open_containers s)) || s.waiting) ≡ accepted) where
@@ -207,6 +229,9 @@ module _ (s : State) (b l : List ℕ)
         ∙ ap₂ accepted_with closing-effect closing-figures))
 
 -- ---- an abandonment
+
+pub abandonment_open : (s : State) (b : List ℕ) → place_verdict s (length b) (not (is_open (open_containers s))) ≡ accepted → 0 < s.depth
+abandonment_open s b p = some_open s (length b) (accepted_fits s (length b) _ p) (opened_not (is_open (open_containers s)) (accepted_placed s (length b) _ p))
 
 pub abandonment_run : (s : State) (b : List ℕ) (r : Bool) (l : List ℕ) (waits : Bool) → place_verdict s (length b) (not (is_open (open_containers s))) ≡ accepted
     → ◌≡◌ {A = Bool × List ℕ} (r, l) (abandoned_on s.used (innermost s).start b) → waits ≡ in_struct (innermost_first s.containers (s.depth - 1))

@@ -7,7 +7,10 @@ use Rattle.encoding.specs.Headers.{marker_bytes}
 use Rattle.buffer.specs.Laid.{placed}
 use Rattle.machine.specs.declared.State.{State}
 use Rattle.machine.specs.Machine.{longest_buffer, accepted, refused, empty_state, start_verdict, fits, is_open, open_containers, finished_length}
+use Rattle.std.specs.Option.{ok_or}
+use Rattle.machine.specs.declared.Refusal.TheVariants.{NoRoom}
 use Rattle.place.proofs.Laws.{fits_used}
+use Rattle.steps.specs.Heads.{begun}
 use Rattle.steps.specs.Start.{start_run}
 use Rattle.containers.proofs.Splice.{splice_end}
 use Rattle.buffer.proofs.Laid.{placed-none, placed-some}
@@ -31,6 +34,10 @@ module _ (b : List ℕ) (h : length b ≤ longest_buffer) (l : List ℕ) where
       let w = placed-some b 0 marker_bytes n l e in
       let g : 4 ≤ length b = omega (arith, w.0) in
       rw (w.1, w.2, ← (splice_end 0 marker_bytes b), le-ltb longest_buffer (length b) h, le-ltb (length b) 4 g, start_run)
+
+  pub start_copied : (o : Option ℕ) → ◌≡◌ {A = Option ℕ × List ℕ} (o, l) (placed b 0 marker_bytes) → begun (ok_or o NoRoom) l ≡ start_run b
+  start_copied None e = start_full e
+  start_copied (Some n) e = start_put n e
 
 -- what is finished lies in the buffer
 pub finished_within : (s : State) (room : ℕ) → finished_length s room ≤ room

@@ -1,4 +1,5 @@
 pub mod Checked
 pub mod Counted
+pub mod Heads
 pub mod Kinds
 pub mod Start

@@ -14,7 +14,6 @@ ghost use Rattle.scalars.specs.Types.{type_of};
 ghost use Rattle.timestamp.specs.Arguments.{argument_of};
 
 use machine::{Refused, State};
-use place::CallKind;
 use timestamp::Timestamp;
 use values::{Bits, Decimal, Int, IonType, Lob, Symbol, Text, Value, WriteAsIon};
 
@@ -27,12 +26,10 @@ pub fn write<V: WriteAsIon>(
 ) -> Result<State, Refused>
     ensures { outcome_of result buf.new ≡ run (write (sids_of annotations.now) (V.argument value)) (config s buf.old) }
 {
-    steps::check(s, buf.len(), CallKind::Value)?;
-    let put = values::write(buf, s.used, annotations, value).ok_or_else(|| Refused {
-        why: value.refusal(),
-        state: s,
-    })?;
-    Ok(steps::counted(steps::grown(s, put, false)))
+    match steps::write(&s, buf, annotations, value) {
+        Ok(head) => Ok(steps::with_head(steps::counted(s, head.depth), head)),
+        Err(why) => Err(steps::refused(s, why)),
+    }
 }
 
 // The functions from here on are `write` of one type each, under the names and with the parameters of ion-rust's value_writer.

@@ -1,2 +1,0 @@
-pub mod NoRoom
-pub mod Values
