@@ -55,7 +55,7 @@ pub fn gm_write_string(state: &mut [u8], buf: &mut [u8], annotations: &[u8], byt
     ensures { entered_as result state.new buf.new
         ≡ entered (call_of (gm_write_string annotations.now bytes.now)) state.old buf.old }
 {
-    entry_numbers::answered(entry_steps::write(state, buf, annotations, Text(bytes)))
+    entry_numbers::answered(entry_steps::write(state, buf, annotations, Text::new(bytes)))
 }
 
 // A clob.

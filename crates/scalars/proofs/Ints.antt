@@ -9,7 +9,7 @@ use Rattle.encoding.specs.Headers.{type_byte, framed_bytes}
 use Rattle.encoding.specs.Argument.{write_int, code_of_sign, argument_bytes}
 use Rattle.encoding.proofs.Headers.{type_byte_high}
 use Rattle.encoding.proofs.Trimmed.{trimmed-part, or_zero-none, or_zero-some}
-use Rattle.scalars.proofs.Puts.{written_whole, written_framed}
+use Rattle.scalars.proofs.Puts.{written_whole, written_framed, unwritten}
 
 -- the bytes by the code of the sign and by the body; the low four bits of the code do not count
 pub int_by : (s : Bool) (m : List ℕ) → (code : ℕ) → code ≡ type_byte (code_of_sign s) →
@@ -17,4 +17,4 @@ pub int_by : (s : Bool) (m : List ℕ) → (code : ℕ) → code ≡ type_byte (
 unfolding argument_bytes
 int_by s m code f l g = rw (f, type_byte_high (code_of_sign s), g) refl
 
-pub ruleset by_magnitude = (int_by, trimmed-part, or_zero-none, or_zero-some, written_whole, written_framed)
+pub ruleset by_magnitude = (unwritten, int_by, trimmed-part, or_zero-none, or_zero-some, written_whole, written_framed)

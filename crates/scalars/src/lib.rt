@@ -52,14 +52,6 @@ pub trait WriteAsIon: Copy {
     fn write(self, buf: &mut [u8], at: usize) -> Option<usize>
         ensures { ◌≡◌ {A = Option ℕ × List ℕ} (result, buf.new) (written buf.old at (checked_bytes (argument self))) };
 
-    // Puts them where its own checks have passed. A value whose checks read all of its bytes makes them no second time.
-    fn write_passed(self, buf: &mut [u8], at: usize) -> Option<usize>
-        requires { any_holds (argument_checks (argument self)) ≡ false }
-        ensures { ◌≡◌ {A = Option ℕ × List ℕ} (result, buf.new) (written buf.old at (checked_bytes (argument self))) }
-    {
-        self.write(buf, at)
-    }
-
     // Why it was not put where it may stand: the first of its own checks that fails, or 10.
     fn refusal(self) -> Refusal
         ensures { refused (number result) ≡ own_refusal (argument self) };
@@ -225,15 +217,11 @@ impl<'a> WriteAsIon for Int<'a> {
         Some(framed_size(body.max(1)))
     }
 
+    #[tactic(auto, using(crate::proofs::Ints::by_magnitude))]
     fn write(self, buf: &mut [u8], at: usize) -> Option<usize> {
         if self.is_negative_zero() {
             return None;
         }
-        self.write_passed(buf, at)
-    }
-
-    #[tactic(auto, using(crate::proofs::Ints::by_magnitude))]
-    fn write_passed(self, buf: &mut [u8], at: usize) -> Option<usize> {
         let code = int_code(self.negative);
         let zeros = uint::leading_zero_bytes(self.magnitude);
         if zeros == self.magnitude.len() {
@@ -339,38 +327,47 @@ impl WriteAsIon for Timestamp {
 
 // ---- strings and lobs
 
-// A string's bytes. Those that are not UTF-8 are refused.
+// A string's bytes, tested for UTF-8 once, where it is made. Those that are not UTF-8 are refused.
 #[derive(Clone, Copy)]
-pub struct Text<'a>(pub &'a [u8]);
+pub struct Text<'a> {
+    bytes: &'a [u8],
+    is_utf8: bool,
+    ghost told: { is_utf8 ≡ utf8 bytes.now },
+}
 
 impl<'a> Text<'a> {
+    pub fn new(bytes: &'a [u8]) -> Text<'a>
+        ensures { result.bytes ≡ bytes.entry }
+    {
+        Text {
+            bytes,
+            is_utf8: text::is_utf8(bytes),
+        }
+    }
+
     // Check 6 of document 01's table lets it pass.
     pub fn is_utf8(self) -> bool
-        ensures { result ≡ utf8 self.entry.0.now }
+        ensures { result ≡ utf8 self.entry.bytes.now }
     {
-        text::is_utf8(self.0)
+        self.is_utf8
     }
 }
 
 impl<'a> WriteAsIon for Text<'a> {
-    ghost argument = { λ s. write_string s.0.now };
+    ghost argument = { λ s. write_string s.bytes.now };
 
     fn size(self) -> Option<usize> {
         if !self.is_utf8() {
             return None;
         }
-        Some(framed_size(self.0.len()))
+        Some(framed_size(self.bytes.len()))
     }
 
     fn write(self, buf: &mut [u8], at: usize) -> Option<usize> {
         if !self.is_utf8() {
             return None;
         }
-        self.write_passed(buf, at)
-    }
-
-    fn write_passed(self, buf: &mut [u8], at: usize) -> Option<usize> {
-        write_bytes(buf, at, STRING, self.0)
+        write_bytes(buf, at, STRING, self.bytes)
     }
 
     fn refusal(self) -> Refusal {

@@ -182,7 +182,7 @@ pub fn write_string(
 ) -> Result<State, Refused>
     ensures { outcome_of result buf.new ≡ run (write (sids_of annotations.now) (write_string bytes.now)) (config s buf.old) }
 {
-    write(s, buf, annotations, Text(bytes))
+    write(s, buf, annotations, Text::new(bytes))
 }
 
 // A clob.

@@ -2,10 +2,11 @@
 -- By the law of a prefix and a value behind it. Assumes nothing.
 use mathlib.Core.Path.{◌≡◌, refl, sym, ◌∙◌, ap}
 use mathlib.Core.Bool.{true, false}
+use mathlib.Core.Logic.{◌⊎◌, ⊎_elim}
 use mathlib.Core.List.{List, ◌∷◌}
-use Prim.Native.Nat.{ℕ, ◌+◌, ◌≤◌, ◌<◌}
+use Prim.Native.Nat.{ℕ, max, ◌+◌, ◌≤◌, ◌<◌}
 use native.Mathlib.Omega.{arith}
-use borrow.Author.Tests.{eqb-false}
+use borrow.Author.Tests.{eqb-true, eqb-false}
 use lib.Dec.{eqb}
 use lib.ListN.{length, length-append}
 use Rattle.std.specs.Prelude.{Option, Some, None}
@@ -22,7 +23,7 @@ use Rattle.annotations.specs.Prefix.{prefix_bytes, placed_before}
 use Rattle.annotations.proofs.Sids.{sids_some}
 use Rattle.annotations.proofs.Prefix.{annotated_prefix, no_prefix, prefix_room, prefix_then}
 use Rattle.values.specs.Values.{annotated_checked}
-use Rattle.values.proofs.Checked.{annotated_refused, annotated_accepted}
+use Rattle.values.proofs.Checked.{annotated_refused, annotated_accepted, unannotated}
 
 module _ (a : Argument) where
   accepted_size : any_holds (argument_checks a) ≡ false → size_of (checked_bytes a) ≡ Some (length (checked_bytes a))
@@ -98,3 +99,42 @@ module _ (b : List ℕ) (at : ℕ) (notes : List ℕ) (some : eqb (length notes)
     wrapped_within m l' f =
         let k = placed-some l (at + n) (checked_bytes a) m l' (f ∙ value_written a (sized a size s).0 l (at + n)) in
         omega (arith, k.0, k.1)
+
+-- what stands before the value, n bytes: nothing without annotations, and with them the wrapper's header and the annotations
+abbrev pub Before : List ℕ → ℕ → List ℕ → Argument → ℕ → List ℕ → Type 0
+Before b at notes a n l =
+    ((eqb (length notes) 0 ≡ true) × ((n ≡ 0) × (l ≡ b)))
+    ⊎ ((eqb (length notes) 0 ≡ false) × ((size : ℕ) × ((Some size ≡ size_of (checked_bytes a))
+      × (◌≡◌ {A = Option ℕ × List ℕ} (Some n, l) (placed_before b at (prefix_bytes (sids_of notes) size) size)))))
+
+module _ (b : List ℕ) (at : ℕ) (notes : List ℕ) (a : Argument) (n : ℕ) (l : List ℕ) (before : Before b at notes a n l) where
+  pub value_room : at + n ≤ max at (length l)
+  value_room = ⊎_elim
+      (λ p. omega (arith, p.1.0))
+      (λ q. omega (arith, wrapper_room b at notes q.0 a q.1.0 q.1.1.0 n l q.1.1.1))
+      before
+
+  plain : eqb (length notes) 0 ≡ true → n ≡ 0 → l ≡ b → (r : Option ℕ) (l' : List ℕ) → ◌≡◌ {A = Option ℕ × List ℕ} (r, l') (written l (at + n) (checked_bytes a))
+      → ◌≡◌ {A = Option ℕ × List ℕ} (r, l') (written b at (annotated_checked (sids_of notes) a))
+  plain z e f r l' w =
+      let here : at + n ≡ at = omega (arith, e) in
+      unannotated b at notes a (eqb-true (length notes) 0 z) r l' (rw (← f, ← here) w)
+
+  pub no_value : (l' : List ℕ) → ◌≡◌ {A = Option ℕ × List ℕ} (None, l') (written l (at + n) (checked_bytes a))
+      → ◌≡◌ {A = Option ℕ × List ℕ} (None, l') (written b at (annotated_checked (sids_of notes) a))
+  no_value l' w = ⊎_elim
+      (λ p. plain p.0 p.1.0 p.1.1 None l' w)
+      (λ q. absurd (wrapped_put b at notes q.0 a q.1.0 q.1.1.0 n l q.1.1.1 l' w))
+      before
+
+  pub value_behind : (m : ℕ) (l' : List ℕ) → ◌≡◌ {A = Option ℕ × List ℕ} (Some m, l') (written l (at + n) (checked_bytes a))
+      → ◌≡◌ {A = Option ℕ × List ℕ} (Some (n + m), l') (written b at (annotated_checked (sids_of notes) a))
+  value_behind m l' w = ⊎_elim
+      (λ p. let m_is : n + m ≡ m = omega (arith, p.1.0) in rw m_is (plain p.0 p.1.0 p.1.1 (Some m) l' w))
+      (λ q. wrapped b at notes q.0 a q.1.0 q.1.1.0 n l q.1.1.1 m l' w)
+      before
+
+  pub value_within : (m : ℕ) (l' : List ℕ) → ◌≡◌ {A = Option ℕ × List ℕ} (Some m, l') (written l (at + n) (checked_bytes a)) → n + m ≤ length l
+  value_within m l' w = by_cases (any_holds (argument_checks a))
+      (λ h. absurd (none-some m (sym (ap (λ (p : Option ℕ × List ℕ). p.0) (w ∙ ap (written l (at + n)) (checked_bytes_refused a h))))))
+      (λ h. let k = placed-some l (at + n) (checked_bytes a) m l' (w ∙ value_written a h l (at + n)) in omega (arith, k.0, k.1))

@@ -19,11 +19,12 @@ pub fn write<V: WriteAsIon>(
     ensures { ◌≡◌ {A = Option ℕ × List ℕ} (result, buf.new)
         (written buf.old at (annotated_checked (sids_of annotations.now) (V.argument value))) }
 {
-    if annotations.is_empty() {
-        return value.write(buf, at);
-    }
-    let size = value.size()?;
-    let wrapper = annotations::write_prefix(buf, at, annotations, size)?;
-    let body = value.write_passed(buf, at + wrapper)?;
+    let wrapper = if annotations.is_empty() {
+        0
+    } else {
+        annotations::write_prefix(buf, at, annotations, value.size()?)?
+    };
+    // One call, with annotations and without: with two, a timestamp is copied for it, 31 instructions.
+    let body = value.write(buf, at + wrapper)?;
     Some(wrapper + body)
 }

@@ -168,7 +168,7 @@ impl<'a> Call<'a> {
             }
             Function::WriteTimestamp => values::write(buf, AT, annotations, self.local_time()),
             Function::WriteSymbol => values::write(buf, AT, annotations, Symbol(self.number(1))),
-            Function::WriteString => values::write(buf, AT, annotations, Text(bytes)),
+            Function::WriteString => values::write(buf, AT, annotations, Text::new(bytes)),
             Function::WriteClob => values::write(buf, AT, annotations, Lob::Clob(bytes)),
             Function::WriteBlob => values::write(buf, AT, annotations, Lob::Blob(bytes)),
         }

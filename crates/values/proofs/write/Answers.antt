@@ -1,17 +1,12 @@
--- The value, or its size, what stands before a value of that size, and the value behind it. Assumes nothing.
+-- What stands before the value, nothing or its wrapper, and the value behind it. Assumes nothing.
 use Prim.Native.Nat.{ℕ}
 use native.Mathlib.Omega.{arith}
 use mathlib.Core.Path.{sym, ◌∙◌, ap}
-use borrow.Author.Tests.{eqb-true}
-use lib.ListN.{length}
+use mathlib.Core.Logic.{inl, inr}
 use Rattle.std.specs.Prelude.{Option}
-use Rattle.values.proofs.Annotated.{no_wrapper, sized, unsized, wrapped, wrapped_put, wrapped_within, wrapper_room}
-use Rattle.values.proofs.Checked.{unannotated}
+use Rattle.values.proofs.Annotated.{Before, no_wrapper, unsized, value_room, no_value, value_behind, value_within}
+use Rattle.values.proofs.write.Goals.{then-is_empty, else-is_empty+in_ok-size+in_ok-wrapper}
 use Rattle.values.proofs.write.Goals as goal
-
-pub returns-then-is_empty : goal.returns-then-is_empty
-returns-then-is_empty g c = let a = c.args in
-    unannotated a.buf.now a.at a.annotations.now (g.V.WriteAsIon.argument a.value) (eqb-true (length a.annotations.now) 0 (sym c.is_empty.ensures ∙ c.if-is_empty.true)) _ _ c.write.ensures
 
 pub returns-in_err-size : goal.returns-in_err-size
 returns-in_err-size g c = let a = c.args in
@@ -24,26 +19,45 @@ returns-in_err-wrapper g c = let a = c.args in
     ∙ no_wrapper a.buf.now a.at a.annotations.now (sym c.is_empty.ensures ∙ c.if-is_empty.false) (g.V.WriteAsIon.argument a.value) _ (sym c.in_ok-size.was ∙ c.size.ensures) _ c.in_err-wrapper.ensures
 
 pub overflow_add-at : goal.overflow_add-at
-overflow_add-at g c = let a = c.args in
-    omega (arith, wrapper_room a.buf.now a.at a.annotations.now (sym c.is_empty.ensures ∙ c.if-is_empty.false) (g.V.WriteAsIon.argument a.value) _ (sym c.in_ok-size.was ∙ c.size.ensures) _ _ c.in_ok-wrapper.ensures)
-
-pub write_passed-requires : goal.write_passed-requires
-write_passed-requires g c = (sized (g.V.WriteAsIon.argument c.args.value) _ (sym c.in_ok-size.was ∙ c.size.ensures)).0
+overflow_add-at g c =
+    let a = c.args in
+    let x = g.V.WriteAsIon.argument a.value in
+    let before : Before a.buf.now a.at a.annotations.now x c.if-is_empty.wrapper c.if-is_empty.buf = elim c.if-is_empty.branch [
+      | then-is_empty w ↦ inl (sym c.is_empty.ensures ∙ w.if-is_empty.true, (w.wrapper-is, w.buf-is))
+      | else-is_empty+in_ok-size+in_ok-wrapper w ↦
+          inr (sym c.is_empty.ensures ∙ w.if-is_empty.false, (_, (sym w.in_ok-size.was ∙ w.size.ensures, rw (w.wrapper-is, w.buf-is) w.in_ok-wrapper.ensures)))
+    ] in
+    omega (arith, value_room a.buf.now a.at a.annotations.now x _ _ before)
 
 pub returns-in_err-body : goal.returns-in_err-body
-returns-in_err-body g c = let a = c.args in
-    absurd (wrapped_put a.buf.now a.at a.annotations.now (sym c.is_empty.ensures ∙ c.if-is_empty.false) (g.V.WriteAsIon.argument a.value) _ (sym c.in_ok-size.was ∙ c.size.ensures) _ _ c.in_ok-wrapper.ensures
-    _ c.in_err-body.ensures)
+returns-in_err-body g c =
+    let a = c.args in
+    let x = g.V.WriteAsIon.argument a.value in
+    let before : Before a.buf.now a.at a.annotations.now x c.if-is_empty.wrapper c.if-is_empty.buf = elim c.if-is_empty.branch [
+      | then-is_empty w ↦ inl (sym c.is_empty.ensures ∙ w.if-is_empty.true, (w.wrapper-is, w.buf-is))
+      | else-is_empty+in_ok-size+in_ok-wrapper w ↦
+          inr (sym c.is_empty.ensures ∙ w.if-is_empty.false, (_, (sym w.in_ok-size.was ∙ w.size.ensures, rw (w.wrapper-is, w.buf-is) w.in_ok-wrapper.ensures)))
+    ] in
+    rw c.from_residual-in_err-body.ensures (no_value a.buf.now a.at a.annotations.now x _ _ before _ c.in_err-body.ensures)
 
 pub overflow_add-result : goal.overflow_add-result
-overflow_add-result g c = let a = c.args in
-    omega (
-      arith,
-      wrapped_within a.buf.now a.at a.annotations.now (sym c.is_empty.ensures ∙ c.if-is_empty.false) (g.V.WriteAsIon.argument a.value) _ (sym c.in_ok-size.was ∙ c.size.ensures) _ _ c.in_ok-wrapper.ensures
-          _ _ c.in_ok-body.ensures,
-    )
+overflow_add-result g c =
+    let a = c.args in
+    let x = g.V.WriteAsIon.argument a.value in
+    let before : Before a.buf.now a.at a.annotations.now x c.if-is_empty.wrapper c.if-is_empty.buf = elim c.if-is_empty.branch [
+      | then-is_empty w ↦ inl (sym c.is_empty.ensures ∙ w.if-is_empty.true, (w.wrapper-is, w.buf-is))
+      | else-is_empty+in_ok-size+in_ok-wrapper w ↦
+          inr (sym c.is_empty.ensures ∙ w.if-is_empty.false, (_, (sym w.in_ok-size.was ∙ w.size.ensures, rw (w.wrapper-is, w.buf-is) w.in_ok-wrapper.ensures)))
+    ] in
+    omega (arith, value_within a.buf.now a.at a.annotations.now x _ _ before c.in_ok-body.body _ c.in_ok-body.ensures)
 
 pub returns : goal.returns
-returns g c = let a = c.args in
-    wrapped a.buf.now a.at a.annotations.now (sym c.is_empty.ensures ∙ c.if-is_empty.false) (g.V.WriteAsIon.argument a.value) _ (sym c.in_ok-size.was ∙ c.size.ensures) _ _ c.in_ok-wrapper.ensures
-    _ _ c.in_ok-body.ensures
+returns g c =
+    let a = c.args in
+    let x = g.V.WriteAsIon.argument a.value in
+    let before : Before a.buf.now a.at a.annotations.now x c.if-is_empty.wrapper c.if-is_empty.buf = elim c.if-is_empty.branch [
+      | then-is_empty w ↦ inl (sym c.is_empty.ensures ∙ w.if-is_empty.true, (w.wrapper-is, w.buf-is))
+      | else-is_empty+in_ok-size+in_ok-wrapper w ↦
+          inr (sym c.is_empty.ensures ∙ w.if-is_empty.false, (_, (sym w.in_ok-size.was ∙ w.size.ensures, rw (w.wrapper-is, w.buf-is) w.in_ok-wrapper.ensures)))
+    ] in
+    value_behind a.buf.now a.at a.annotations.now x _ _ before _ _ c.in_ok-body.ensures
