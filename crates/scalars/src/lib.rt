@@ -2,12 +2,11 @@
 // A value's bytes, their size and its refusal are found by its own checks.
 #![tactic(auto, using(crate::proofs::Puts::by_checks), unfolding(crate::specs::Refused::own_refusal, encoding::specs::Argument::argument_bytes))]
 
-ghost use Rattle.std.specs.Prelude.{◌≡◌, false, ◌&&◌, List, ℕ, Option, ◌*◌, ◌/◌, ◌^◌, ◌<◌, ◌≤◌, eqb, length};
+ghost use Rattle.std.specs.Prelude.{◌≡◌, List, ℕ, Option, ◌*◌, ◌/◌, ◌^◌, ◌<◌, ◌≤◌, length};
 ghost use Rattle.ion.specs.Value.{high_bits};
-ghost use Rattle.ion.specs.Fields.{uint};
 ghost use Rattle.ion.specs.Text.{utf8};
 ghost use Rattle.encoding.specs.Headers.{type_byte, framed_bytes};
-ghost use Rattle.encoding.specs.Argument.{Argument, code_of_null, code_of_sign, argument_checks, any_holds, checked_bytes, write_null, write_bool, write_i64, write_int, write_decimal, write_symbol, write_string};
+ghost use Rattle.encoding.specs.Argument.{Argument, code_of_null, code_of_sign, checked_bytes, write_null, write_bool, write_i64, write_int, write_decimal, write_symbol, write_string};
 ghost use Rattle.machine.specs.Machine.{refused};
 ghost use Rattle.machine.specs.Numbers.{number};
 ghost use Rattle.buffer.specs.Laid.{written, size_of};
