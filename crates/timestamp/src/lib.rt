@@ -128,6 +128,7 @@ impl Timestamp {
     }
 
     // The local fields, year 1 to 9999, a day of the calendar, hour 0 to 23, minute and second 0 to 59, as far as the precision goes; then offset and fraction.
+    // Inline too: called, it reads a copy of the timestamp in memory, and `gm_write_timestamp` takes 511 instructions where it takes 482.
     #[inline(always)]
     fn is_local(self) -> bool
         ensures { result ≡ is_local_timestamp (offset_minutes self.offset) (fields_of self) (fraction_digits self.fraction) }
@@ -359,6 +360,7 @@ impl Utc {
     }
 
     // The fields as VarUInts, as far as the precision goes. Those below the year take one byte each, and there is room for them.
+    // The loop ends by `break`: over `below[..count]` the fields lie in memory, and `gm_write_timestamp` takes 486 instructions where it takes 482.
     fn put_fields(self, buf: &mut [u8], at: usize) -> Option<usize>
         requires { at + length (var_uints_bytes (fields_of self.t)) ≤ length buf.old }
         ensures { ◌≡◌ {A = Option ℕ × List ℕ} (result, buf.new) (placed buf.old at (var_uints_bytes (fields_of self.t))) }
