@@ -2,7 +2,6 @@
 -- Assumes nothing.
 use mathlib.Core.Path.{sym}
 use native.Mathlib.Omega.{arith}
-use Rattle.encoding.proofs.Bits.{bits_used_pos}
 use Rattle.encoding.proofs.Sizes.{var_uint-size-small, var_uint-size}
 use borrow.Author.Rules.{rules}
 use Rattle.var_uint.proofs.encoded_size_of.Goals as goal
