@@ -1,7 +1,7 @@
 -- `annotations::write_prefix` meets its contract: there is room for the header, the annotations and the value, and header and annotations are put.
 -- By the law of two placed runs. Assumes nothing.
 use mathlib.Core.Path.{◌≡◌, refl, sym, ◌∙◌, ap}
-use mathlib.Core.Bool.{Bool, true, not}
+use mathlib.Core.Bool.{Bool, true}
 use mathlib.Core.List.{List, ◌++◌}
 use Prim.Native.Nat.{ℕ, ◌+◌, ◌≤◌}
 use native.Mathlib.Omega.{arith}
@@ -10,7 +10,7 @@ use lib.ListN.{length}
 use Rattle.std.specs.Prelude.{Option, Some, None}
 use Rattle.encoding.specs.Headers.{header_bytes, annotation_bytes}
 use Rattle.buffer.specs.Laid.{placed}
-use Rattle.buffer.proofs.Laid.{placed-length, placed-room, placed-some, placed_then, placed_then_none, room}
+use Rattle.buffer.proofs.Laid.{placed-length, placed-room, placed-some, placed_then, room}
 use Rattle.encoding.proofs.Headers.{length_header}
 use Rattle.annotations.specs.declared.Measured.{Measured}
 use Rattle.annotations.specs.Sids.{sids_of}
@@ -56,7 +56,7 @@ module _ (b : List ℕ) (at inner : ℕ) (s : List ℕ) (m : Measured) (same : m
         let q = placed-some b at (header_bytes 0xE0 (m.whole + inner) ++ annotation_bytes (sids_of s)) (n + k) l' p in (
           omega (arith, q.0, q.1),
           p ∙ (ap (λ (w : ℕ). placed b at (header_bytes 0xE0 (w + inner) ++ annotation_bytes (sids_of s))) whole
-          ∙ sym (placed_before-fits b at (prefix_bytes (sids_of s) inner) inner (omega (arith, fits, prefix_length)))),
+              ∙ sym (placed_before-fits b at (prefix_bytes (sids_of s) inner) inner (omega (arith, fits, prefix_length)))),
         )
 
 pub returns-in_err-first : goal.returns-in_err-first

@@ -1,12 +1,12 @@
 -- Each turn lays one byte more behind those that are laid. Assumes nothing.
-use mathlib.Core.Path.{◌≡◌, sym, ◌∙◌, ap, refl}
+use mathlib.Core.Path.{◌≡◌, ◌∙◌, ap, refl}
 use Prim.Native.Nat.{◌+◌}
 use native.Mathlib.Omega.{arith}
 use native.Mathlib.Numerals.{add-one}
 use lib.ListN.{length, take, get_or}
 use lib.Seq.{take-suc, take_all, length-take-le}
 use Rattle.buffer.specs.Laid.{laid}
-use Rattle.buffer.proofs.Laid.{laid_nil, laid_snoc, no_room, placed_by, placed_full, room}
+use Rattle.buffer.proofs.Laid.{laid_snoc, placed_by}
 use Rattle.buffer.proofs.copy.Goals as goal
 
 pub loop-i-preserved : goal.loop-i-preserved

@@ -1,18 +1,14 @@
 -- `containers::open_annotated` meets its contract: room for the whole; the annotations are put, and the reserves before and behind them cleared.
 -- Assumes nothing.
 use mathlib.Core.Path.{◌≡◌, sym, ◌∙◌, ap}
-use mathlib.Core.Bool.{not}
 use mathlib.Core.List.{List, [], ◌∷◌, ◌++◌}
 use Prim.Native.Nat.{ℕ, ◌+◌, ◌-◌, ◌≤◌, ◌<◌}
 use native.Mathlib.Omega.{arith}
-use lib.Dec.{leb}
-use borrow.Author.Tests.{leb-true, leb-false}
-use Rattle.ion.proofs.Tests.{by_cases}
 use lib.ListN.{length, replicate, length-append}
 use Rattle.encoding.specs.Headers.{annotation_bytes}
 use Rattle.buffer.specs.Laid.{laid}
 use Rattle.std.proofs.Common.{Option, Some, None}
-use Rattle.buffer.proofs.Laid.{laid-before, laid_more, placed-some, placed_full, placed_by, no_room, room}
+use Rattle.buffer.proofs.Laid.{laid-before, laid_more, placed-some, placed_full, placed_by, no_room}
 use Rattle.annotations.specs.Sids.{sids_of}
 use Rattle.annotations.specs.Prefix.{placed_before}
 use Rattle.annotations.proofs.Prefix.{before-some, before-none}

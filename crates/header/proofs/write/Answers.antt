@@ -11,9 +11,9 @@ use lib.ListN.{length}
 use Rattle.encoding.specs.Fields.{var_uint_bytes}
 use Rattle.encoding.specs.Headers.{header_bytes}
 use Rattle.buffer.specs.Laid.{placed}
-use Rattle.buffer.proofs.Laid.{placed_full, placed-some, placed-room, placed_then, placed_then_none, no_room, room}
+use Rattle.buffer.proofs.Laid.{placed-some, placed-room, placed_then, placed_then_none, room}
 use Rattle.encoding.proofs.Sizes.{var_uint-most}
-use Rattle.encoding.proofs.Headers.{header_short, header_long, length_header}
+use Rattle.encoding.proofs.Headers.{header_short, header_long}
 use borrow.Author.Rules.{rules}
 use Rattle.header.proofs.write.Goals as goal
 

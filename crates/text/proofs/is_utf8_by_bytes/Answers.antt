@@ -1,11 +1,7 @@
 -- Each byte ends, goes on with or begins a character, or nothing is UTF-8 with it. Assumes nothing.
-use Prim.Native.Nat.{◌+◌}
-use mathlib.Core.Path.{refl, sym, ◌∙◌, ap}
+use mathlib.Core.Path.{refl, sym, ◌∙◌}
 use native.Mathlib.Omega.{arith}
-use lib.ListN.{drop}
-use Rattle.ion.specs.Text.{utf8, utf8_from}
-use Rattle.text.specs.Due.{due}
-use Rattle.ion.proofs.Bytes.{drop-next}
+use Rattle.ion.specs.Text.{utf8}
 use Rattle.text.proofs.Bytes.{utf8_end}
 use Rattle.text.proofs.is_utf8_by_bytes.Goals as goal
 
