@@ -31,24 +31,14 @@ fn any_value(s: &[u8], holder: Holder, at: usize) -> Result<Option<Passed>, Stop
         Ok(None) => return Ok(None),
         Err(refusal) => return Err(Stopped { refusal, place: at }),
     };
-    let Header { kind, stop, .. } = item.held.header;
+    let Header { kind, start, stop } = item.held.header;
     if read_items::is_container(kind) {
-        inside(s, holder, item.held.header)?;
+        body(&s[..stop], holder.inside(kind), start)?;
     }
     Ok(Some(Passed {
         next: stop,
         least: read_items::least_after(holder.least, kind, item.name),
     }))
-}
-
-// The items of the container in `holder` that has this header.
-#[cycle(body_value)]
-fn inside(s: &[u8], holder: Holder, header: Header) -> Result<(), Stopped>
-    requires { (header.stop ≤ length s.now) × (holder.depth < 255) }
-    ensures { (f : ℕ) → header.stop - header.start + 1 ≤ f
-        → result ≡ (walk_from f (take header.stop s.now) header.kind 0 (holder.depth + 1) header.start).1 }
-{
-    body(&s[..header.stop], holder.inside(header.kind), header.start)
 }
 
 // The items from `at` to the end of the bytes. They are a loop: only containers inside containers take the stack.
