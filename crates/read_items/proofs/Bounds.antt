@@ -1,6 +1,6 @@
 -- What is known of an item that reads: where its sids and its body stand, and that there is room for a container.
 -- Assumes nothing.
-use Prim.Native.Nat.{ℕ, ◌+◌, ◌^◌, ◌≤◌, ◌<◌}
+use Prim.Native.Nat.{ℕ, ◌+◌, ◌%◌, ◌^◌, ◌≤◌, ◌<◌}
 use native.Mathlib.Omega.{arith}
 use mathlib.Core.Path.{◌≡◌, refl, sym, ◌∙◌, ap}
 use mathlib.Core.Bool.{Bool, true, false, cond, ◌&&◌, ◌||◌, not}
@@ -151,6 +151,10 @@ pub record Placed (s : List ℕ) (depth at : ℕ) (i : Item) : Type 0 where
   pub held : Held at (length s) i.held.sids i.held.sids_end i.held.header.start i.held.header.stop
   pub name64 : unwrap_or i.name 0 < 2 ^ 64
   pub room : opens i.held.header.kind ≡ true → depth < most_open
+
+-- with room for a container, one more is open inside
+pub one_more : {depth : ℕ} (inside : ℕ) → inside ≡ (depth + 1) % 256 → depth < most_open → inside ≡ depth + 1
+one_more {depth} inside e h = omega (arith, e)
 
 module _ (s : List ℕ) (parent least depth at : ℕ) (i : Item) where
   judged_bounds : (n : Option ℕ) (next : ℕ) (x : Result Wrapped Refusal) → at ≤ next → unwrap_or n 0 < 2 ^ 64

@@ -1,7 +1,7 @@
 // What a reader answers, by value. What it answers when is defined in specs/; a refusal's number is the one thing that is computed here.
 #![tactic(auto)]
 
-ghost use Rattle.std.specs.Prelude.{◌≡◌, ◌+◌, ◌<◌};
+ghost use Rattle.std.specs.Prelude.{◌≡◌, ◌+◌, ◌%◌};
 ghost use Rattle.reading.specs.Refusals.{number};
 
 pub mod codes;
@@ -86,15 +86,14 @@ impl Holder {
         depth: 0,
     };
 
-    // A container of this type byte that stands in it.
+    // A container of this type byte that stands in it. C may give any depth, so the sum wraps; a container is entered only where fewer than 32 are open.
     pub fn inside(self, kind: u8) -> Holder
-        requires { self.depth < 255 }
-        ensures { (result.kind ≡ kind) × ((result.least ≡ 0) × (result.depth ≡ self.depth + 1)) }
+        ensures { (result.kind ≡ kind) × ((result.least ≡ 0) × (result.depth ≡ (self.depth + 1) % 256)) }
     {
         Holder {
             kind,
             least: 0,
-            depth: self.depth + 1,
+            depth: self.depth.wrapping_add(1),
         }
     }
 }

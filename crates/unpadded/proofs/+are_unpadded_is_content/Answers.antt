@@ -4,7 +4,7 @@ use Rattle.std.specs.Prelude.{not, Ok, Err, None}
 use Rattle.std.proofs.Math.Seq.{length-take-le}
 use Rattle.reading.specs.Scalars.{scalar_in}
 use Rattle.reading.specs.Bodies.{mark_in}
-use Rattle.read_items.proofs.Bounds.{item_bounds}
+use Rattle.read_items.proofs.Bounds.{item_bounds, one_more}
 use Rattle.read_items.proofs.Parts.{part_slice}
 use Rattle.unpadded.proofs.Steps.{no_item, at_pad, wrong_content, goes_past, content_inside, content_leaf}
 use Rattle.unpadded.proofs.+are_unpadded_is_content.Goals as goal
@@ -78,11 +78,6 @@ are_unpadded-returns t c =
 pub is_content-slice_bounds-are_unpadded-end : goal.is_content-slice_bounds-are_unpadded-end
 is_content-slice_bounds-are_unpadded-end t c = sym (length-take-le c.args.header.stop c.args.s.now c.requires.1.0)
 
-pub is_content-inside-requires : goal.is_content-inside-requires
-is_content-inside-requires t c =
-    let h = c.requires.1.1 (sym c.is_container.ensures ∙ c.if-is_container.true) in
-    omega (arith, h)
-
 pub is_content-are_unpadded-requires : goal.is_content-are_unpadded-requires
 is_content-are_unpadded-requires t c =
     let prefix = length-take-le c.args.header.stop c.args.s.now c.requires.1.0 in
@@ -92,7 +87,8 @@ pub is_content-returns-then-is_container : goal.is_content-returns-then-is_conta
 is_content-returns-then-is_container t c = λ f h.
     let a = c.args in
     let prefix = length-take-le a.header.stop a.s.now c.requires.1.0 in
-    (rw (c.inside.ensures.0, c.inside.ensures.1.0, c.inside.ensures.1.1) at (c.are_unpadded.ensures f (omega (arith, prefix)))) ∙ content_inside f a.s.now a.holder.depth a.header.kind a.header.start a.header.stop
+    let deeper = one_more _ c.inside.ensures.1.1 (c.requires.1.1 (sym c.is_container.ensures ∙ c.if-is_container.true)) in
+    (rw (c.inside.ensures.0, c.inside.ensures.1.0, deeper) at (c.are_unpadded.ensures f (omega (arith, prefix)))) ∙ content_inside f a.s.now a.holder.depth a.header.kind a.header.start a.header.stop
     (sym c.is_container.ensures ∙ c.if-is_container.true)
 
 pub is_content-returns : goal.is_content-returns
