@@ -69,5 +69,5 @@ pub item_judged : (s : List ℕ) (parent least depth at : ℕ) (n : Name) (w : W
 unfolding item_at
 item_judged s parent least depth at n w h p q =
     let here : item_at s parent least depth at ≡ named s parent least depth (name_at s parent at) =
-        rw (le-ltb (length s) at (omega arith), ne_eqb at (length s) (λ e. omega arith)) refl in
+    rw (le-ltb (length s) at (omega arith), ne_eqb at (length s) (λ e. omega arith)) refl in
     here ∙ ap (named s parent least depth) (sym p) ∙ ap (judged s parent least depth n.value) (sym q)

@@ -64,15 +64,18 @@ pub fn has_names(parent: u8) -> bool
 pub fn least_after(least: u64, kind: u8, name: Option<u64>) -> u64
     ensures { result ≡ raised least kind name }
 {
-    if is_pad(kind) { least } else { name.unwrap_or(0) }
+    if is_pad(kind) {
+        least
+    } else {
+        name.unwrap_or(0)
+    }
 }
 
 // In a sorted struct a name may repeat but not fall, a pad's aside.
 fn name_falls(holder: Holder, kind: u8, name: Option<u64>) -> bool
     ensures { result ≡ falls holder.kind holder.least kind name }
 {
-    (holder.kind == SORTED_STRUCT)
-        & (!is_pad(kind) & name.is_some_and(|name| name < holder.least))
+    (holder.kind == SORTED_STRUCT) & (!is_pad(kind) & name.is_some_and(|name| name < holder.least))
 }
 
 // The groups of a VarUInt so far and a byte more. A last group leaves none.
@@ -212,7 +215,6 @@ fn held_at(s: &[u8], parent: u8, at: usize) -> Result<Wrapped, Refusal>
 }
 
 // Whether the name, the count of open containers and the body let the item stand. A container is not judged by its body, so the order is free.
-#[inline(always)]
 #[tactic(auto, using(crate::proofs::Stands::container_reads))]
 fn judge(holder: Holder, name: Option<u64>, kind: u8, body: &[u8]) -> Result<(), Refusal>
     ensures { result ≡ stands holder.kind holder.least holder.depth name kind body.now }
