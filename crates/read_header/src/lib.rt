@@ -2,7 +2,8 @@
 #![tactic(auto)]
 
 ghost use Rattle.std.specs.Prelude.{◌≡◌, ◌≤◌, ◌/◌, ◌%◌, length};
-ghost use Rattle.reading.specs.Headers.{impossible, alone, measured, never, framed, header_at, marker_at, top_header_at};
+ghost use Rattle.reading.specs.Headers.{impossible, alone, measured, never, header_at, marker_at, top_header_at};
+ghost use Rattle.read_header.specs.Lengths.{length_at};
 ghost use Rattle.read_header.specs.Usual.{least_length, usual};
 
 use reading::codes::{
@@ -16,11 +17,14 @@ const VERSION_MARKER: [u8; 4] = [MARKER, 0x01, 0x00, 0xEA];
 fn is_impossible(b: u8) -> bool
     ensures { result ≡ impossible (b / 16) (b % 16) }
 {
-    let (t, l) = (b / 16, b % 16);
-    (t == RESERVED)
-        | (((t == BOOL) & ((1 < l) & (l < NULL)))
-            | (((t == FLOAT) & !((l == 0) | ((l == 4) | ((l == 8) | (l == NULL)))))
-                | ((t == ANNOTATIONS) & ((l == 0) | (l == NULL)))))
+    let l = b % 16;
+    match b / 16 {
+        BOOL => (1 < l) & (l < NULL),
+        FLOAT => !((l == 0) | ((l == 4) | ((l == 8) | (l == NULL)))),
+        ANNOTATIONS => (l == 0) | (l == NULL),
+        RESERVED => true,
+        _ => false,
+    }
 }
 
 // The type descriptor is the whole value.
@@ -42,6 +46,9 @@ fn is_measured(b: u8) -> bool
 fn is_never(b: u8, n: u64) -> bool
     ensures { result ≡ never (b / 16) (b % 16) n }
 {
+    if 2 < n {
+        return false;
+    }
     let (t, l) = (b / 16, b % 16);
     ((t == NEGATIVE_INT) & (n == 0))
         | (((t == TIMESTAMP) & (n < 2))
@@ -49,30 +56,20 @@ fn is_never(b: u8, n: u64) -> bool
                 | ((t == STRUCT) & ((n == 1) | ((l == SORTED) & (n == 0))))))
 }
 
-// The body whose length and start `field` gives. The length is held against the bytes that are left, since start and length together may wrap.
-#[tactic(auto, using(crate::proofs::Headers::a_body))]
-fn frame(s: &[u8], b: u8, field: Number, out: Refusal) -> Result<Header, Refusal>
-    requires { field.next ≤ length s.now }
-    ensures { result ≡ framed out s.now b field.value field.next }
+// The length of the body, which the low four bits say or a field at `at`, and where the body starts.
+fn length_at(s: &[u8], b: u8, at: usize, out: Refusal) -> Result<Number, Refusal>
+    ensures { result ≡ length_at out s.now b at }
 {
-    let Number {
-        value: n,
-        next: start,
-    } = field;
-    if is_never(b, n) {
-        return Err(Refusal::NotIon);
+    if is_measured(b) {
+        return read_fields::var_uint(s, at, out);
     }
-    if ((s.len() - start) as u64) < n {
-        return Err(out);
-    }
-    Ok(Header {
-        kind: b,
-        start,
-        stop: start + n as usize,
+    Ok(Number {
+        value: u64::from(b % 16),
+        next: at,
     })
 }
 
-// The header at `at`, whatever its type byte.
+// The header at `at`, whatever its type byte. The length is held against the bytes that are left, since start and length together may wrap.
 #[tactic(auto, using(crate::proofs::Headers::a_byte))]
 fn any_header_at(s: &[u8], at: usize, out: Refusal) -> Result<Header, Refusal>
     ensures { result ≡ header_at out s.now at }
@@ -90,14 +87,21 @@ fn any_header_at(s: &[u8], at: usize, out: Refusal) -> Result<Header, Refusal>
             stop: at + 1,
         });
     }
-    if is_measured(b) {
-        return frame(s, b, read_fields::var_uint(s, at + 1, out)?, out);
+    let Number {
+        value: n,
+        next: start,
+    } = length_at(s, b, at + 1, out)?;
+    if is_never(b, n) {
+        return Err(Refusal::NotIon);
     }
-    let short = Number {
-        value: u64::from(b % 16),
-        next: at + 1,
-    };
-    frame(s, b, short, out)
+    if ((s.len() - start) as u64) < n {
+        return Err(out);
+    }
+    Ok(Header {
+        kind: b,
+        start,
+        stop: start + n as usize,
+    })
 }
 
 // The least length of a type's bodies that the low four bits of its type byte may say; no length for types whose low bits say other things too.

@@ -2,7 +2,7 @@
 -- Assumes nothing.
 use Prim.Native.Nat.{ℕ, ◌+◌, ◌%◌, ◌^◌, ◌≤◌, ◌<◌}
 use native.Mathlib.Omega.{arith}
-use mathlib.Core.Path.{◌≡◌, refl, ◌∙◌, ap}
+use mathlib.Core.Path.{◌≡◌, refl, sym, ◌∙◌, ap}
 use mathlib.Core.Bool.{Bool, true, false, cond, ◌&&◌, ◌||◌, not}
 use mathlib.Core.List.{List}
 use lib.Dec.{ltb, leb, eqb}
@@ -131,11 +131,6 @@ unwrapped_bounds s at h w k e = by_kind (is_wrapper h.kind) e
           within = omega (arith, k.within);
         }
 
--- what the header behind a name holds has its body within the bytes
-pub body_bounds : (s : List ℕ) (parent at : ℕ) (h : Header) (w : Wrapped) → head_in s parent at ≡ Ok h → unwrapped s (Ok h) ≡ Ok w
-    → (w.header.start ≤ w.header.stop) × (w.header.stop ≤ length s)
-body_bounds s parent at h w p q = let k = unwrapped_bounds s at h w (head_bounds s parent at h p) q in (k.body, k.within)
-
 -- what a header behind a name holds
 held_bounds : (s : List ℕ) (parent at : ℕ) (w : Wrapped) → unwrapped s (head_in s parent at) ≡ Ok w
     → Held at (length s) w.sids w.sids_end w.header.start w.header.stop
@@ -144,6 +139,11 @@ held_bounds s parent at w e = by_header (head_in s parent at) refl e
     by_header : (h : Result Header Refusal) → head_in s parent at ≡ h → unwrapped s h ≡ Ok w → Held at (length s) w.sids w.sids_end w.header.start w.header.stop
     by_header (Err r) q e = cc
     by_header (Ok h) q e = unwrapped_bounds s at h w (head_bounds s parent at h q) e
+
+-- and so its body lies within the bytes
+pub body_bounds : (s : List ℕ) (parent at : ℕ) (w : Wrapped) → Ok w ≡ unwrapped s (head_in s parent at)
+    → (w.header.start ≤ w.header.stop) × (w.header.stop ≤ length s)
+body_bounds s parent at w e = let k = held_bounds s parent at w (sym e) in (k.body, k.within)
 
 -- ---- the item
 

@@ -3,3 +3,4 @@ pub mod Parts
 pub mod Sids
 pub mod Fuel
 pub mod Ints
+pub mod Stands

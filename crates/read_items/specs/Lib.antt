@@ -1,2 +1,3 @@
 pub mod Ints
 pub mod Sids
+pub mod Stands

@@ -6,7 +6,8 @@ ghost use Rattle.reading.specs.declared.Refusal.TheVariants.{NotIon};
 ghost use Rattle.reading.specs.Headers.{header_at};
 ghost use Rattle.reading.specs.Scalars.{is_some, sids_of};
 ghost use Rattle.reading.specs.Items.{is_pad, is_wrapper, opens, has_names, name_at, head_in, filled, annotated, wrapped_at, unwrapped, reads, falls};
-ghost use Rattle.reading.specs.Items.{raised, judged, named, item_at};
+ghost use Rattle.reading.specs.Items.{raised, item_at};
+ghost use Rattle.read_items.specs.Stands.{stands};
 ghost use Rattle.read_items.specs.Ints.{is_sequence, is_short_int, int_end};
 ghost use Rattle.read_items.specs.Sids.{groups_with};
 
@@ -63,15 +64,18 @@ pub fn has_names(parent: u8) -> bool
 pub fn least_after(least: u64, kind: u8, name: Option<u64>) -> u64
     ensures { result ≡ raised least kind name }
 {
-    if is_pad(kind) { least } else { name.unwrap_or(0) }
+    if is_pad(kind) {
+        least
+    } else {
+        name.unwrap_or(0)
+    }
 }
 
 // In a sorted struct a name may repeat but not fall, a pad's aside.
 fn name_falls(holder: Holder, kind: u8, name: Option<u64>) -> bool
     ensures { result ≡ falls holder.kind holder.least kind name }
 {
-    (holder.kind == SORTED_STRUCT)
-        & (!is_pad(kind) & name.is_some_and(|name| name < holder.least))
+    (holder.kind == SORTED_STRUCT) & (!is_pad(kind) & name.is_some_and(|name| name < holder.least))
 }
 
 // The groups of a VarUInt so far and a byte more. A last group leaves none.
@@ -190,50 +194,47 @@ fn unwrap(s: &[u8], header: Header) -> Result<Wrapped, Refusal>
     })
 }
 
-// Whether the body of a scalar reads. Others are not judged by their body.
+// Whether the body of a scalar reads. Others are not judged by their body. Most are scalars, so that is asked first.
+#[tactic(auto, using(crate::proofs::Stands::reads_by))]
 fn body_reads(kind: u8, body: &[u8]) -> bool
     ensures { result ≡ reads kind body.now }
 {
-    if is_pad(kind) | ((kind == MARKER) | is_container(kind)) {
-        return true;
-    }
-    read_scalars::reads(kind, body)
+    read_scalars::reads(kind, body) || (is_pad(kind) | ((kind == MARKER) | is_container(kind)))
 }
 
-// Whether the name, the body and the count of open containers let the item stand.
-#[tactic(auto, using(crate::proofs::Parts::part_slice))]
-fn judge(s: &[u8], holder: Holder, name: Option<u64>, held: Wrapped) -> Result<Option<Item>, Refusal>
-    requires { (held.header.start ≤ held.header.stop) × (held.header.stop ≤ length s.now) }
-    ensures { result ≡ judged s.now holder.kind holder.least holder.depth name (Ok held) }
+// The header behind the name, and what it holds. Document 01 names `let .. else` here, where `?` would do.
+#[tactic(auto, using(crate::proofs::Bounds::head_bounds))]
+fn held_at(s: &[u8], parent: u8, at: usize) -> Result<Wrapped, Refusal>
+    ensures { result ≡ unwrapped s.now (head_in s.now parent at) }
 {
-    let Header { kind, start, stop } = held.header;
-    if name_falls(holder, kind, name) {
-        return Err(Refusal::NotIon);
-    }
-    if !body_reads(kind, &s[start..stop]) {
-        return Err(Refusal::NotIon);
-    }
-    if is_container(kind) & (MOST_OPEN <= holder.depth) {
-        return Err(Refusal::TooDeep);
-    }
-    Ok(Some(Item { name, held }))
-}
-
-// The item whose name is read; its header stands behind that. Document 01 names `let .. else` here, where `?` would do.
-#[tactic(auto, using(crate::proofs::Bounds::head_bounds, crate::proofs::Bounds::body_bounds))]
-fn named_item(s: &[u8], holder: Holder, name: Name) -> Result<Option<Item>, Refusal>
-    ensures { result ≡ named s.now holder.kind holder.least holder.depth (Ok name) }
-{
-    let found = head_in(s, holder.kind, name.next);
+    let found = head_in(s, parent, at);
     let Ok(header) = found else {
         return Err(found.unwrap_err());
     };
-    judge(s, holder, name.value, unwrap(s, header)?)
+    unwrap(s, header)
+}
+
+// Whether the name, the count of open containers and the body let the item stand. A container is not judged by its body, so the order is free.
+#[tactic(auto, using(crate::proofs::Stands::container_reads))]
+fn judge(holder: Holder, name: Option<u64>, kind: u8, body: &[u8]) -> Result<(), Refusal>
+    ensures { result ≡ stands holder.kind holder.least holder.depth name kind body.now }
+{
+    if name_falls(holder, kind, name) {
+        return Err(Refusal::NotIon);
+    }
+    if (MOST_OPEN <= holder.depth) && is_container(kind) {
+        return Err(Refusal::TooDeep);
+    }
+    if !body_reads(kind, body) {
+        return Err(Refusal::NotIon);
+    }
+    Ok(())
 }
 
 // The item at `at`, in what holds it, whose end the bytes reach to. It is not inlined: a walk that enters containers would take its frame for each.
+// Its parts are put together here: a struct that is handed on is copied with its padding, by which whole reading takes 333 ns a record for 249.
 #[inline(never)]
-#[tactic(auto, unfolding(reading::specs::Items::item_at))]
+#[tactic(auto, using(crate::proofs::Bounds::body_bounds, crate::proofs::Parts::part_slice), unfolding(reading::specs::Items::item_at))]
 pub fn item(s: &[u8], holder: Holder, at: usize) -> Result<Option<Item>, Refusal>
     ensures { result ≡ item_at s.now holder.kind holder.least holder.depth at }
 {
@@ -243,7 +244,15 @@ pub fn item(s: &[u8], holder: Holder, at: usize) -> Result<Option<Item>, Refusal
     if at == s.len() {
         return Ok(None);
     }
-    named_item(s, holder, name_at(s, holder.kind, at)?)
+    let name = name_at(s, holder.kind, at)?;
+    let held = held_at(s, holder.kind, name.next)?;
+    let Header { kind, start, stop } = held.header;
+    judge(holder, name.value, kind, &s[start..stop])?;
+    let header = Header { kind, start, stop };
+    Ok(Some(Item {
+        name: name.value,
+        held: Wrapped { header, ..held },
+    }))
 }
 
 // A list's or an s-expression's type byte.

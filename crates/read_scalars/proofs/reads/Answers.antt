@@ -47,7 +47,7 @@ returns-in-5 c = let a = c.args in
 pub returns-in-6 : goal.returns-in-6
 unfolding code_from body_of scalar_of
 returns-in-6 c = let a = c.args in
-    c.is_ok-in-6.ensures.value ∙ ap is_ok c.timestamp.ensures ∙ timestamp_is_read a.body.now
+    c.is_timestamp.ensures ∙ timestamp_is_read a.body.now
     ∙ body_reads c.args.kind c.args.body.now c.if-kind-eq-NULL.false 6 timestamp_code refl c.in-6.is
 
 pub returns-in-7 : goal.returns-in-7
