@@ -1,6 +1,7 @@
 // The words of a text, which single spaces part. A text has one word more than spaces, and a word that is missing is empty.
 #![tactic(auto)]
 
+pub mod filled;
 pub mod hex;
 pub mod input;
 pub mod numbers;
