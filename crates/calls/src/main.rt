@@ -20,6 +20,7 @@ ghost use Rattle.std.specs.Prelude.{◌≡◌, length};
 use lines::{Got, Line};
 use machine::{MOST_OPEN, State};
 use std::io;
+use words::filled::Filled;
 use writes::Call;
 
 // As many bytes of input are too many.
@@ -29,9 +30,8 @@ const MOST_TEXT: usize = 65536;
 const FILL: u8 = 0xEE;
 
 fn has_bytes(buf: &[u8], from: usize, hex: &[u8]) -> bool {
-    let mut bytes = [0u8; 256];
-    let count = words::hex::bytes(hex, &mut bytes);
-    buf.get(from..).unwrap_or(&[]).starts_with(&bytes[..count])
+    let bytes: Filled<256> = Filled::from_hex(hex);
+    buf.get(from..).unwrap_or(&[]).starts_with(bytes.used())
 }
 
 fn report(rt: &impl Print, is_right: bool) -> io::Result<()> {

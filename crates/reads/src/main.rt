@@ -9,6 +9,7 @@ mod values;
 mod walk;
 
 use std::io;
+use words::filled::Filled;
 
 // As many bytes of input are too many.
 const MOST_TEXT: usize = 65536;
@@ -20,10 +21,9 @@ fn print_stream(rt: &impl Print, line: &[u8]) -> io::Result<()> {
     if 2 * LONGEST_STREAM < hex.len() {
         return print!(rt; "longer than is read");
     }
-    let mut bytes = [0u8; LONGEST_STREAM];
-    let n = words::hex::bytes(hex, &mut bytes);
+    let stream: Filled<LONGEST_STREAM> = Filled::from_hex(hex);
     let position = words::numbers::natural(words::word(line, 1), u64::MAX).unwrap_or(0);
-    walk::print_walk(rt, &bytes[..n], position as usize)
+    walk::print_walk(rt, stream.used(), position as usize)
 }
 
 fn answer(rt: &impl Print, line: &[u8]) -> io::Result<()> {
