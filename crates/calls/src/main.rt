@@ -23,7 +23,7 @@ use std::io;
 use words::filled::Filled;
 use writes::Call;
 
-// As many bytes of input are too many.
+// As many bytes of input are too many. Nothing allocates, so the text and the buffer are arrays.
 const MOST_TEXT: usize = 65536;
 
 // What the buffer holds before a list.
@@ -34,6 +34,7 @@ fn has_bytes(buf: &[u8], from: usize, hex: &[u8]) -> bool {
     buf.get(from..).unwrap_or(&[]).starts_with(bytes.used())
 }
 
+// Printed as the lines are run: no value is kept of an answer that `Display` could show.
 fn report(rt: &impl Print, is_right: bool) -> io::Result<()> {
     println!(rt; "{}", if is_right { "ok" } else { "differs" })
 }

@@ -98,6 +98,7 @@ fn f64_of(bits: u64) -> f64 {
     f64::from_bits(bits)
 }
 
+// The program `vectors` has the same type over other functions: see there.
 #[derive(Clone, Copy)]
 pub(crate) struct Call<'a> {
     function: Function,

@@ -11,11 +11,12 @@ mod walk;
 use std::io;
 use words::filled::Filled;
 
-// As many bytes of input are too many.
+// As many bytes of input are too many. Nothing allocates, so what is read and the numbers that the entry points put are arrays.
 const MOST_TEXT: usize = 65536;
 
 const LONGEST_STREAM: usize = 8192;
 
+// Printed as it is read, here and in `walk`: no value holds the items of a stream, which `Display` could show.
 fn print_stream(rt: &impl Print, line: &[u8]) -> io::Result<()> {
     let hex = words::word(line, 0);
     if 2 * LONGEST_STREAM < hex.len() {

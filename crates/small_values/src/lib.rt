@@ -9,7 +9,7 @@ ghost use Rattle.small_values.specs.Listing.{next_value};
 
 const LONGEST: usize = 3;
 
-// How many byte strings of a size are asked: all up to three bytes.
+// How many byte strings of a size are asked: all up to three bytes, and as the definition has it none of more, which is a count.
 pub fn limit(size: usize) -> u32
     ensures { result ≡ S.limit size }
 {

@@ -15,7 +15,7 @@ use words::filled::Filled;
 
 const ROOM: usize = 512;
 
-// As many bytes of input are too many.
+// As many bytes of input are too many. Nothing allocates, so the text and the buffers are arrays.
 const MOST_TEXT: usize = 65536;
 
 // What a buffer holds before a call.
