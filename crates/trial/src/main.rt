@@ -40,6 +40,7 @@ impl fmt::Display for Failure {
     }
 }
 
+// A function: `From` would take an error of any reading for one of writing.
 fn print(rt: &impl Print, text: &[u8]) -> Result<(), Failure> {
     rt.write_all(text).map_err(|_| Failure::Unwritten)
 }
