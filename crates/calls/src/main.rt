@@ -20,20 +20,21 @@ ghost use Rattle.std.specs.Prelude.{◌≡◌, length};
 use lines::{Got, Line};
 use machine::{MOST_OPEN, State};
 use std::io;
+use words::filled::Filled;
 use writes::Call;
 
-// As many bytes of input are too many.
+// As many bytes of input are too many. Nothing allocates, so the text and the buffer are arrays.
 const MOST_TEXT: usize = 65536;
 
 // What the buffer holds before a list.
 const FILL: u8 = 0xEE;
 
 fn has_bytes(buf: &[u8], from: usize, hex: &[u8]) -> bool {
-    let mut bytes = [0u8; 256];
-    let count = words::hex::bytes(hex, &mut bytes);
-    buf.get(from..).unwrap_or(&[]).starts_with(&bytes[..count])
+    let bytes: Filled<256> = Filled::from_hex(hex);
+    buf.get(from..).unwrap_or(&[]).starts_with(bytes.used())
 }
 
+// Printed as the lines are run: no value is kept of an answer that `Display` could show.
 fn report(rt: &impl Print, is_right: bool) -> io::Result<()> {
     println!(rt; "{}", if is_right { "ok" } else { "differs" })
 }

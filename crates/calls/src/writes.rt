@@ -5,6 +5,7 @@ ghost use Rattle.std.specs.Prelude.{◌≤◌, length};
 use machine::{Closed, Refused, State};
 use scalars::IonType;
 use timestamp::{Precision, Timestamp};
+use words::filled::Filled;
 use words::{hex, numbers};
 use writer::ContainerType;
 
@@ -97,6 +98,7 @@ fn f64_of(bits: u64) -> f64 {
     f64::from_bits(bits)
 }
 
+// The program `vectors` has the same type over other functions: see there.
 #[derive(Clone, Copy)]
 pub(crate) struct Call<'a> {
     function: Function,
@@ -182,9 +184,8 @@ impl<'a> Call<'a> {
 
     // Makes the call.
     pub(crate) fn make(self, state: State, buf: &mut [u8]) -> Result<Closed, Refused> {
-        let mut annotations = [0u8; 256];
-        let n = hex::bytes(self.sids, &mut annotations);
-        let annotations = &annotations[..n];
+        let annotations: Filled<256> = Filled::from_hex(self.sids);
+        let annotations = annotations.used();
         let mut bytes = [BODY; 65536];
         let m = self.put_bytes(&mut bytes);
         let bytes = &bytes[..m];

@@ -11,7 +11,7 @@ use std::env::{Env, FillError};
 use std::io;
 use std::process::ExitCode;
 
-// Prints the lines of one size, or stops where they can't be printed.
+// Prints the lines of one size as they are found, or stops where they can't be printed: there is no room for all of them, which `Display` could show.
 fn print_size(rt: &impl Print, size: Size) -> io::Result<()> {
     let mut lines = Lines::new();
     let mut from = 0;

@@ -9,21 +9,22 @@ mod values;
 mod walk;
 
 use std::io;
+use words::filled::Filled;
 
-// As many bytes of input are too many.
+// As many bytes of input are too many. Nothing allocates, so what is read and the numbers that the entry points put are arrays.
 const MOST_TEXT: usize = 65536;
 
 const LONGEST_STREAM: usize = 8192;
 
+// Printed as it is read, here and in `walk`: no value holds the items of a stream, which `Display` could show.
 fn print_stream(rt: &impl Print, line: &[u8]) -> io::Result<()> {
     let hex = words::word(line, 0);
     if 2 * LONGEST_STREAM < hex.len() {
         return print!(rt; "longer than is read");
     }
-    let mut bytes = [0u8; LONGEST_STREAM];
-    let n = words::hex::bytes(hex, &mut bytes);
+    let stream: Filled<LONGEST_STREAM> = Filled::from_hex(hex);
     let position = words::numbers::natural(words::word(line, 1), u64::MAX).unwrap_or(0);
-    walk::print_walk(rt, &bytes[..n], position as usize)
+    walk::print_walk(rt, stream.used(), position as usize)
 }
 
 fn answer(rt: &impl Print, line: &[u8]) -> io::Result<()> {

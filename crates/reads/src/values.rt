@@ -4,8 +4,9 @@ use crate::refusal::{Refusal, answered};
 use entry_reading::{gm_read_decimal, gm_read_symbol, gm_read_timestamp};
 use std::fmt;
 
-// "Typed Value Formats": a type byte is the type code and four low bits, of which 15 is a null. The program stands on the entry points alone, as a host
-// does, so the numbers have their names here again.
+// "Typed Value Formats": a type byte is the type code and four low bits, of which 15 is a null. The reader names the codes too: this program is built on
+// its entry points alone, as are the types below, which hold what those answer. An entry point gives the type byte as it stands in the stream, so an
+// enum would put a table of the codes before that of `Value`.
 pub(crate) const NULL: u8 = 15;
 
 const BOOL: u8 = 1;

@@ -9,7 +9,8 @@ ghost use Rattle.small_values.specs.Listing.{next_value};
 
 const LONGEST: usize = 3;
 
-// How many byte strings of a size are asked: all up to three bytes.
+// How many byte strings of a size are asked: all up to three bytes, and as the definition has it none of more, which is a count.
+#[tactic(auto, using(crate::proofs::Steps::power_fits), unfolding(crate::specs::Listing::limit))]
 pub fn limit(size: usize) -> u32
     ensures { result ≡ S.limit size }
 {
@@ -28,6 +29,7 @@ pub fn spell(bytes: &mut [u8], number: u32)
 }
 
 // Whether a string is one value without pad and mark.
+#[tactic(auto, using(crate::proofs::Filled::zeros_front, crate::proofs::Filled::within, crate::proofs::Filled::front_length, crate::proofs::Filled::front))]
 fn is_value(size: usize, number: u32) -> bool
     requires { size ≤ 3 }
     ensures { result ≡ is_one_value (low_digits 256 size number) }

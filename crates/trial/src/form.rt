@@ -8,7 +8,8 @@ use words::{count, hex, numbers, word};
 
 const MOST_I32: u64 = 2147483647;
 
-// The types of the Ion document, by their codes. 3 is that of negative ints.
+// The types of the Ion document, by their codes. 3 is that of negative ints. `scalars` has such a type, and `timestamp` one of the name below: this program
+// is built on the entry points alone, which take numbers.
 #[derive(Clone, Copy)]
 pub(crate) enum Type {
     Null,

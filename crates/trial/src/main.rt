@@ -2,22 +2,21 @@
 // number of the refusal.
 #![tactic(auto)]
 
-mod filled;
 mod form;
 mod names;
 mod refused;
 mod run;
 mod walk;
 
-ghost use Rattle.std.specs.Prelude.{◌+◌, ◌≤◌, length, IfOk};
+ghost use Rattle.std.specs.Prelude.{◌≡◌, [], ◌≤◌, length, IfOk};
 
-use filled::Filled;
 use run::Writer;
 use std::fmt;
 use std::fmt::Write;
 use std::io::Read;
 use std::process::ExitCode;
 use walk::{TOO_LONG, Walk};
+use words::filled::Filled;
 
 // How many bytes are read or printed at once, at most.
 const BLOCK: usize = 65536;
@@ -41,6 +40,7 @@ impl fmt::Display for Failure {
     }
 }
 
+// A function: `From` would take an error of any reading for one of writing.
 fn print(rt: &impl Print, text: &[u8]) -> Result<(), Failure> {
     rt.write_all(text).map_err(|_| Failure::Unwritten)
 }
@@ -53,7 +53,7 @@ struct Answers {
 
 impl Answers {
     fn print(&mut self, rt: &impl Print) -> Result<(), Failure>
-        ensures { self.new.waiting.used ≤ 0 }
+        ensures { self.new.waiting ≡ [] }
     {
         let printed = print(rt, self.waiting.used());
         self.waiting.clear();
@@ -62,7 +62,7 @@ impl Answers {
 
     // Prints the answers, if they are too many to put one more behind them.
     fn make_room(&mut self, rt: &impl Print) -> Result<(), Failure>
-        ensures { IfOk result (λ _. self.new.waiting.used ≤ 32767) }
+        ensures { IfOk result (λ _. length self.new.waiting ≤ 32767) }
     {
         if MOST_WAITING < self.waiting.used().len() {
             self.print(rt)?;
@@ -71,16 +71,16 @@ impl Answers {
     }
 
     fn answer<'a>(&mut self, writer: &mut Writer, walk: &mut Walk<'a>, line: &'a [u8])
-        requires { self.old.waiting.used ≤ 32767 }
+        requires { length self.old.waiting ≤ 32767 }
     {
         match writer.bytes_of(walk, line) {
-            Ok(bytes) => self.waiting.put_hex(bytes),
+            Ok(bytes) => self.waiting.append_hex(bytes),
             Err(refused) => {
                 // There is room.
                 let _ = write!(self.waiting, "{refused}");
             }
         }
-        self.waiting.put(b"\n");
+        self.waiting.append(b"\n");
     }
 }
 

@@ -1,12 +1,12 @@
 // The calls of a line that has the form.
 ghost use Rattle.std.specs.Prelude.{◌≤◌, length, IfOk};
 
-use crate::filled::Filled;
 use crate::form::{Fraction, Scalar, Timestamp, check};
 use crate::names::Name;
 use crate::refused::{Refused, answered};
 use crate::walk::{Container, Line, Part, Walk};
 use goatminute::STATE_SIZE;
+use words::filled::Filled;
 use words::numbers::has_minus;
 
 const ROOM: usize = 16384;
@@ -70,7 +70,7 @@ impl Writer {
         | Scalar::Clob(word)
         | Scalar::Blob(word) = value
         {
-            self.spelled.spell(word);
+            self.spelled.read_hex(word);
         }
         let state = &mut self.state;
         let buf = &mut self.buf;
@@ -143,7 +143,7 @@ impl Writer {
         }
         for word in names.split(|byte| *byte == b' ') {
             let sid = Name::try_from(word)?.sid()?;
-            self.annotations.put(&sid.to_le_bytes());
+            self.annotations.append(&sid.to_le_bytes());
         }
         Ok(())
     }

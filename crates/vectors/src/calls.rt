@@ -3,6 +3,7 @@
 use crate::functions::{Function, NoFunction, ion_type};
 use timestamp::{Fraction, Precision, Timestamp};
 use values::{Bits, Decimal, Int, Lob, Symbol, Text};
+use words::filled::Filled;
 use words::{hex, numbers};
 
 pub(crate) const AT: usize = 3;
@@ -127,12 +128,10 @@ impl<'a> Call<'a> {
 
     // Makes the call, and answers how many bytes it put, if it put any.
     pub(crate) fn put(self, buf: &mut [u8]) -> Option<usize> {
-        let mut annotations = [0u8; 256];
-        let n = hex::bytes(self.sids, &mut annotations);
-        let annotations = &annotations[..n];
-        let mut bytes = [0u8; 256];
-        let m = hex::bytes(self.hex(), &mut bytes);
-        let bytes = &bytes[..m];
+        let annotations: Filled<256> = Filled::from_hex(self.sids);
+        let annotations = annotations.used();
+        let bytes: Filled<256> = Filled::from_hex(self.hex());
+        let bytes = bytes.used();
         match self.function {
             Function::VarUint => var_uint::write(buf, AT, self.number(1)),
             Function::VarInt => var_int::write(buf, AT, self.is_negative(), self.number(2)),

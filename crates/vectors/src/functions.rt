@@ -65,7 +65,7 @@ impl TryFrom<&[u8]> for Function {
     }
 }
 
-// The type that a null's word names.
+// The type that a null's word names. No `TryFrom`: neither the trait nor the type is this crate's.
 pub(crate) fn ion_type(name: &[u8]) -> IonType {
     match name {
         b"bool" => IonType::Bool,

@@ -11,10 +11,11 @@ ghost use Rattle.std.specs.Prelude.{◌≤◌, length};
 use calls::{AT, Call};
 use functions::NoFunction;
 use std::{fmt, io};
+use words::filled::Filled;
 
 const ROOM: usize = 512;
 
-// As many bytes of input are too many.
+// As many bytes of input are too many. Nothing allocates, so the text and the buffers are arrays.
 const MOST_TEXT: usize = 65536;
 
 // What a buffer holds before a call.
@@ -90,9 +91,8 @@ fn compared<'a>(vector: &'a [u8], expected: &[u8]) -> Result<(), Wrong<'a>>
 
 // Answers whether a vector is right.
 fn answer(rt: &impl Print, line: &[u8]) -> io::Result<bool> {
-    let mut bytes = [0u8; 256];
-    let n = words::hex::bytes(words::word(line, 0), &mut bytes);
-    match compared(words::from_word(line, 1), &bytes[..n]) {
+    let expected: Filled<256> = Filled::from_hex(words::word(line, 0));
+    match compared(words::from_word(line, 1), expected.used()) {
         Ok(()) => {
             println!(rt; "ok")?;
             Ok(true)

@@ -7,9 +7,9 @@ use Prim.Native.Nat.{ℕ, zero, suc, ◌+◌, ◌-◌, ◌*◌, ◌^◌, ◌≤�
 use native.Mathlib.Omega.{arith}
 use native.Mathlib.Numerals.{add-one}
 use lib.Dec.{leb}
-use borrow.Author.Tests.{le-leb, lt-leb, leb-true, ne_eqb}
-use lib.ListN.{length, take, drop, get_or, length-drop, drop_of_length-le}
-use lib.Seq.{drop-cons, take_all}
+use borrow.Author.Tests.{leb-true}
+use lib.ListN.{length, drop, get_or, drop_of_length-le}
+use lib.Seq.{drop-cons}
 use lib.IntN.{ℤ, pos, neg_ℤ}
 use mir.Syntax.{Width}
 use mir.Val.{SFits, hbits}
@@ -18,44 +18,26 @@ use Rattle.words.specs.Numbers.{is_digit, digit_behind, digits_behind, natural, 
 
 -- ---- a digit
 
-module _ (most n b : ℕ) where
-  pub no_digit_below : b < 48 → digit_behind most n b ≡ None
-  unfolding is_digit digit_behind
-  no_digit_below h = rw (digit_behind, is_digit, lt-leb 48 b h)
-
-  pub no_digit_above : 57 < b → digit_behind most n b ≡ None
-  unfolding is_digit digit_behind
-  no_digit_above h = rw (digit_behind, is_digit, le-leb 48 b (omega arith), lt-leb b 57 h)
-
-  module _ (low : 48 ≤ b) (high : b ≤ 57) where
-    pub digit_past : most < n * 10 + (b - 48) → digit_behind most n b ≡ None
-    unfolding is_digit digit_behind
-    digit_past h = rw (digit_behind, is_digit, le-leb 48 b low, le-leb b 57 high, lt-leb (n * 10 + (b - 48)) most h)
-
-    pub digit_within : n * 10 + (b - 48) ≤ most → digit_behind most n b ≡ Some (n * 10 + (b - 48))
-    unfolding is_digit digit_behind
-    digit_within h = rw (digit_behind, is_digit, le-leb 48 b low, le-leb b 57 high, le-leb (n * 10 + (b - 48)) most h)
-
-  pub digit_most : (m : ℕ) → digit_behind most n b ≡ Some m → m ≤ most
-  unfolding digit_behind
-  digit_most m = go (is_digit b && leb (n * 10 + (b - 48)) most) refl
-    where
-      go : (t : Bool) → (is_digit b && leb (n * 10 + (b - 48)) most) ≡ t → elim t [ true ↦ Some (n * 10 + (b - 48)) | false ↦ None ] ≡ Some m → m ≤ most
-      go true q r =
-          let e : n * 10 + (b - 48) ≡ m = cc in
-          omega (arith, leb-true (n * 10 + (b - 48)) most ((and-eq-true_iff (is_digit b) _).0 q).1)
-      go false q r = let z : ◌≡◌ {A = ℕ} 0 1 = cc in absurd (omega arith)
+pub digit_most : (most n b m : ℕ) → digit_behind most n b ≡ Some m → m ≤ most
+unfolding digit_behind
+digit_most most n b m = go (is_digit b && leb (n * 10 + (b - 48)) most) refl
+  where
+    go : (t : Bool) → (is_digit b && leb (n * 10 + (b - 48)) most) ≡ t → elim t [ true ↦ Some (n * 10 + (b - 48)) | false ↦ None ] ≡ Some m → m ≤ most
+    go true q r =
+        let e : n * 10 + (b - 48) ≡ m = cc in
+        omega (arith, leb-true (n * 10 + (b - 48)) most ((and-eq-true_iff (is_digit b) _).0 q).1)
+    go false q r = let z : ◌≡◌ {A = ℕ} 0 1 = cc in absurd (omega arith)
 
 -- ---- the digits from an index on
 
 module _ (most n : ℕ) (s : List ℕ) (i : ℕ) (h : i < length s) where
-  pub digits-none : digit_behind most n (get_or s i 0) ≡ None → digits_behind most n (drop i s) ≡ None
+  pub digits_none : digit_behind most n (get_or s i 0) ≡ None → digits_behind most n (drop i s) ≡ None
   unfolding digits_behind
-  digits-none e = rw (drop-cons s i 0 h, digits_behind, e)
+  digits_none e = rw (drop-cons s i 0 h, digits_behind, e)
 
-  pub digits-next : (m : ℕ) → digit_behind most n (get_or s i 0) ≡ Some m → digits_behind most n (drop i s) ≡ digits_behind most m (drop (i + 1) s)
+  pub digits_next : (m : ℕ) → digit_behind most n (get_or s i 0) ≡ Some m → digits_behind most n (drop i s) ≡ digits_behind most m (drop (i + 1) s)
   unfolding digits_behind
-  digits-next m e = rw (add-one, drop-cons s i 0 h, digits_behind, e)
+  digits_next m e = rw (add-one, drop-cons s i 0 h, digits_behind, e)
 
 pub digits_end : (most n : ℕ) (s : List ℕ) (i : ℕ) → length s ≤ i → digits_behind most n (drop i s) ≡ Some n
 unfolding digits_behind
@@ -87,29 +69,6 @@ natural-most : (most : ℕ) (s : List ℕ) (n : ℕ) → natural most s ≡ Some
 unfolding natural
 natural-most most [] n e = let z : ◌≡◌ {A = ℕ} 0 1 = cc in absurd (omega arith)
 natural-most most (b ∷ s) n e = digits-most most 0 (b ∷ s) n (omega arith) e
-
--- ---- a minus
-
-pub minus_first : (s : List ℕ) → get_or s 0 0 ≡ 45 → has_minus s ≡ true
-unfolding has_minus
-minus_first s e = rw e refl
-
-pub minus_nil : (s : List ℕ) → length s ≡ 0 → has_minus s ≡ false
-unfolding has_minus
-minus_nil [] e = refl
-minus_nil (b ∷ s) e = absurd (omega arith)
-
-pub no_minus : (s : List ℕ) → (get_or s 0 0 ≡ 45 → ⊥) → has_minus s ≡ false
-unfolding has_minus
-no_minus s ne = ne_eqb (get_or s 0 0) 45 ne
-
-pub behind_minus : (s : List ℕ) → has_minus s ≡ true → take (length s - 1) (drop 1 s) ≡ magnitude s
-unfolding magnitude
-behind_minus s e = rw (magnitude, e) (take_all (length s - 1) (drop 1 s) (omega (arith, length-drop 1 s)))
-
-pub magnitude_plain : (s : List ℕ) → has_minus s ≡ false → s ≡ magnitude s
-unfolding magnitude
-magnitude_plain s e = rw (magnitude, e) refl
 
 -- ---- a number with a sign
 

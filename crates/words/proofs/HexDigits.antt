@@ -8,8 +8,9 @@ use native.Mathlib.Omega.{arith}
 use native.Mathlib.Numerals.{add-one}
 use native.Mathlib.Nat.{zero-add}
 use lib.Dec.{leb}
-use borrow.Author.Tests.{le-leb, lt-leb, leb-true, lt-ltb}
+use borrow.Author.Tests.{leb-true, lt-ltb}
 use Rattle.std.specs.Prelude.{Some, None, unwrap_or}
+use Rattle.std.proofs.lemmas.List.{get_or_past}
 use lib.ListN.{length, take, drop, get_or, set, replicate, length-replicate, get_or-replicate, length-append, length-map, drop_of_length-le}
 use lib.ListN.{get_or-append, get_or-map}
 use lib.Seq.{drop-cons, length-take-le, get_or-append-add, take-suc, paste, paste-suc}
@@ -20,39 +21,17 @@ use Rattle.words.specs.Hex.{is_hex_letter, hex_digit, are_hex_digits, is_hex, he
 
 -- ---- one digit
 
-module _ (b : ℕ) where
-  pub none_below : b < 48 → None ≡ hex_digit b
-  unfolding is_digit is_hex_letter hex_digit
-  none_below h = rw (hex_digit, is_digit, lt-leb 48 b h, is_hex_letter, lt-leb 97 b (omega arith))
+pub value_within : (b : ℕ) → hex_value b ≤ 15
+unfolding is_digit is_hex_letter hex_digit
+value_within b = go (is_digit b) refl
+  where
+    letter : (t : Bool) → is_hex_letter b ≡ t → unwrap_or (elim t [ true ↦ Some (b - 97 + 10) | false ↦ None ]) 0 ≤ 15
+    letter true e = let h = leb-true b 102 ((and-eq-true_iff (leb 97 b) (leb b 102)).0 e).1 in omega arith
+    letter false e = omega arith
 
-  pub digit_is : 48 ≤ b → b ≤ 57 → Some (b - 48) ≡ hex_digit b
-  unfolding is_digit hex_digit
-  digit_is l h = rw (hex_digit, is_digit, le-leb 48 b l, le-leb b 57 h)
-
-  module _ (past : 57 < b) where
-    pub none_between : b < 97 → None ≡ hex_digit b
-    unfolding is_digit is_hex_letter hex_digit
-    none_between h = rw (hex_digit, is_digit, le-leb 48 b (omega arith), lt-leb b 57 past, is_hex_letter, lt-leb 97 b h)
-
-    pub letter_is : 97 ≤ b → b ≤ 102 → Some (b - 97 + 10) ≡ hex_digit b
-    unfolding is_digit is_hex_letter hex_digit
-    letter_is l h = rw (hex_digit, is_digit, le-leb 48 b (omega arith), lt-leb b 57 past, is_hex_letter, le-leb 97 b l, le-leb b 102 h)
-
-    pub none_above : 102 < b → None ≡ hex_digit b
-    unfolding is_digit is_hex_letter hex_digit
-    none_above h = rw (hex_digit, is_digit, le-leb 48 b (omega arith), lt-leb b 57 past, is_hex_letter, le-leb 97 b (omega arith), lt-leb b 102 h)
-
-  pub value_within : hex_value b ≤ 15
-  unfolding is_digit is_hex_letter hex_digit
-  value_within = go (is_digit b) refl
-    where
-      letter : (t : Bool) → is_hex_letter b ≡ t → unwrap_or (elim t [ true ↦ Some (b - 97 + 10) | false ↦ None ]) 0 ≤ 15
-      letter true e = let h = leb-true b 102 ((and-eq-true_iff (leb 97 b) (leb b 102)).0 e).1 in omega arith
-      letter false e = omega arith
-
-      go : (t : Bool) → is_digit b ≡ t → unwrap_or (elim t [ true ↦ Some (b - 48) | false ↦ elim (is_hex_letter b) [ true ↦ Some (b - 97 + 10) | false ↦ None ] ]) 0 ≤ 15
-      go true e = let h = leb-true b 57 ((and-eq-true_iff (leb 48 b) (leb b 57)).0 e).1 in omega arith
-      go false e = letter (is_hex_letter b) refl
+    go : (t : Bool) → is_digit b ≡ t → unwrap_or (elim t [ true ↦ Some (b - 48) | false ↦ elim (is_hex_letter b) [ true ↦ Some (b - 97 + 10) | false ↦ None ] ]) 0 ≤ 15
+    go true e = let h = leb-true b 57 ((and-eq-true_iff (leb 48 b) (leb b 57)).0 e).1 in omega arith
+    go false e = letter (is_hex_letter b) refl
 
 -- ---- a word of digits
 
@@ -76,9 +55,9 @@ unfolding hex_behind
 congruent m n [] e = e
 congruent m n (b ∷ s) e = congruent (m * 16 + hex_value b) (n * 16 + hex_value b) s (omega arith)
 
-pub behind-next : (n : ℕ) (s : List ℕ) (i : ℕ) → i < length s → hex_behind n (drop i s) ≡ hex_behind (n * 16 + hex_value (get_or s i 0)) (drop (i + 1) s)
+pub behind_next : (n : ℕ) (s : List ℕ) (i : ℕ) → i < length s → hex_behind n (drop i s) ≡ hex_behind (n * 16 + hex_value (get_or s i 0)) (drop (i + 1) s)
 unfolding hex_behind
-behind-next n s i h = rw (add-one, drop-cons s i 0 h)
+behind_next n s i h = rw (add-one, drop-cons s i 0 h)
 
 pub behind_end : (n : ℕ) (s : List ℕ) (i : ℕ) → length s ≤ i → hex_behind n (drop i s) ≡ n
 unfolding hex_behind
@@ -87,9 +66,9 @@ behind_end n s i h = rw (drop_of_length-le s h)
 -- ---- the bytes of digits
 
 module _ (zeros : ℕ) (s : List ℕ) (i : ℕ) where
-  pub padded-zero : i < zeros → 0 ≡ get_or (padded zeros s) i 0
+  pub padded_zero : i < zeros → 0 ≡ get_or (padded zeros s) i 0
   unfolding padded
-  padded-zero h = sym (get_or-append (replicate zeros 0) (map hex_value s) 0 i (rw (length-replicate {A = ℕ} zeros 0) h) ∙ get_or-replicate zeros i 0 0 h)
+  padded_zero h = sym (get_or-append (replicate zeros 0) (map hex_value s) 0 i (rw (length-replicate {A = ℕ} zeros 0) h) ∙ get_or-replicate zeros i 0 0 h)
 
   pub padded_digit : zeros ≤ i → hex_value (get_or s (i - zeros) 0) ≡ get_or (padded zeros s) i 0
   unfolding padded is_digit is_hex_letter hex_digit
@@ -97,6 +76,10 @@ module _ (zeros : ℕ) (s : List ℕ) (i : ℕ) where
       let e : length {A = ℕ} (replicate zeros 0) + (i - zeros) ≡ i = omega (arith, length-replicate {A = ℕ} zeros 0) in
       sym (get_or-map hex_value s (i - zeros) 0)
       ∙ (sym (get_or-append-add (replicate zeros 0) (map hex_value s) (i - zeros) 0) ∙ ap (λ k. get_or (replicate zeros 0 ++ map hex_value s) k 0) e)
+
+  pub padded_end : zeros ≤ i → length s ≤ i - zeros → 0 ≡ get_or (padded zeros s) i 0
+  unfolding is_digit is_hex_letter hex_digit
+  padded_end low past = ap hex_value (sym (get_or_past s (i - zeros) 0 past)) ∙ padded_digit low
 
 length-padded : (zeros : ℕ) (s : List ℕ) → length (padded zeros s) ≡ zeros + length s
 unfolding padded

@@ -7,6 +7,7 @@ ghost use Rattle.words.specs.Hex.{is_hex, hex_digit, hex_value, hex_behind, padd
 
 use crate::numbers;
 
+#[tactic(auto, unfolding(crate::specs::Hex::hex_digit, crate::specs::Hex::is_hex_letter, crate::specs::Numbers::is_digit))]
 fn hex_digit(byte: u8) -> Option<u8>
     ensures { result ≡ hex_digit byte }
 {
@@ -18,6 +19,7 @@ fn hex_digit(byte: u8) -> Option<u8>
 }
 
 // What a byte counts as in a number.
+#[tactic(auto, using(crate::proofs::HexDigits::value_within))]
 fn hex_value(byte: u8) -> u8
     ensures value { result ≡ hex_value byte }
     ensures within { result ≤ 15 }
@@ -33,6 +35,7 @@ pub fn is_hex(word: &[u8]) -> bool
 }
 
 // The lowest 64 bits of a number.
+#[tactic(auto, using(crate::proofs::HexDigits::congruent, crate::proofs::HexDigits::behind_next, crate::proofs::HexDigits::behind_end))]
 pub fn bits(word: &[u8]) -> u64
     ensures { result ≡ hex_behind 0 word.now % 2 ^ 64 }
 {
@@ -43,7 +46,8 @@ pub fn bits(word: &[u8]) -> u64
     bits
 }
 
-// The digit at index `i` of a word before which stand `zeros` zeros.
+// The digit at index `i` of a word before which stand `zeros` zeros. Behind its end stands a 0 too, as in the definition, and no `None`.
+#[tactic(auto, using(crate::proofs::HexDigits::padded_zero, crate::proofs::HexDigits::padded_digit, crate::proofs::HexDigits::padded_end))]
 fn digit_behind(word: &[u8], zeros: usize, i: usize) -> u8
     ensures { (result ≡ get_or (padded zeros word.now) i 0) × (result ≤ 15) }
 {
@@ -72,6 +76,7 @@ pub fn bytes(word: &[u8], out: &mut [u8]) -> usize
 }
 
 // The digit of the lowest four bits.
+#[tactic(auto, unfolding(crate::specs::Hex::hex_glyph))]
 fn glyph(bits: u8) -> u8
     ensures { result ≡ hex_glyph bits }
 {

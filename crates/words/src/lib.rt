@@ -1,6 +1,8 @@
-// The words of a text, which single spaces part. A text has one word more than spaces, and a word that is missing is empty.
+// The words of a text, which single spaces part. A text has one word more than spaces, and a word that is missing is empty, no `None`:
+// the callers refuse the two alike, and one list of words says of both what is answered.
 #![tactic(auto)]
 
+pub mod filled;
 pub mod hex;
 pub mod input;
 pub mod numbers;
@@ -28,6 +30,7 @@ fn behind_word(text: &[u8]) -> &[u8]
 }
 
 // The text from the word at index `n` on.
+#[tactic(auto, using(crate::proofs::Words::from_step, crate::proofs::Words::from_none))]
 pub fn from_word(text: &[u8], n: usize) -> &[u8]
     ensures { result.now ≡ from_word n text.now }
 {

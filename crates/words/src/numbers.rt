@@ -12,6 +12,7 @@ const MOST_I32: u64 = 2147483647;
 const MOST_U32: u64 = 4294967295;
 
 // The number with one digit more at its end.
+#[tactic(auto, unfolding(crate::specs::Numbers::digit_behind, crate::specs::Numbers::is_digit))]
 fn with_digit(value: u64, byte: u8, most: u64) -> Option<u64>
     ensures { result ≡ digit_behind most value byte }
 {
@@ -28,6 +29,7 @@ fn with_digit(value: u64, byte: u8, most: u64) -> Option<u64>
 }
 
 // A number without sign of at most `most`.
+#[tactic(auto, using(crate::proofs::Digits::digit_most, crate::proofs::Digits::digits_none, crate::proofs::Digits::digits_next, crate::proofs::Digits::digits_end, crate::proofs::Digits::natural_is, crate::proofs::Digits::natural_none))]
 pub fn natural(word: &[u8], most: u64) -> Option<u64>
     ensures value { result ≡ natural most word.now }
     ensures within { IfSome result (λ n. n ≤ most) }
@@ -48,6 +50,7 @@ pub fn natural_u32(word: &[u8]) -> Option<u32>
     Some(natural(word, MOST_U32)? as u32)
 }
 
+#[tactic(auto, unfolding(crate::specs::Numbers::has_minus))]
 pub fn has_minus(word: &[u8]) -> bool
     ensures { result ≡ has_minus word.now }
 {
@@ -55,6 +58,7 @@ pub fn has_minus(word: &[u8]) -> bool
 }
 
 // The word behind its minus.
+#[tactic(auto, unfolding(crate::specs::Numbers::has_minus, crate::specs::Numbers::magnitude))]
 pub fn magnitude(word: &[u8]) -> &[u8]
     ensures { result.now ≡ magnitude word.now }
 {

@@ -1,15 +1,12 @@
 -- `hex::bytes` lays a byte of each two digits at the start of the buffer: the invariant says how far it has come.
 -- Assumes nothing.
-use mathlib.Core.Path.{◌≡◌, refl, ◌∙◌, ap}
+use mathlib.Core.Path.{◌≡◌, ◌∙◌, ap}
 use native.Mathlib.Omega.{arith}
 use lib.ListN.{length-set}
-use lib.Seq.{paste, paste-zero}
+use lib.Seq.{paste}
 use Rattle.words.specs.Hex.{hex_bytes}
 use Rattle.words.proofs.HexDigits.{length-bytes, bytes_next}
 use Rattle.words.proofs.hex.bytes.Goals as goal
-
-pub loop-i-init : goal.loop-i-init
-loop-i-init c = record { keeps = refl; laid = paste-zero c.args.out.now 0 (hex_bytes c.magnitude-digits.result.now) }
 
 pub loop-i-preserved : goal.loop-i-preserved
 loop-i-preserved c = let a = c.args in
