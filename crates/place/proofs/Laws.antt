@@ -8,11 +8,13 @@ use mathlib.Core.Path.{◌≡◌, refl, sym}
 use mathlib.Core.List.{List, [], ◌∷◌}
 use lib.Dec.{leb, eqb, eqb-suc-zero}
 use lib.ListN.{get_or}
-use borrow.Author.Tests.{leb-true, eqb-true, le-leb, lt-leb, eq-eqb}
+use borrow.Author.Tests.{le-ltb, leb-true, eqb-true, le-leb, lt-leb, eq-eqb}
 use Rattle.ion.proofs.Tests.{both}
 use Rattle.machine.specs.declared.Container.{Container}
 use Rattle.machine.specs.declared.State.{State}
-use Rattle.machine.specs.Machine.{most_open, no_container, innermost_first, open_containers, is_open, in_struct, container_fits, containers_fit, fits}
+use Rattle.place.specs.declared.CallKind.{CallKind}
+use Rattle.place.specs.Misplaced.{misplaced_where, misplaced}
+use Rattle.machine.specs.Machine.{longest_buffer, first_failing, place_verdict, most_open, no_container, innermost_first, open_containers, is_open, in_struct, container_fits, containers_fit, fits}
 
 -- ---- tests
 
@@ -40,10 +42,6 @@ innermost-none l (suc i) h = absurd (some i h)
     some : (k : ℕ) → suc k ≤ 0 → ⊥
     some k q = omega arith
 
-pub closed_of : (l : List Container) (i : ℕ) → eqb i 0 ≡ not (is_open (innermost_first l i))
-closed_of l zero = refl
-closed_of l (suc i) = eqb-suc-zero i
-
 pub open_of : (l : List Container) (i : ℕ) → not (eqb i 0) ≡ is_open (innermost_first l i)
 open_of l zero = refl
 open_of l (suc i) = rw (eqb-suc-zero i)
@@ -53,10 +51,6 @@ open_of l (suc i) = rw (eqb-suc-zero i)
 pub fits_used : (s : State) (room : ℕ) → fits s room ≡ true → s.used ≤ room
 unfolding fits
 fits_used s room e = leb-true s.used room (both {a = leb s.used room} e).0
-
-pub fits_depth : (s : State) (room : ℕ) → fits s room ≡ true → s.depth ≤ most_open
-unfolding fits
-fits_depth s room e = leb-true s.depth most_open (both {a = leb s.depth most_open} (both {a = leb s.used room} e).1).0
 
 -- the code asks for the opposite of the last line
 names_fit : (waiting struct : Bool) → (not waiting || struct) ≡ not (waiting && not struct)
@@ -98,3 +92,11 @@ chain_step l i limit h = rw (innermost_step l i h)
 pub chain_none : (l : List Container) (i limit : ℕ) → i ≤ 0 → containers_fit limit (innermost_first l i) ≡ true
 unfolding containers_fit
 chain_none l i limit h = rw (innermost-none l i h)
+
+-- ---- a call of a state that fits, by what is asked of line 3
+
+pub placed_by : (k : CallKind) (s : State) (room d : ℕ) (inside waits m : Bool) → room ≤ longest_buffer → true ≡ fits s room → d ≡ s.depth
+    → inside ≡ in_struct (innermost_first s.containers d) → waits ≡ s.waiting → m ≡ misplaced_where k (not (eqb d 0)) inside waits
+    → first_failing ((m, 3) ∷ []) ≡ place_verdict s room (misplaced k s)
+unfolding place_verdict
+placed_by k s room d inside waits m l f p q r e = rw (le-ltb longest_buffer room l, ← f, ← open_of s.containers s.depth, ← p, ← q, ← r, ← e)

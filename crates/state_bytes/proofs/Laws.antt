@@ -1,25 +1,26 @@
 -- The state that bytes spell, part by part, and whether a check by place passes over them.
 -- Assumes nothing.
-use Prim.Native.Nat.{ℕ, zero, suc, ◌+◌, ◌-◌, ◌*◌, ◌%◌, ◌<◌, ◌≤◌, ◌/◌}
+use Prim.Native.Nat.{ℕ, zero, suc, ◌+◌, ◌-◌, ◌*◌, ◌%◌, ◌<◌, ◌≤◌}
 use native.Mathlib.Omega.{arith}
-use native.Mathlib.Nat.{add-zero, add-suc, suc-add, zero-add, add-mul-div_left, add-mul-mod_self_left}
+use native.Mathlib.Nat.{add-zero, add-suc, suc-add, zero-add}
 use mathlib.Core.Path.{◌≡◌, refl, sym, ◌∙◌, ap}
 use mathlib.Core.Bool.{Bool, true, false, false≢true, not, ◌&&◌, ◌||◌, and-false, and-true}
 use mathlib.Core.List.{List, [], ◌∷◌, ◌++◌}
 use lib.Dec.{eqb, ltb, leb, eqb-suc-zero}
-use lib.ListN.{length, get_or, take, set, get_or-append, get_or-eq_default, replicate}
-use lib.Seq.{get_or-take, get_or-set_same, length-take-le}
+use lib.ListN.{length, get_or, set, get_or-eq_default, replicate}
+use lib.Seq.{get_or-set_same}
 use mir.Val.{bool_byte}
 use borrow.Author.Tests.{eq-eqb, ne_eqb, eqb-true, eqb-false, lt-ltb, le-ltb, lt-leb, le-leb, leb-true, leb-false, ltb-true, ltb-false}
 use Rattle.ion.proofs.Tests.{by_cases}
 use Rattle.buffer.specs.Laid.{laid, placed}
-use Rattle.ion.proofs.Tests.{both}
-use Rattle.buffer.proofs.Laid.{leb_iff, laid_snoc, length-laid, laid_more}
+use Rattle.buffer.proofs.Laid.{leb_iff, laid_snoc, laid_more}
 use Rattle.machine.specs.declared.Container.{Container}
 use Rattle.machine.specs.declared.State.{State}
-use Rattle.machine.specs.Machine.{most_open, longest_buffer, no_container, innermost_first, open_containers, in_struct, outer, with_member, counted}
+use Rattle.machine.specs.Machine.{most_open, longest_buffer, no_container, innermost_first, open_containers, is_open, in_struct, with_member, counted}
 use Rattle.machine.specs.Machine.{container_fits, containers_fit, fits, place_verdict, is_accepted}
-use Rattle.place.proofs.Laws.{same_test, innermost_step, innermost-none, chain_step, fits_overused, fits_overopen}
+use Rattle.place.specs.declared.CallKind.{CallKind}
+use Rattle.place.specs.Misplaced.{misplaced_where, misplaced}
+use Rattle.place.proofs.Laws.{open_of, innermost_step, innermost-none, chain_step, fits_overused, fits_overopen}
 use Rattle.state_bytes.specs.StateBytes.{head_size, record_size, state_size, four, place_of, container_at, containers_from, unfit_state, state_of}
 use Rattle.state_bytes.specs.StateBytes.{four_bytes, flag, stored_head, stored_container, stored_members, stored_count, numbers_laid}
 
@@ -97,35 +98,7 @@ struct_below b d h k u =
     positive : (d ≡ 0 → ⊥) → 0 < d
     positive n = omega (arith, n)
 
-pub outer_step : (l : List Container) (n : ℕ) → 0 < n → in_struct (innermost_first l (n - 1)) ≡ in_struct (outer (innermost_first l n))
-outer_step l n h = rw (innermost_step l n h)
-
 -- ---- whether it fits
-
--- the codes with their halves exchanged are 11, 12 and 13
-module _ (code : ℕ) where
-  abbrev exchanged : ℕ
-  exchanged = code / 16 + code % 16 * 16
-
-  named : (leb 11 exchanged && leb exchanged 13) ≡ true → (eqb code 0xB0 || (eqb code 0xC0 || eqb code 0xD0)) ≡ true
-  named e =
-      let p = leb-true 11 exchanged (both {a = leb 11 exchanged} e).0 in
-      let q = leb-true exchanged 13 (both {a = leb 11 exchanged} e).1 in
-      let z : code % 16 ≡ 0 = omega (arith, q) in
-      let m : code ≡ 16 * (code / 16) = omega arith in
-      by_cases (eqb code 0xB0) (λ s. rw s)
-      (λ s. by_cases (eqb code 0xC0) (λ t. rw (s, t)) (λ t. rw (s, t) (eq-eqb code 0xD0 (omega (arith, p, q, eqb-false code 0xB0 s, eqb-false code 0xC0 t)))))
-
-  among : (n : ℕ) → code ≡ 16 * n → 11 ≤ n → n ≤ 13 → (leb 11 exchanged && leb exchanged 13) ≡ true
-  among n e p q = rw (le-leb 11 exchanged (omega arith), le-leb exchanged 13 (omega arith))
-
-  pub exchanged_code : (leb 11 exchanged && leb exchanged 13) ≡ (eqb code 0xB0 || (eqb code 0xC0 || eqb code 0xD0))
-  exchanged_code =
-      same_test (leb 11 exchanged && leb exchanged 13) (eqb code 0xB0 || (eqb code 0xC0 || eqb code 0xD0)) named
-      (λ e.
-      by_cases (eqb code 0xB0) (λ s. among 11 (eqb-true code 0xB0 s) (omega arith) (omega arith))
-      (λ s. by_cases (eqb code 0xC0) (λ t. among 12 (eqb-true code 0xC0 t) (omega arith) (omega arith))
-      (λ t. among 13 (eqb-true code 0xD0 (rw (s, t) at e)) (omega arith) (omega arith))))
 
 -- members within what is left of the limit
 pub within : (end members limit : ℕ) → (leb end limit && leb members (limit - end)) ≡ leb (end + members) limit
@@ -192,59 +165,6 @@ stored-container b l m n i c h k p q s =
     ∙ laid_more b (place_of i) (four_bytes c.start ++ (four_bytes c.header ++ (c.code ∷ []))) (omega arith)
     (four_bytes c.members))
 
--- a count lies behind the head
-module _ (b : List ℕ) (i n : ℕ) where
-  head_byte : (p : ℕ) → length b ≡ state_size → i < most_open → p < head_size → get_or (laid b (place_of i + 9) (four_bytes n)) p 0 ≡ get_or b p 0
-  unfolding laid
-  head_byte p h k q =
-      get_or-append (take (place_of i + 9) b) _ 0 p (rw (length-take-le (place_of i + 9) b (omega arith)) (omega arith))
-      ∙ get_or-take (place_of i + 9) b p 0 (omega arith)
-
-  length-members : length (stored_members i n b) ≡ length b
-  unfolding stored_members
-  length-members =
-      by_cases (eqb (length b) state_size)
-      (λ p. by_cases (ltb i most_open)
-      (λ q. rw (p, q, stored_members) (length-laid b (place_of i + 9) (four_bytes n) (omega (arith, eqb-true (length b) state_size p, ltb-true i most_open q))))
-      (λ q. rw (p, q, stored_members)))
-      (λ p. rw (p, stored_members))
-
-  members_byte : (p : ℕ) → length b ≡ state_size → p < head_size → get_or (stored_members i n b) p 0 ≡ get_or b p 0
-  unfolding stored_members
-  members_byte p h q =
-      by_cases (ltb i most_open)
-      (λ t. rw (eq-eqb (length b) state_size h, t, stored_members) (head_byte p h (ltb-true i most_open t) q))
-      (λ t. rw (eq-eqb (length b) state_size h, t, stored_members))
-
-  members_used : (state_of (stored_members i n b)).used ≡ (state_of b).used
-  members_used =
-      by_cases (eqb (length b) state_size)
-      (λ p.
-      let h = eqb-true (length b) state_size p in
-      rw (
-        state_is (stored_members i n b) (length-members ∙ h),
-        state_is b h,
-        members_byte 0 h (omega arith),
-        members_byte 1 h (omega arith),
-        members_byte 2 h (omega arith),
-        members_byte 3 h (omega arith),
-      ))
-      (λ p. let k = eqb-false (length b) state_size p in rw (state_none (stored_members i n b) (λ q. k (sym length-members ∙ q)), state_none b k))
-
-  members-depth : (state_of (stored_members i n b)).depth ≡ (state_of b).depth
-  members-depth =
-      by_cases (eqb (length b) state_size)
-      (λ p. let h = eqb-true (length b) state_size p in rw (state_is (stored_members i n b) (length-members ∙ h), state_is b h) (members_byte 4 h (omega arith)))
-      (λ p. let k = eqb-false (length b) state_size p in rw (state_none (stored_members i n b) (λ q. k (sym length-members ∙ q)), state_none b k))
-
-pub counted_used : (b : List ℕ) (d : ℕ) (cs : List Container) → (state_of (stored_count d cs b)).used ≡ (state_of b).used
-counted_used b zero cs = refl
-counted_used b (suc i) cs = members_used b i (get_or cs i no_container).members
-
-pub counted_depth : (b : List ℕ) (d : ℕ) (cs : List Container) → (state_of (stored_count d cs b)).depth ≡ (state_of b).depth
-counted_depth b zero cs = refl
-counted_depth b (suc i) cs = members-depth b i (get_or cs i no_container).members
-
 -- the count of the innermost of d containers
 module _ (b : List ℕ) (cs : List Container) where
   pub uncounted_short : (d : ℕ) → (length b ≡ state_size → ⊥) → b ≡ stored_count d cs b
@@ -285,33 +205,6 @@ pub numbers_three : (b : List ℕ) (n m k : ℕ) {x y z : List ℕ} → x ≡ (p
     → z ≡ numbers_laid 0 (n ∷ m ∷ k ∷ []) b
 unfolding numbers_laid
 numbers_three b n m k p q r = rw (r, q, p) refl
-
--- a multiple of 256 d leaves the byte behind d as it is
-byte_kept : (d x k : ℕ) → 0 < d → (x + d * (256 * k)) / d % 256 ≡ x / d % 256
-byte_kept d x k h = ap (λ (n : ℕ). n % 256) (add-mul-div_left x (256 * k) h) ∙ add-mul-mod_self_left (x / d) 256 k
-
--- four bytes of a sum are those of its parts' four bytes
-four_bytes_sum : (a b : ℕ) → four_bytes (a % 4294967296 + b % 4294967296) ≡ four_bytes (a + b)
-four_bytes_sum a b =
-    let x = a % 4294967296 + b % 4294967296 in
-    let k = a / 4294967296 + b / 4294967296 in
-    let e : a + b ≡ x + 256 * (16777216 * k) = omega arith in
-    let f : a + b ≡ x + 256 * (256 * (65536 * k)) = omega arith in
-    let g : a + b ≡ x + 65536 * (256 * (256 * k)) = omega arith in
-    let h : a + b ≡ x + 16777216 * (256 * k) = omega arith in
-    let p : x % 256 ≡ (a + b) % 256 = sym (ap (λ (n : ℕ). n % 256) e ∙ add-mul-mod_self_left x 256 (16777216 * k)) in
-    let q : x / 256 % 256 ≡ (a + b) / 256 % 256 = sym (ap (λ (n : ℕ). n / 256 % 256) f ∙ byte_kept 256 x (65536 * k) (omega arith)) in
-    let r : x / 65536 % 256 ≡ (a + b) / 65536 % 256 = sym (ap (λ (n : ℕ). n / 65536 % 256) g ∙ byte_kept 65536 x (256 * k) (omega arith)) in
-    let s : x / 16777216 % 256 ≡ (a + b) / 16777216 % 256 = sym (ap (λ (n : ℕ). n / 16777216 % 256) h ∙ byte_kept 16777216 x k (omega arith)) in
-    cc (p, q, r, s)
-
-pub stored_sum : (a b depth : ℕ) (waiting : Bool) (st : List ℕ)
-    → stored_head (a % 4294967296 + b % 4294967296) depth waiting st ≡ stored_head (a + b) depth waiting st
-unfolding stored_head
-stored_sum a b depth waiting st =
-    by_cases (eqb (length st) state_size)
-    (λ p. rw (p, stored_head) (ap (λ (l : List ℕ). laid st 0 (l ++ (depth % 256 ∷ flag waiting ∷ []))) (four_bytes_sum a b)))
-    (λ p. rw (p, stored_head))
 
 pub unstored_head : (b : List ℕ) (used depth : ℕ) (waiting : Bool) → (length b ≡ state_size → ⊥) → b ≡ stored_head used depth waiting b
 unfolding stored_head
@@ -382,3 +275,21 @@ module _ (s : State) (room : ℕ) (m : Bool) where
       accepted_is
       ∙ rw (le-leb s.depth most_open h.0, le-leb room longest_buffer h.1, le-leb s.used room h.2)
       (tests (containers_fit s.used (open_containers s)) s.waiting (in_struct (open_containers s)) m)
+
+-- the same by what the bytes of the head hold
+module _ (k : CallKind) (b : List ℕ) (room used depth : ℕ) (inside m : Bool) (h : length b ≡ state_size) (u : used ≡ four b 0) (d : depth ≡ get_or b 4 0)
+    (i : (state_of b).used ≤ longest_buffer → inside ≡ in_struct (innermost_first (state_of b).containers depth))
+    (e : m ≡ misplaced_where k (not (eqb depth 0)) inside (not (eqb (get_or b 5 0) 0)))
+    (n : ((ltb most_open depth || ltb longest_buffer room) || ltb room used) ≡ false) where
+  pub passes_by : is_accepted (place_verdict (state_of b) room (misplaced k (state_of b)))
+      ≡ (not ((not (eqb (get_or b 5 0) 0) && not inside) || m) && containers_fit (state_of b).used (open_containers (state_of b)))
+  passes_by =
+      let s = state_of b in
+      let x : used ≡ s.used = u ∙ rw (state_is b h) in
+      let y : depth ≡ s.depth = d ∙ rw (state_is b h) in
+      let l = near s room (misplaced k s) (rw (x, y) at n) in
+      let w : not (eqb (get_or b 5 0) 0) ≡ s.waiting = rw (state_is b h) in
+      let j : inside ≡ in_struct (open_containers s) = i (omega (arith, l.1, l.2)) ∙ rw y in
+      let o : not (eqb depth 0) ≡ is_open (open_containers s) = rw y (open_of s.containers s.depth) in
+      let q : m ≡ misplaced k s = e ∙ (cc) in
+      passes_is s room (misplaced k s) l ∙ rw (← q, ← w, ← j)

@@ -23,18 +23,18 @@ use Rattle.steps.proofs.Run.{outcome, accepted_with, run_refused, run_accepted, 
 
 -- ---- what a place that is accepted says
 
-pub accepted_fits : (s : State) (room : ℕ) (m : Bool) → place_verdict s room m ≡ accepted → fits s room ≡ true
+pub accepted_fits : (s : State) (room : ℕ) (m : Bool) → accepted ≡ place_verdict s room m → fits s room ≡ true
 unfolding place_verdict
 accepted_fits s room m e =
     by_cases (fits s room) (λ p. p)
-    (λ p. by_cases (ltb longest_buffer room) (λ q. absurd (false≢true (ap is_accepted (rw q at e)))) (λ q. absurd (false≢true (ap is_accepted (rw (q, p) at e)))))
+    (λ p. by_cases (ltb longest_buffer room) (λ q. absurd (false≢true (sym (ap is_accepted (rw q at e))))) (λ q. absurd (false≢true (sym (ap is_accepted (rw (q, p) at e))))))
 
-pub accepted_placed : (s : State) (room : ℕ) (m : Bool) → place_verdict s room m ≡ accepted → m ≡ false
+pub accepted_placed : (s : State) (room : ℕ) (m : Bool) → accepted ≡ place_verdict s room m → m ≡ false
 unfolding place_verdict
 accepted_placed s room m e =
     by_cases m
-    (λ p. by_cases (ltb longest_buffer room) (λ q. absurd (false≢true (ap is_accepted (rw q at e))))
-    (λ q. by_cases (fits s room) (λ f. absurd (false≢true (ap is_accepted (rw (q, f, p) at e)))) (λ f. absurd (false≢true (ap is_accepted (rw (q, f) at e))))))
+    (λ p. by_cases (ltb longest_buffer room) (λ q. absurd (false≢true (sym (ap is_accepted (rw q at e)))))
+    (λ q. by_cases (fits s room) (λ f. absurd (false≢true (sym (ap is_accepted (rw (q, f, p) at e))))) (λ f. absurd (false≢true (sym (ap is_accepted (rw (q, f) at e)))))))
     (λ p. p)
 
 pub opened_not : (o : Bool) → not o ≡ false → o ≡ true
@@ -141,12 +141,12 @@ opening_deep an k s b past d = sym (run_refused (opening an k) s b 4 (past ∙ r
 
 -- ---- a closing
 
-pub closing_some : (s : State) (b : List ℕ) → place_verdict s (length b) (not (is_open (open_containers s)) || s.waiting) ≡ accepted → 0 < s.depth
+pub closing_some : (s : State) (b : List ℕ) → accepted ≡ place_verdict s (length b) (not (is_open (open_containers s)) || s.waiting) → 0 < s.depth
 closing_some s b p =
     some_open s (length b) (accepted_fits s (length b) _ p) (either_not (is_open (open_containers s)) s.waiting (accepted_placed s (length b) _ p))
 
 module _ (s : State) (b l : List ℕ)
-    (place : place_verdict s (length b) (not (is_open (open_containers s)) || s.waiting) ≡ accepted) where
+    (place : accepted ≡ place_verdict s (length b) (not (is_open (open_containers s)) || s.waiting)) where
   closing-fits : fits s (length b) ≡ true
   closing-fits = accepted_fits s (length b) _ place
 
@@ -230,10 +230,10 @@ module _ (s : State) (b l : List ℕ)
 
 -- ---- an abandonment
 
-pub abandonment_open : (s : State) (b : List ℕ) → place_verdict s (length b) (not (is_open (open_containers s))) ≡ accepted → 0 < s.depth
+pub abandonment_open : (s : State) (b : List ℕ) → accepted ≡ place_verdict s (length b) (not (is_open (open_containers s))) → 0 < s.depth
 abandonment_open s b p = some_open s (length b) (accepted_fits s (length b) _ p) (opened_not (is_open (open_containers s)) (accepted_placed s (length b) _ p))
 
-pub abandonment_run : (s : State) (b : List ℕ) (r : Bool) (l : List ℕ) (waits : Bool) → place_verdict s (length b) (not (is_open (open_containers s))) ≡ accepted
+pub abandonment_run : (s : State) (b : List ℕ) (r : Bool) (l : List ℕ) (waits : Bool) → accepted ≡ place_verdict s (length b) (not (is_open (open_containers s)))
     → ◌≡◌ {A = Bool × List ℕ} (r, l) (abandoned_on s.used (innermost s).start b) → waits ≡ in_struct (innermost_first s.containers (s.depth - 1))
     → outcome accepted (record { used = (innermost s).start; depth = s.depth - 1; waiting = waits; containers = s.containers }) l
     ≡ run abandonment (config s b)

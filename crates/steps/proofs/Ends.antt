@@ -1,6 +1,6 @@
 -- Bytes put at the end of the used ones by a call that has no line but 10 behind its place, and a call whose place is refused.
 -- Assumes nothing.
-use Rattle.std.proofs.Common.{◌≡◌, ℕ, ◌+◌, ◌<◌, ◌≤◌, Bool, ltb, List, [], ◌∷◌, ◌++◌, length, Option, Some, None, sym, arith}
+use Rattle.std.proofs.Common.{◌≡◌, ℕ, ◌+◌, ◌≤◌, Bool, ltb, List, [], ◌∷◌, ◌++◌, length, Option, Some, None, sym, arith}
 use Rattle.buffer.specs.Laid.{placed}
 use Rattle.buffer.proofs.Laid.{placed-some}
 use Rattle.machine.specs.declared.State.{State}
@@ -23,7 +23,7 @@ module _ (c : Call) (s : State) (b : List ℕ) (m : Bool) (out : List ℕ) (wait
     (only : (rule_of c (config s b)).figures ≡ no_figures)
     (p : accepted ≡ place_verdict s (length b) m) (l : List ℕ) where
   room_left : first_failing (checks c (config s b)) ≡ first_failing ((ltb (length b) (s.used + length out), 10) ∷ [])
-  room_left = past-place c s b m ((ltb (length b) (s.used + length out), 10) ∷ []) lines (sym p)
+  room_left = past-place c s b m ((ltb (length b) (s.used + length out), 10) ∷ []) lines p
 
   pub end_full : ◌≡◌ {A = Option ℕ × List ℕ} (None, l) (placed b s.used out) → refused_at NoRoom s l ≡ run c (config s b)
   end_full e = end_refused c s b out l room_left e

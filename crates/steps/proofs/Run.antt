@@ -1,6 +1,6 @@
 -- What the machine answers and leaves, by how far a call gets: refused by place, refused by its own lines, or accepted.
 -- Assumes nothing.
-use Rattle.std.proofs.Common.{◌≡◌, ℕ, ◌+◌, ◌%◌, ◌^◌, ◌<◌, arith, mod-eq_of_lt, Bool, true, false, ltb, List, [], ◌∷◌, ◌++◌, length, Option, Some, None, Err, sym, refl, ap, ◌∙◌, ap₂, le-ltb, lt-ltb}
+use Rattle.std.proofs.Common.{◌≡◌, ℕ, ◌+◌, ◌<◌, Bool, true, false, ltb, List, [], ◌∷◌, ◌++◌, length, Option, Some, None, sym, refl, ap, ◌∙◌, ap₂, le-ltb, lt-ltb}
 use mathlib.Core.Bool.{false≢true}
 use Rattle.ion.proofs.Tests.{by_cases}
 use Rattle.encoding.specs.Argument.{Argument, argument_checks, any_holds}
@@ -10,11 +10,8 @@ use Rattle.containers.proofs.Splice.{splice_end}
 use Rattle.machine.specs.declared.State.{State}
 use Rattle.machine.specs.declared.Container.{Container}
 use Rattle.machine.specs.Call.{Call}
-use Rattle.machine.specs.Machine.{Config, config, put, at_end, Figures, no_figures, rule_of, effect, place_lines, checks, Verdict, accepted, refused}
+use Rattle.machine.specs.Machine.{Config, config, put, Figures, no_figures, rule_of, effect, place_lines, checks, Verdict, accepted, refused}
 use Rattle.machine.specs.Machine.{first_failing, place_verdict, is_accepted, verdict, Outcome, run}
-use Rattle.machine.specs.declared.Refused.{Refused}
-use Rattle.machine.specs.Numbers.{number, refused_outcome}
-use Rattle.steps.specs.Checked.{checked_as}
 use Rattle.scalars.specs.Refused.{own_refusal}
 
 -- ---- the first failing line of two lists
@@ -58,10 +55,10 @@ unfolding place_verdict
 run_misplaced c s b m rest n q e = run_refused c s b n (rw q (first_of_left (place_lines s (length b) m) rest n e))
 
 pub past-place : (c : Call) (s : State) (b : List ℕ) (m : Bool) (rest : List (Bool × ℕ))
-    → checks c (config s b) ≡ place_lines s (length b) m ++ rest → place_verdict s (length b) m ≡ accepted
+    → checks c (config s b) ≡ place_lines s (length b) m ++ rest → accepted ≡ place_verdict s (length b) m
     → first_failing (checks c (config s b)) ≡ first_failing rest
 unfolding place_verdict
-past-place c s b m rest q e = rw q (first_of_right (place_lines s (length b) m) rest e)
+past-place c s b m rest q e = rw q (first_of_right (place_lines s (length b) m) rest (sym e))
 
 -- ---- a scalar's own lines
 
@@ -86,17 +83,6 @@ own-refusal a used room h =
 pub own_only : (a : Argument) (rest : List (Bool × ℕ)) → any_holds (argument_checks a) ≡ false → first_failing (argument_checks a ++ rest) ≡ first_failing rest
 own_only a rest p = first_of_right (argument_checks a) rest (no_check (argument_checks a) p)
 
--- ---- the answer of a check by place
-
--- the first four parameters of each law below: what line 3 says, and the lines behind it
-module _ (c : Call) (s : State) (b : List ℕ) (m : Bool) (rest : List (Bool × ℕ)) (q : checks c (config s b) ≡ place_lines s (length b) m ++ rest) where
-  pub refused_place : (r : Refused) → checked_as (place_verdict s (length b) m) s (Err r) → refused_outcome r b ≡ run c (config s b)
-  refused_place r e =
-      ap (λ (x : State). outcome (refused (number r.why)) x b) e.1 ∙ sym (run_misplaced c s b m rest (number r.why) q e.0)
-
-  pub passed-place : place_verdict s (length b) m ≡ accepted → first_failing (checks c (config s b)) ≡ first_failing rest
-  passed-place e = past-place c s b m rest q e
-
 -- ---- a call that puts bytes at the end of the used ones
 
 -- bytes at the end of the used ones, which are put or not
@@ -115,12 +101,3 @@ module _ (c : Call) (s : State) (b out : List ℕ) (l : List ℕ)
       let w = placed-some b s.used out n l e in
       rw (w.1, w.2, ← (splice_end s.used out b))
       (sym (run_accepted c s b (past ∙ rw (le-ltb (length b) (s.used + length out) w.0)) ∙ ap₂ accepted_with f g))
-
-  -- of a buffer that a machine can have, the used length is not cut to 64 bits
-  pub end_grown : length b < 2 ^ 64 → (waits : Bool) → effect c (config s b) ≡ put (config s b) (at_end s out waits s.containers)
-      → (rule_of c (config s b)).figures ≡ no_figures → (n : ℕ) → ◌≡◌ {A = Option ℕ × List ℕ} (Some n, l) (placed b s.used out)
-      → outcome accepted (record { used = (s.used + n) % 2 ^ 64; depth = s.depth; waiting = waits; containers = s.containers }) l ≡ run c (config s b)
-  end_grown short waits f g n e =
-      let w = placed-some b s.used out n l e in
-      let u : (s.used + n) % 2 ^ 64 ≡ s.used + n = mod-eq_of_lt (omega (arith, w.0, w.1)) in
-      rw u (end_accepted s.depth waits s.containers f g n e)

@@ -1,4 +1,3 @@
-pub mod Checked
 pub mod Counted
 pub mod Heads
 pub mod Kinds

@@ -1,8 +1,9 @@
 -- `place::check` meets its contract: each return is the first line that fails.
 -- Assumes nothing.
+use Rattle.std.proofs.Common.{true, false}
 use borrow.Author.Tests.{lt-ltb, le-ltb}
 use Rattle.machine.specs.Machine.{longest_buffer, place_verdict}
-use Rattle.place.proofs.Laws.{open_of}
+use Rattle.place.proofs.Laws.{placed_by}
 use Rattle.place.proofs.check.Goals as goal
 
 pub returns-then-room-gt-LONGEST_BUFFER : goal.returns-then-room-gt-LONGEST_BUFFER
@@ -15,33 +16,13 @@ returns-then-not-state_fits g c =
     rw (le-ltb longest_buffer c.args.room c.if-room-gt-LONGEST_BUFFER.false, ← c.state_fits.ensures, c.if-not-state_fits.true)
 
 pub returns-then-is_misplaced : goal.returns-then-is_misplaced
-unfolding place_verdict
 returns-then-is_misplaced g c =
-    let s = g.S.Standing.state c.args.s.now in
-    rw (
-      le-ltb longest_buffer c.args.room c.if-room-gt-LONGEST_BUFFER.false,
-      ← c.state_fits.ensures,
-      c.if-not-state_fits.false,
-      ← open_of s.containers s.depth,
-      ← c.depth-depth.ensures,
-      ← c.in_struct.ensures,
-      ← c.waits.ensures,
-      ← c.is_misplaced.ensures,
-      c.if-is_misplaced.true,
-    )
+    placed_by c.args.call (g.S.Standing.state c.args.s.now) c.args.room c.depth-depth.result c.in_struct.result c.waits.result true
+    c.if-room-gt-LONGEST_BUFFER.false (rw c.if-not-state_fits.false at c.state_fits.ensures) c.depth-depth.ensures c.in_struct.ensures c.waits.ensures
+    (rw c.if-is_misplaced.true at c.is_misplaced.ensures)
 
 pub returns : goal.returns
-unfolding place_verdict
 returns g c =
-    let s = g.S.Standing.state c.args.s.now in
-    rw (
-      le-ltb longest_buffer c.args.room c.if-room-gt-LONGEST_BUFFER.false,
-      ← c.state_fits.ensures,
-      c.if-not-state_fits.false,
-      ← open_of s.containers s.depth,
-      ← c.depth-depth.ensures,
-      ← c.in_struct.ensures,
-      ← c.waits.ensures,
-      ← c.is_misplaced.ensures,
-      c.if-is_misplaced.false,
-    )
+    placed_by c.args.call (g.S.Standing.state c.args.s.now) c.args.room c.depth-depth.result c.in_struct.result c.waits.result false
+    c.if-room-gt-LONGEST_BUFFER.false (rw c.if-not-state_fits.false at c.state_fits.ensures) c.depth-depth.ensures c.in_struct.ensures c.waits.ensures
+    (rw c.if-is_misplaced.false at c.is_misplaced.ensures)

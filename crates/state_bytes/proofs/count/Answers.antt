@@ -36,6 +36,5 @@ put_four-requires c = omega (arith, some-counted c.args.depth c.if-depth.false)
 pub returns : goal.returns
 returns c =
     let a = c.args in
-    let h = c.in-Some.ensures.cases in
-    stored-count a.st.now c.put_four.new.st a.depth c.get_four-members.result h.long (some-counted a.depth c.if-depth.false)
-    (rw h.same at c.get_four-members.ensures) (rw h.same at c.put_four.ensures)
+    stored-count a.st.now c.put_four.new.st a.depth c.get_four-members.result c.in-Some.ensures.cases.long (some-counted a.depth c.if-depth.false)
+    (rw c.in-Some.ensures.cases.same at c.get_four-members.ensures) (rw c.in-Some.ensures.cases.same at c.put_four.ensures)

@@ -10,6 +10,5 @@ returns-in_default c = let a = c.args in unstored_head a.st.now a.used a.depth a
 pub returns : goal.returns
 returns c =
     let a = c.args in
-    let h = c.in-Some.ensures.cases in
-    stored-head a.st.now c.put_four.new.st a.used a.depth c.from.result a.waiting h.long (rw h.same at c.put_four.ensures)
+    stored-head a.st.now c.put_four.new.st a.used a.depth c.from.result a.waiting c.in-Some.ensures.cases.long (rw c.in-Some.ensures.cases.same at c.put_four.ensures)
     (c.from.ensures ∙ flag_is a.waiting)

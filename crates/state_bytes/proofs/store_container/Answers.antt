@@ -10,12 +10,10 @@ returns-in_default c = let a = c.args in unstored_short a.st.now a.i a.c c.in_de
 pub returns-then-i-ge-MOST_OPEN : goal.returns-then-i-ge-MOST_OPEN
 returns-then-i-ge-MOST_OPEN c =
     let a = c.args in
-    let h = c.in-Some.ensures.cases in
-    h.same ∙ unstored_past a.st.now a.i a.c h.long c.if-i-ge-MOST_OPEN.true
+    c.in-Some.ensures.cases.same ∙ unstored_past a.st.now a.i a.c c.in-Some.ensures.cases.long c.if-i-ge-MOST_OPEN.true
 
 pub returns : goal.returns
 returns c =
     let a = c.args in
-    let h = c.in-Some.ensures.cases in
-    stored-container a.st.now c.put_four.new.st c.put_four-2.new.st c.put_four-3.new.st a.i a.c h.long c.if-i-ge-MOST_OPEN.false
-    (rw h.same at c.put_four.ensures) c.put_four-2.ensures c.put_four-3.ensures
+    stored-container a.st.now c.put_four.new.st c.put_four-2.new.st c.put_four-3.new.st a.i a.c c.in-Some.ensures.cases.long c.if-i-ge-MOST_OPEN.false
+    (rw c.in-Some.ensures.cases.same at c.put_four.ensures) c.put_four-2.ensures c.put_four-3.ensures

@@ -1,8 +1,7 @@
 -- `steps::abandon` meets its contract: refused by place, or given back.
 -- Assumes nothing.
-use Rattle.std.proofs.Common.{refl, sym, ◌∙◌, ap, ◌-◌, ℕ, length, arith}
+use Rattle.std.proofs.Common.{refl, arith}
 use Rattle.machine.specs.Call.{abandonment}
-use Rattle.machine.specs.Machine.{in_struct, innermost_first}
 use Rattle.place.specs.declared.CallKind.TheVariants.{Abandonment}
 use Rattle.place.specs.Misplaced.{misplaced}
 use Rattle.steps.proofs.Run.{room_line}
@@ -20,11 +19,11 @@ returns-in_err-check g c =
 
 pub overflow_sub-outer : goal.overflow_sub-outer
 overflow_sub-outer g c =
-    omega (arith, c.depth-outer.ensures, abandonment_open (g.S.Standing.state c.args.s.now) c.args.buf.now (sym c.in_ok-check.ensures))
+    omega (arith, c.depth-outer.ensures, abandonment_open (g.S.Standing.state c.args.s.now) c.args.buf.now c.in_ok-check.ensures)
 
 pub returns : goal.returns
 returns g c =
     let s = g.S.Standing.state c.args.s.now in
     rw (c.container-c.ensures, c.depth-outer.ensures)
-    (abandonment_run s c.args.buf.now c.abandon.result c.abandon.new.buf c.in_struct.result (sym c.in_ok-check.ensures)
+    (abandonment_run s c.args.buf.now c.abandon.result c.abandon.new.buf c.in_struct.result c.in_ok-check.ensures
     (rw (c.used-used.ensures, c.container-c.ensures, c.depth-outer.ensures) at c.abandon.ensures) (rw c.depth-outer.ensures at c.in_struct.ensures))

@@ -1,6 +1,6 @@
 -- `steps::close` meets its contract: refused by place or for room, or closed, and counted in the outer container, whose count is not cut.
 -- Assumes nothing.
-use Rattle.std.proofs.Common.{◌≡◌, ℕ, ◌-◌, refl, sym, ap, ◌∙◌, length, arith}
+use Rattle.std.proofs.Common.{◌-◌, refl, length, arith}
 use Rattle.machine.specs.Call.{closing}
 use Rattle.place.specs.declared.CallKind.TheVariants.{Closing}
 use Rattle.place.specs.Misplaced.{misplaced}
@@ -20,28 +20,28 @@ returns-in_err-check-clause-call g c =
 
 pub overflow_sub-outer : goal.overflow_sub-outer
 overflow_sub-outer g c =
-    omega (arith, c.depth-outer.ensures, closing_some (g.S.Standing.state c.args.s.now) c.args.buf.now (sym c.in_ok-check.ensures))
+    omega (arith, c.depth-outer.ensures, closing_some (g.S.Standing.state c.args.s.now) c.args.buf.now c.in_ok-check.ensures)
 
 pub returns-in_err-closing-clause-call : goal.returns-in_err-closing-clause-call
 returns-in_err-closing-clause-call g c =
     let s = g.S.Standing.state c.args.s.now in
     let none = c.in_err-closing.ensures.ok_part in
     rw (exit_none c.from_residual-in_err-closing.result _ _ _ c.from_residual-in_err-closing.ensures.1 c.in_err-closing.ensures.value none)
-    (closing_refused s c.args.buf.now c.close.new.buf (sym c.in_ok-check.ensures)
+    (closing_refused s c.args.buf.now c.close.new.buf c.in_ok-check.ensures
     (rw (none, c.used-used.ensures, c.container-c.ensures, c.depth-outer.ensures) at c.close.ensures))
 
 pub overflow_sub-result : goal.overflow_sub-result
 overflow_sub-result g c =
     let s = g.S.Standing.state c.args.s.now in
     rw (c.container-c.ensures, c.depth-outer.ensures)
-    (closing-start s c.args.buf.now c.close.new.buf (sym c.in_ok-check.ensures) c.in_ok-closing.closing
+    (closing-start s c.args.buf.now c.close.new.buf c.in_ok-check.ensures c.in_ok-closing.closing
     (rw (c.in_ok-closing.ensures.ok_part, c.used-used.ensures, c.container-c.ensures, c.depth-outer.ensures) at c.close.ensures))
 
 pub returns-clause-call : goal.returns-clause-call
 returns-clause-call g c =
     let s = g.S.Standing.state c.args.s.now in
     rw (c.container-c.ensures, c.depth-outer.ensures)
-    (closing_accepted s c.args.buf.now c.close.new.buf (sym c.in_ok-check.ensures) c.in_ok-closing.closing
+    (closing_accepted s c.args.buf.now c.close.new.buf c.in_ok-check.ensures c.in_ok-closing.closing
     (rw (c.in_ok-closing.ensures.ok_part, c.used-used.ensures, c.container-c.ensures, c.depth-outer.ensures) at c.close.ensures))
 
 pub returns-clause-uncut : goal.returns-clause-uncut
@@ -49,4 +49,4 @@ returns-clause-uncut g c =
     let s = g.S.Standing.state c.args.s.now in
     let b = c.args.buf.now in
     rw c.depth-outer.ensures
-    (counted_uncut s (length b) (accepted_fits s (length b) _ (sym c.in_ok-check.ensures)) (omega arith) (s.depth - 1) (omega arith))
+    (counted_uncut s (length b) (accepted_fits s (length b) _ c.in_ok-check.ensures) (omega arith) (s.depth - 1) (omega arith))

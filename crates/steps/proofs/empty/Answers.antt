@@ -21,5 +21,5 @@ returns g c =
     let s = g.S.Standing.state c.args.s.now in
     let b = c.args.buf.now in
     rw (c.depth.ensures, c.waits.ensures)
-    (sym (run_accepted emptying s b (past-place emptying s b (misplaced Top s) (room_line emptying s b) refl (sym c.in_ok-check.ensures)
+    (sym (run_accepted emptying s b (past-place emptying s b (misplaced Top s) (room_line emptying s b) refl c.in_ok-check.ensures
     ∙ rw (le-ltb (length b) 0 (omega arith)))))

@@ -1,7 +1,5 @@
 -- `steps::start` meets its contract: too long, refused for room, or begun with a marker.
 -- Assumes nothing.
-use Rattle.std.proofs.Common.{◌∙◌, ap}
-use Rattle.steps.specs.Heads.{begun}
 use Rattle.steps.proofs.Started.{start_long, start_copied}
 use Rattle.steps.proofs.start.Goals as goal
 

@@ -1,6 +1,6 @@
 -- `steps::write` meets its contract: refused by place, by one of the value's own checks or for room, or put at the end of the used bytes.
 -- Assumes nothing.
-use Rattle.std.proofs.Common.{◌≡◌, ℕ, refl, sym, length, arith}
+use Rattle.std.proofs.Common.{refl, length, arith}
 use Rattle.annotations.specs.Sids.{sids_of}
 use Rattle.machine.specs.Call.{write}
 use Rattle.machine.specs.Machine.{lacks_name}
@@ -28,7 +28,7 @@ returns-in_default-clause-call g c =
     let an = sids_of a.annotations.now in
     let x = g.V.WriteAsIon.argument a.value in
     scalar_none an x s a.buf.now c.write.new.buf
-    (past-place (write an x) s a.buf.now (lacks_name s) (scalar_lines an x s a.buf.now) refl (sym c.in_ok-check.ensures))
+    (past-place (write an x) s a.buf.now (lacks_name s) (scalar_lines an x s a.buf.now) refl c.in_ok-check.ensures)
     (rw c.used.ensures at c.in_default.ensures) c.refusal.result c.refusal.ensures
 
 pub overflow_add-result : goal.overflow_add-result
@@ -37,9 +37,13 @@ overflow_add-result g c =
     let s = g.S.Standing.state a.s.now in
     let an = sids_of a.annotations.now in
     let x = g.V.WriteAsIon.argument a.value in
-    omega (arith, c.used-2.ensures, scalar_fits an x s a.buf.now c.write.new.buf
-    (past-place (write an x) s a.buf.now (lacks_name s) (scalar_lines an x s a.buf.now) refl (sym c.in_ok-check.ensures))
-    c.in-Some.put (rw c.used.ensures at c.in-Some.ensures))
+    omega (
+      arith,
+      c.used-2.ensures,
+      scalar_fits an x s a.buf.now c.write.new.buf
+          (past-place (write an x) s a.buf.now (lacks_name s) (scalar_lines an x s a.buf.now) refl c.in_ok-check.ensures)
+          c.in-Some.put (rw c.used.ensures at c.in-Some.ensures),
+    )
 
 pub returns-clause-call : goal.returns-clause-call
 returns-clause-call g c =
@@ -49,7 +53,7 @@ returns-clause-call g c =
     let x = g.V.WriteAsIon.argument a.value in
     rw (c.used-2.ensures, c.depth.ensures)
     (scalar_some an x s a.buf.now c.write.new.buf
-    (past-place (write an x) s a.buf.now (lacks_name s) (scalar_lines an x s a.buf.now) refl (sym c.in_ok-check.ensures))
+    (past-place (write an x) s a.buf.now (lacks_name s) (scalar_lines an x s a.buf.now) refl c.in_ok-check.ensures)
     c.in-Some.put (rw c.used.ensures at c.in-Some.ensures))
 
 pub returns-clause-uncut : goal.returns-clause-uncut
@@ -57,4 +61,4 @@ returns-clause-uncut g c =
     let s = g.S.Standing.state c.args.s.now in
     let b = c.args.buf.now in
     rw c.depth.ensures
-    (counted_uncut s (length b) (accepted_fits s (length b) _ (sym c.in_ok-check.ensures)) (omega arith) s.depth (omega arith))
+    (counted_uncut s (length b) (accepted_fits s (length b) _ c.in_ok-check.ensures) (omega arith) s.depth (omega arith))

@@ -15,5 +15,4 @@ returns-then-i-ge-MOST_OPEN c =
 pub returns : goal.returns
 returns c =
     let b = c.args.self.now.0.now in
-    let h = c.in-Some.ensures.cases in
-    c.get_container.ensures ∙ rw (h.same, state_is b h.long) (sym (container_is b c.args.i c.if-i-ge-MOST_OPEN.false))
+    c.get_container.ensures ∙ rw (c.in-Some.ensures.cases.same, state_is b c.in-Some.ensures.cases.long) (sym (container_is b c.args.i c.if-i-ge-MOST_OPEN.false))

@@ -5,7 +5,7 @@ use Rattle.state_bytes.proofs.Laws.{state_is, state_none}
 use Rattle.state_bytes.proofs.StateBytesStanding.used.Goals as goal
 
 pub returns-in-Some : goal.returns-in-Some
-returns-in-Some c = let h = c.in-Some.ensures.cases in c.get_four.ensures ∙ rw (h.same, state_is c.args.self.now.0.now h.long)
+returns-in-Some c = c.get_four.ensures ∙ rw (c.in-Some.ensures.cases.same, state_is c.args.self.now.0.now c.in-Some.ensures.cases.long)
 
 pub returns-in-None : goal.returns-in-None
 returns-in-None c = rw (state_none c.args.self.now.0.now c.in-None.ensures.cases)
