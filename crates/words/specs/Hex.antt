@@ -50,3 +50,7 @@ hex_glyph n = elim (ltb (n % 16) 10) [ true ↦ 48 + n % 16 | false ↦ 97 + (n 
 unfoldable pub hex_text : List ℕ → List ℕ
 hex_text [] = []
 hex_text (b ∷ s) = hex_glyph (b / 16) ∷ hex_glyph b ∷ hex_text s
+
+-- The digits of bytes behind l, where n bytes have room for all of them.
+unfoldable pub with_hex : ℕ → List ℕ → List ℕ → List ℕ
+with_hex n l bytes = elim (leb (length l + 2 * length bytes) n) [ true ↦ l ++ hex_text bytes | false ↦ l ]

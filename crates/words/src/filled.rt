@@ -1,7 +1,7 @@
 // Bytes in an array and their count, since nothing allocates. Digits are put into the room behind them, which the kit's `ArrayVec` does not lend.
-ghost use Rattle.std.specs.Prelude.{◌≡◌, List, ℕ, [], ◌++◌, ◌+◌, ◌*◌, ◌≤◌, length, take};
+ghost use Rattle.std.specs.Prelude.{◌≡◌, List, ℕ, [], ◌++◌, ◌≤◌, length, take};
 ghost use Rattle.words.specs.Numbers.{magnitude};
-ghost use Rattle.words.specs.Hex.{hex_bytes, hex_text};
+ghost use Rattle.words.specs.Hex.{hex_bytes, with_hex};
 
 use crate::hex;
 use std::fmt;
@@ -65,10 +65,9 @@ impl<const N: usize> Filled<N> {
         self.used = end;
     }
 
-    // Puts the digits of bytes behind those in use.
+    // Puts the digits of bytes behind those in use, where there is room for all of them.
     pub fn append_hex(&mut self, bytes: &[u8])
-        requires { length self.old + 2 * length bytes.now ≤ N }
-        ensures { self.new ≡ self.old ++ hex_text bytes.now }
+        ensures { self.new ≡ with_hex N self.old bytes.now }
     {
         self.used += hex::put(&mut self.bytes, self.used, bytes).unwrap_or(0);
     }
