@@ -10,7 +10,7 @@ use machine::Refusal;
 use scalars::IonType;
 use timestamp::{Fraction, Precision};
 
-// 0 for an accepted call, or the refusal's number.
+// 0 for an accepted call, or the refusal's number: what C is given. Here alone an answer becomes a number.
 pub fn answered(answer: Result<(), Refusal>) -> u8
     ensures { result ≡ number_of (verdict_of answer) }
 {

@@ -1,6 +1,6 @@
 // The entry points for a host, whole: here those for the stream, and those of the crates below handed on.
 // The state is lent as bytes, which crate state_bytes describes.
-// Each answers 0 for an accepted call, or the refusal's number. A refused call leaves what is lent as it was.
+// Each answers 0 for an accepted call, or the refusal's number, since C takes no `Result`. A refused call leaves what is lent as it was.
 #![tactic(auto)]
 
 ghost use Rattle.std.specs.Prelude.{◌≡◌, length};

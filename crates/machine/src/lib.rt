@@ -11,7 +11,7 @@ pub const LONGEST_BUFFER: usize = 16_777_215;
 // Check 4: an opening with as many open is refused.
 pub const MOST_OPEN: usize = 32;
 
-// The type codes of containers.
+// The type codes of containers, as the header has them: the bytes of the format, named once.
 pub const LIST: u8 = 0xB0;
 
 pub const SEXP: u8 = 0xC0;

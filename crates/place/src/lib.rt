@@ -169,7 +169,7 @@ impl PlaceCheck for State {
     }
 }
 
-// How many bytes from the buffer's front are finished.
+// How many bytes from the buffer's front are finished: 0 where a taking hands back document 01's empty part.
 pub fn finished_length<S: Standing>(s: &S, room: usize) -> usize
     ensures { result ≡ finished_length (S.state s.now) room }
 {

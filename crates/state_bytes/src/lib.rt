@@ -65,7 +65,7 @@ fn get_container(st: &[u8; STATE_SIZE], i: usize) -> Container
     }
 }
 
-// A state as its bytes. A slice of another length spells a state that does not fit.
+// A state as its bytes. A slice of another length spells a state that does not fit, with no byte used.
 #[derive(Clone, Copy)]
 pub struct StateBytes<'a>(pub &'a [u8]);
 

@@ -1,4 +1,5 @@
 // The calls that write a scalar: document 01's module value_writer, over a state by value and a lent buffer.
+// State, buffer, annotations and value are parameters apart, and each type has a function of its name, as in ion-rust's writer, which document 01 takes over.
 #![tactic(auto)]
 
 ghost use Rattle.std.specs.Prelude.{◌≡◌};
