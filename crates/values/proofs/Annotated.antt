@@ -105,7 +105,7 @@ abbrev pub Before : List ℕ → ℕ → List ℕ → Argument → ℕ → List 
 Before b at notes a n l =
     ((eqb (length notes) 0 ≡ true) × ((n ≡ 0) × (l ≡ b)))
     ⊎ ((eqb (length notes) 0 ≡ false) × ((size : ℕ) × ((Some size ≡ size_of (checked_bytes a))
-      × (◌≡◌ {A = Option ℕ × List ℕ} (Some n, l) (placed_before b at (prefix_bytes (sids_of notes) size) size)))))
+    × (◌≡◌ {A = Option ℕ × List ℕ} (Some n, l) (placed_before b at (prefix_bytes (sids_of notes) size) size)))))
 
 module _ (b : List ℕ) (at : ℕ) (notes : List ℕ) (a : Argument) (n : ℕ) (l : List ℕ) (before : Before b at notes a n l) where
   pub value_room : at + n ≤ max at (length l)

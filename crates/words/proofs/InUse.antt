@@ -41,17 +41,17 @@ module _ (n u : ℕ) (b s : List ℕ) (within : u ≤ n) (all : length b ≡ n) 
       let size = length_text s in
       let none : u + 0 ≡ u = omega arith in
       ⊎_elim
-        (λ w. ap (λ (p : Option ℕ × List ℕ). take (u + unwrap_or p.0 0) p.1) (put ∙ w.1)
-              ∙ take-laid b u (hex_text s) w.0 ∙ sym (with_hex-some n (take u b) s (omega (arith, w.0))))
-        (λ w. ap (λ (p : Option ℕ × List ℕ). take (u + unwrap_or p.0 0) p.1) (put ∙ w.1)
-              ∙ (ap (λ (k : ℕ). take k b) none ∙ sym (with_hex-none n (take u b) s (omega (arith, w.0)))))
-        (placed_or b u (hex_text s))
+      (λ w. ap (λ (p : Option ℕ × List ℕ). take (u + unwrap_or p.0 0) p.1) (put ∙ w.1)
+      ∙ take-laid b u (hex_text s) w.0 ∙ sym (with_hex-some n (take u b) s (omega (arith, w.0))))
+      (λ w. ap (λ (p : Option ℕ × List ℕ). take (u + unwrap_or p.0 0) p.1) (put ∙ w.1)
+      ∙ (ap (λ (k : ℕ). take k b) none ∙ sym (with_hex-none n (take u b) s (omega (arith, w.0)))))
+      (placed_or b u (hex_text s))
 
   pub digits_within : (r : Option ℕ) (l : List ℕ) → ◌≡◌ {A = Option ℕ × List ℕ} (r, l) (placed b u (hex_text s)) → u + unwrap_or r 0 ≤ n
   digits_within r l put =
       let put_is : (p : Option ℕ × List ℕ) → placed b u (hex_text s) ≡ p → unwrap_or r 0 ≡ unwrap_or p.0 0 =
-          λ p w. ap (λ (p : Option ℕ × List ℕ). unwrap_or p.0 0) (put ∙ w) in
+      λ p w. ap (λ (p : Option ℕ × List ℕ). unwrap_or p.0 0) (put ∙ w) in
       ⊎_elim
-        (λ w. omega (arith, w.0, put_is _ w.1))
-        (λ w. omega (arith, put_is _ w.1))
-        (placed_or b u (hex_text s))
+      (λ w. omega (arith, w.0, put_is _ w.1))
+      (λ w. omega (arith, put_is _ w.1))
+      (placed_or b u (hex_text s))
