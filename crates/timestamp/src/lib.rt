@@ -443,7 +443,7 @@ impl Utc {
         header::encoded_size_of(body) + body
     }
 
-    // As `Decimal::write` and `scalars::write_bytes` put a header and a body: the bodies are put by three functions, so only the test of the room could be shared.
+    // As `Decimal::write` and `scalars::write_bytes`: the bodies are put by three functions, so only the test of the room could be shared.
     fn put(self, buf: &mut [u8], at: usize) -> Option<usize>
         ensures { ◌≡◌ {A = Option ℕ × List ℕ} (result, buf.new) (placed buf.old at (value_of self.t)) }
     {
