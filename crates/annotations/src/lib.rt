@@ -1,4 +1,5 @@
 // Annotations, lent as bytes: eight bytes a sid, least significant first, the missing bytes of the last sid zero.
+// `as` stands where Rust has no `From`: from usize to u64.
 #![tactic(auto)]
 
 ghost use Rattle.std.specs.Prelude.{◌≡◌, List, ℕ, Option, ◌+◌, ◌*◌, ◌^◌, ◌<◌, ◌≤◌, length};

@@ -1,5 +1,6 @@
 // Bytes laid into a lent buffer. Each function that puts bytes tests its room itself: it puts all of them and answers how many these are, or puts none.
-// Here and above, buffer and place are two parameters: the caller lends its buffer for each call, and a struct of both would be made and taken apart in each.
+// In this crate and those above it, buffer and place are two parameters: the caller lends its buffer for each call, and a struct of both would
+// be made and taken apart in each.
 #![tactic(auto)]
 
 ghost use Rattle.std.specs.Prelude.{◌≡◌, List, [], ◌∷◌, ℕ, Option, ◌+◌, leb};

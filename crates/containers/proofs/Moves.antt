@@ -2,14 +2,14 @@
 -- By the laws of laid bytes. Assumes nothing.
 use mathlib.Core.Path.{◌≡◌, refl, sym, ◌∙◌, ap}
 use mathlib.Core.List.{List, append_assoc}
-use Prim.Native.Nat.{ℕ, ◌+◌, ◌-◌, ◌≤◌, ◌<◌}
+use Prim.Native.Nat.{ℕ, ◌+◌, ◌-◌, ◌≤◌}
 use native.Mathlib.Omega.{arith}
-use lib.ListN.{length, take, drop, set, replicate, length-drop, length-replicate, replicate-append-replicate, take-append-drop}
+use lib.ListN.{length, take, drop, length-drop, take-append-drop}
 use lib.Seq.{paste, slice, take-add, drop_at, length-take-le, drop-drop}
 use borrow.Author.Tests.{eq-eqb, ne_eqb}
 use Rattle.machine.specs.Machine.{length_if_moved}
 use Rattle.buffer.specs.Laid.{laid}
-use Rattle.buffer.proofs.Laid.{laid_is, laid_snoc, length-laid, take-before, drop-behind}
+use Rattle.buffer.proofs.Laid.{laid_is, length-laid, take-before, drop-behind}
 
 -- the count bytes from `from` on
 abbrev pub part : List ℕ → ℕ → ℕ → List ℕ
@@ -56,8 +56,3 @@ pub pasted : (b : List ℕ) (from to end count : ℕ) → end ≡ from + count �
 pasted b from to end count e h =
     let n : end - from ≡ count = omega arith in
     rw (n, laid_is b to (part b from count), length_part b from count h) (append_assoc (take to b) (part b from count) _)
-
--- a turn of a clearing
-pub clear_turn : (b : List ℕ) (at i n : ℕ) → n ≡ at + i → n < length b → set (laid b at (replicate i 0)) n 0 ≡ laid b at (replicate (i + 1) 0)
-clear_turn b at i n e h =
-    laid_snoc b at (replicate i 0) n 0 (rw (length-replicate {A = ℕ} i 0) e) h ∙ ap (laid b at) (replicate-append-replicate i 1 0)

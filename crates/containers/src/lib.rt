@@ -151,7 +151,7 @@ pub fn close(buf: &mut [u8], used: usize, c: machine::Container) -> Option<Closi
     ending.close_annotated(buf)
 }
 
-// The bytes from `start` up to `used` become zero: whether they lie in the buffer, and else nothing alters.
+// The bytes from `start` up to `used` become zero: whether they lie in the buffer, and else nothing alters. A yes or no, since no value stands beside it.
 pub fn abandon(buf: &mut [u8], used: usize, start: usize) -> bool
     ensures { ◌≡◌ {A = Bool × List ℕ} (result, buf.new) (abandoned_on used start buf.old) }
 {

@@ -64,6 +64,7 @@ impl<'a> Decimal<'a> {
     }
 
     // Header and body. Nothing is put where the body is longer than 32 bytes.
+    // As `Utc::put` of timestamp and `scalars::write_bytes`: the bodies are put by three functions, so only the test of the room could be shared.
     pub fn write(self, buf: &mut [u8], at: usize) -> Option<usize>
         ensures { ◌≡◌ {A = Option ℕ × List ℕ} (result, buf.new)
             (written buf.old at (checked_bytes (write_decimal self.entry.coefficient.negative self.entry.coefficient.magnitude.now self.entry.exponent))) }

@@ -1,4 +1,5 @@
 // Digits of a number in a base, and the bits that tell how many there are.
+// `as` stands where Rust has no `From`: from u32 and u64 to usize, and to u8 for a digit, which one byte holds.
 #![tactic(auto)]
 
 ghost use Rattle.std.specs.Prelude.{◌≡◌, List, ℕ, Option, ◌+◌, ◌-◌, ◌^◌, ◌≤◌, SomeIff};
@@ -10,7 +11,7 @@ ghost use Rattle.buffer.specs.Laid.{placed};
 pub fn bits_used(value: u64) -> usize
     ensures { result ≡ 64 - count_leading_zeros 64 value }
 {
-    (64 - u64::leading_zeros(value)) as usize
+    (64 - value.leading_zeros()) as usize
 }
 
 // The lowest `count` digits of `value`, most significant first, in the base whose greatest digit is `greatest`: no such base is zero, and each digit is a byte.

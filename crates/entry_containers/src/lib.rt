@@ -1,5 +1,6 @@
 // The entry points for names and containers: numbers and byte slices in, state and buffer lent.
 // Each answers 0 for an accepted call, or the refusal's number, since C takes no `Result`. A refused call leaves what is lent as it was.
+// State, buffer and annotations are parameters apart, as C hands them.
 #![tactic(auto)]
 
 ghost use Rattle.std.specs.Prelude.{◌≡◌};

@@ -1,6 +1,7 @@
 // The entry points that write a scalar given by a slice: ints and decimals of any size, strings and lobs; state and buffer are lent.
 // Each answers 0 for an accepted call, or the refusal's number, since C takes no `Result`. A refused call leaves state and buffer as they were.
-// A number that stands for yes or no is no where it is 0.
+// A number that stands for yes or no is no where it is 0: C is given neither a bool nor an Option.
+// State, buffer and annotations are parameters apart, as C hands them.
 #![tactic(auto)]
 
 ghost use Rattle.std.specs.Prelude.{◌≡◌};

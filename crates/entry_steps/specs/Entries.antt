@@ -1,4 +1,4 @@
--- What the entry points answer and leave beside `entered`: a start.
+-- What the entry points answer and leave beside `entered`: a start, and a call before its answer is a number.
 -- Assumes nothing.
 use Rattle.std.specs.Prelude.{ℕ, true, false, List, Result, Ok, Err, eqb, ltb, length, replicate}
 use Rattle.machine.specs.declared.Refusal.{Refusal}

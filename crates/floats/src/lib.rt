@@ -1,5 +1,6 @@
 // Floats: `write_f32` and `write_f64` of document 01's value_writer. The type byte is 4 and the size of what follows: 40, 44 or 48.
 // A call that keeps a NaN's own bits takes bits, since the language has one NaN; a call that takes an f32 or f64 compares it with zero.
+// `as` stands where Rust has no `From`: to u32 and u8 of numbers that fit.
 #![tactic(auto)]
 
 ghost use Rattle.std.specs.Prelude.{◌≡◌, refl, List, [], ◌∷◌, ℕ, Option, ◌+◌, ◌≤◌, ◌<◌, eqb, length};
@@ -12,7 +13,7 @@ ghost use Rattle.floats.specs.Narrowed.{narrowed_bits, Dropped};
 ghost use Rattle.floats.specs.Zero.{float32_zero, float64_zero};
 ghost use Rattle.floats.specs.Puts.{float32_puts, float64_puts};
 
-// The sign bits, and the weight of the exponent's field.
+// The sign bits, and the weight of the exponent's field. In pairs, since `narrow` uses those of both formats.
 const SIGN_32: u32 = 0x8000_0000;
 
 const SIGN_64: u64 = 0x8000_0000_0000_0000;
@@ -91,7 +92,7 @@ fn write_sized(buf: &mut [u8], at: usize, size: usize, bits: u64) -> Option<usiz
     Some(1 + count)
 }
 
-// u32 and u64, the bits of a float: what becomes of a float of these bits.
+// u32 and u64: the bits of a float, and how a float of these bits is written.
 pub trait FloatBits: Copy {
     // The number that bits are, the scalar call that takes it, and the bytes that a float of these bits takes.
     ghost number: { Self → ℕ };

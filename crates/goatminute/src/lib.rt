@@ -1,6 +1,7 @@
 // The entry points for a host, whole: here those for the stream, and those of the crates below handed on.
 // The state is lent as bytes, which crate state_bytes describes.
-// Each answers 0 for an accepted call, or the refusal's number, since C takes no `Result`. A refused call leaves what is lent as it was.
+// Each answers 0 for an accepted call, or the refusal's number, since C takes no `Result`. A refused call leaves what is lent as it was,
+// but for a start, which leaves the empty state.
 #![tactic(auto)]
 
 ghost use Rattle.std.specs.Prelude.{◌≡◌, length};
@@ -26,6 +27,7 @@ use state_bytes::StateBytes;
 fn start(state: &mut [u8], buf: &mut [u8]) -> Result<(), Refusal>
     ensures { answered_as result state.new buf.new ≡ start_entered state.old buf.old }
 {
+    // Line 1 comes first: a buffer that is too long is refused for that, whatever the state's length.
     if state.len() != STATE_SIZE {
         if LONGEST_BUFFER < buf.len() {
             return Err(Refusal::BufferTooLong);

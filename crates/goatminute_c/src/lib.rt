@@ -177,7 +177,7 @@ pub extern "C" fn gm_write_f64(
     entry_scalars::gm_write_f64(state, buf, annotations, bits)
 }
 
-// The same by numbers. A field past the precision means nothing, nor does an offset that is not known or a fraction that is not given.
+// A timestamp by its local fields and its offset. A field past the precision means nothing, nor does an offset that is not known or a fraction that is not given.
 #[unsafe(no_mangle)]
 pub extern "C" fn gm_write_timestamp(
     state: &mut [u8],

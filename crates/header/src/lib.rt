@@ -1,4 +1,5 @@
 // The header of a value: the type code in the high four bits; the length in the low four, or from 14 on E there and a VarUInt behind.
+// `as` stands where Rust has no `From`: from usize to u64, and to u8 of a number below 15.
 #![tactic(auto)]
 
 ghost use Rattle.std.specs.Prelude.{◌≡◌, List, ℕ, Option, ◌*◌, ◌/◌, length};

@@ -9,6 +9,7 @@ ghost use Rattle.buffer.specs.Laid.{placed};
 const SIGN: u8 = 0x80;
 
 // An int of any size: its sign, and its magnitude from the highest byte on, whose leading zero bytes do not count.
+// Their count is asked below, for the test of zero and for the size: a slice without them, in its place, would be compared by its length.
 #[derive(Clone, Copy)]
 pub struct Int<'a> {
     pub negative: bool,

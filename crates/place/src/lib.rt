@@ -51,7 +51,7 @@ pub trait Standing {
     fn waits(&self) -> bool
         ensures { result ≡ (state self.now).waiting };
 
-    // The container i of the array; one of zeros past its end.
+    // The container i of the array; past its end one of zeros, as the definition has it (get_or).
     fn container(&self, i: usize) -> Container
         ensures { result ≡ get_or (state self.now).containers i no_container };
 }
@@ -106,7 +106,7 @@ pub fn in_struct<S: Standing>(s: &S, depth: usize) -> bool
     0 < depth && s.container(depth - 1).code == STRUCT
 }
 
-// From the innermost container outwards: each has to end before the next begins.
+// From the innermost container outwards: each has to end before the next begins. By place: a state gives its containers by their place.
 fn containers_fit<S: Standing>(s: &S, used: usize, depth: usize) -> bool
     ensures { result ≡ containers_fit used (innermost_first (S.state s.now).containers depth) }
 {

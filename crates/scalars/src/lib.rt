@@ -39,7 +39,7 @@ const CLOB: u8 = 0x90;
 const BLOB: u8 = 0xA0;
 
 // What a scalar call is given: `argument` is what the definition of the call's bytes says of it.
-// The impls read alike, but no two call the same functions: the bytes, their size and the checks of each type are its own.
+// Seven types have no checks, and each says so in its refusal: a default could not know that a type has none.
 pub trait WriteAsIon: Copy {
     ghost argument: { Self → Argument };
 
@@ -98,7 +98,7 @@ impl From<IonType> for u8 {
     }
 }
 
-// A null of a type: one byte, the type code and F.
+// A null of a type: one byte, the type code and F. The remainder lets the checker see that the code fits in four bits.
 impl WriteAsIon for IonType {
     ghost argument = { λ t. write_null (type_of t) };
 
@@ -150,6 +150,13 @@ fn framed_size(body: usize) -> usize
     header::encoded_size_of(body) + body
 }
 
+// The bytes that the body `bytes` takes with its header, of any type.
+pub fn bytes_size(bytes: &[u8]) -> usize
+    ensures { (t : ℕ) → result ≡ length (framed_bytes t bytes.now) }
+{
+    framed_size(bytes.len())
+}
+
 // Zero has no body.
 impl WriteAsIon for i64 {
     ghost argument = { write_i64 };
@@ -193,7 +200,8 @@ impl WriteAsIon for Symbol {
 }
 
 // A body of any length behind its header. The low four bits of `code` do not count.
-fn write_bytes(buf: &mut [u8], at: usize, code: u8, bytes: &[u8]) -> Option<usize>
+// These five lines stand in `Decimal::write` and `Utc::put` too: each puts its body by a function of its own, so only the test of the room could be shared.
+pub fn write_bytes(buf: &mut [u8], at: usize, code: u8, bytes: &[u8]) -> Option<usize>
     ensures { ◌≡◌ {A = Option ℕ × List ℕ} (result, buf.new) (written buf.old at (framed_bytes (code / 16 * 16) bytes.now)) }
 {
     if !buffer::has_room(buf.len(), at, framed_size(bytes.len())) {
@@ -205,6 +213,7 @@ fn write_bytes(buf: &mut [u8], at: usize, code: u8, bytes: &[u8]) -> Option<usiz
 }
 
 // Zero has one byte; negative zero is refused.
+// The count of leading zeros is asked, for the test of zero and for the size: a slice without them, in its place, would be compared by its length.
 impl<'a> WriteAsIon for Int<'a> {
     ghost argument = { λ i. write_int i.negative i.magnitude.now };
 
@@ -327,6 +336,7 @@ impl WriteAsIon for Timestamp {
 // ---- strings and lobs
 
 // A string's bytes, tested for UTF-8 once, where it is made. Those that are not UTF-8 are refused.
+// The bytes stay beside the answer, and in no Option: what a refused string is refused by names them.
 #[derive(Clone, Copy)]
 pub struct Text<'a> {
     bytes: &'a [u8],
@@ -359,7 +369,7 @@ impl<'a> WriteAsIon for Text<'a> {
         if !self.is_utf8() {
             return None;
         }
-        Some(framed_size(self.bytes.len()))
+        Some(bytes_size(self.bytes))
     }
 
     fn write(self, buf: &mut [u8], at: usize) -> Option<usize> {
@@ -389,7 +399,7 @@ impl<'a> WriteAsIon for Lob<'a> {
 
     fn size(self) -> Option<usize> {
         let (Lob::Clob(bytes) | Lob::Blob(bytes)) = self;
-        Some(framed_size(bytes.len()))
+        Some(bytes_size(bytes))
     }
 
     fn write(self, buf: &mut [u8], at: usize) -> Option<usize> {

@@ -1,4 +1,5 @@
 // A writer's state as lent bytes, and the checks by place on them. No State is made: what lies in an array at a computed place would be copied at every call.
+// `as` stands where Rust has no `From`: from u32 to usize, and to u32 and u8 of a remainder that fits.
 #![tactic(auto)]
 
 ghost use Rattle.std.specs.Prelude.{◌≡◌, false, not, ◌&&◌, ◌||◌, ◌∷◌, [], ◌+◌, ◌-◌, ◌*◌, ◌^◌, ◌≤◌, ◌<◌, eqb, leb, length};
@@ -65,7 +66,7 @@ fn get_container(st: &[u8; STATE_SIZE], i: usize) -> Container
     }
 }
 
-// A state as its bytes. A slice of another length spells a state that does not fit, with no byte used.
+// A state as its bytes. A slice of another length spells a state that does not fit, with no byte used: each answer is then that state's, as `state_of` has it.
 #[derive(Clone, Copy)]
 pub struct StateBytes<'a>(pub &'a [u8]);
 
@@ -131,7 +132,8 @@ fn container_fits(st: &[u8; STATE_SIZE], i: usize, limit: usize) -> bool
     is_code(st[at + CODE])
 }
 
-// From the innermost container outwards: each has to end before the next begins.
+// From the innermost container outwards: each has to end before the next begins. By place: the records lie in bytes.
+// Beside the generic one of place for speed, as container_fits.
 fn containers_fit(st: &[u8; STATE_SIZE], used: usize, depth: usize) -> bool
     requires { depth ≤ most_open }
     ensures { result ≡ containers_fit used (innermost_first (state_of st.now).containers depth) }
@@ -147,7 +149,7 @@ fn containers_fit(st: &[u8; STATE_SIZE], used: usize, depth: usize) -> bool
 }
 
 // Whether the container below `depth` is a struct. At depth 0 the byte that is read is the highest of the used length, which is 0 in a buffer that is
-// not too long; of another state it says nothing.
+// not too long; of another state it says nothing. Beside the generic one of place for speed, as container_fits.
 fn innermost_is_struct(st: &[u8; STATE_SIZE], depth: usize) -> bool
     requires { depth ≤ most_open }
     ensures { let s = state_of st.now in (s.used ≤ longest_buffer → result ≡ in_struct (innermost_first s.containers depth)) }
@@ -155,7 +157,7 @@ fn innermost_is_struct(st: &[u8; STATE_SIZE], depth: usize) -> bool
     st[HEAD_SIZE + RECORD_SIZE * depth - CODE_AND_AFTER] == STRUCT
 }
 
-// Whether none of the lines 1 to 3 fails.
+// Whether none of the lines 1 to 3 fails. Beside `place::check` for speed: it need not say which line fails.
 #[inline(always)]
 fn passes(st: &[u8; STATE_SIZE], room: usize, call: CallKind) -> bool
     ensures { result ≡ is_accepted (place_verdict (state_of st.now) room (misplaced call (state_of st.now))) }

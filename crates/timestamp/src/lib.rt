@@ -1,6 +1,7 @@
 // Timestamps: document 01's modules types/timestamp and binary/timestamp.
 // A field is 32 bits wide and never cut: a year of 70000 is a bad year.
 // `buf` and `at` are two parameters: the buffer is lent at each call, and a struct around both would be made and taken apart in each function.
+// `as` stands where Rust has no `From`: from u32 to usize, and from u64 to u32 of a number that 32 bits hold.
 #![tactic(auto)]
 
 ghost use Rattle.std.specs.Prelude.{◌≡◌, true, false, ◌&&◌, List, [], ℕ, Option, ◌+◌, ◌%◌, ◌^◌, ◌≤◌, ◌<◌, ltb, leb, length, nat_abs, MatchOption};
@@ -128,7 +129,7 @@ impl Timestamp {
     }
 
     // The local fields, year 1 to 9999, a day of the calendar, hour 0 to 23, minute and second 0 to 59, as far as the precision goes; then offset and fraction.
-    // Inline too: called, it reads a copy of the timestamp in memory, and `gm_write_timestamp` takes 511 instructions where it takes 482.
+    // Inline: called, it reads a copy of the timestamp in memory, and `gm_write_timestamp` takes 511 instructions where it takes 482.
     #[inline(always)]
     fn is_local(self) -> bool
         ensures { result ≡ is_local_timestamp (offset_minutes self.offset) (fields_of self) (fraction_digits self.fraction) }
@@ -442,6 +443,7 @@ impl Utc {
         header::encoded_size_of(body) + body
     }
 
+    // As `Decimal::write` and `scalars::write_bytes`: the bodies are put by three functions, so only the test of the room could be shared.
     fn put(self, buf: &mut [u8], at: usize) -> Option<usize>
         ensures { ◌≡◌ {A = Option ℕ × List ℕ} (result, buf.new) (placed buf.old at (value_of self.t)) }
     {

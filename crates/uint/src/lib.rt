@@ -1,5 +1,6 @@
 // UInt: big-endian bytes without leading zero bytes.
 // The buffer is lent at each call, and goes in beside a place: a struct of both would be made and taken apart in each function of one line.
+// `as u8` of a size that fits one byte: Rust has no `From` for it.
 #![tactic(auto)]
 
 ghost use Rattle.std.specs.Prelude.{◌≡◌, List, ℕ, Option, ◌+◌, ◌*◌, ◌/◌, length};
@@ -49,6 +50,7 @@ pub fn write_framed(buf: &mut [u8], at: usize, code: u8, value: u64) -> Option<u
 }
 
 // How many leading bytes of a big-endian magnitude are zero.
+// The count itself is asked, for the test of zero and for the size: a slice without them, in its place, would be compared by its length.
 pub fn leading_zero_bytes(magnitude: &[u8]) -> usize
     ensures { result + length (trimmed magnitude.now) ≡ length magnitude.now }
 {

@@ -1,4 +1,5 @@
 // VarInt: a VarUInt whose first byte holds six bits of the magnitude below the sign.
+// `as u8` of a number that fits one byte: Rust has no `From` for it.
 #![tactic(auto)]
 
 ghost use Rattle.std.specs.Prelude.{◌≡◌, false, List, ℕ, Option, length};
@@ -27,7 +28,8 @@ pub fn encoded_size_of(magnitude: u64) -> usize
 }
 
 // The sign and the magnitude as a VarInt: the digits of base 128, then the last again, with the end flag, and the first, with the sign. Zero keeps its sign.
-// Sign and magnitude are two words, which each caller computes at its call: a struct of both would be taken apart here, and nowhere else be kept.
+// Sign and magnitude are two words: of the three calls in the library one computes both in it, one takes them out of an Option at once, and one knows the sign.
+// A struct of both would be made for the call and taken apart here.
 pub fn write(buf: &mut [u8], at: usize, negative: bool, magnitude: u64) -> Option<usize>
     ensures { ◌≡◌ {A = Option ℕ × List ℕ} (result, buf.new) (placed buf.old at (var_int_bytes (signed negative magnitude))) }
 {

@@ -1,4 +1,5 @@
 // VarUInt: seven bits a byte, most significant first, the end flag on the last. It is stored from the last byte to the first.
+// `as u8` of a number that fits one byte: Rust has no `From` for it.
 #![tactic(auto)]
 
 ghost use Rattle.std.specs.Prelude.{◌≡◌, List, ℕ, Option, length};
@@ -6,7 +7,7 @@ ghost use Rattle.encoding.specs.Fields.{var_uint_bytes};
 ghost use Rattle.buffer.specs.Laid.{placed};
 ghost use Rattle.var_uint.specs.Filled.{filled};
 
-// `var_int` has constants of these names too: its field's first byte holds six bits and a sign, so that but the end flag they have other values.
+// `var_int` has constants of these names too: its field's first byte holds six bits and a sign, so that all but the end flag have other values.
 const END_FLAG: u8 = 0x80;
 
 // The least number that takes more than one byte.

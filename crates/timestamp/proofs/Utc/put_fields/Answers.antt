@@ -1,6 +1,6 @@
 -- `Utc::put_fields` meets its contract: each field is put behind those before it, for all of which there is room.
 -- Assumes nothing.
-use Rattle.std.proofs.Common.{◌≡◌, ◌-◌, ◌<◌, [], arith}
+use Rattle.std.proofs.Common.{◌-◌, ◌<◌, [], arith}
 use Rattle.timestamp.proofs.Fields.{at_most_five, year_put, put_room, no_year, no_next, next_put}
 use Rattle.timestamp.proofs.Utc.put_fields.Goals as goal
 use Rattle.timestamp.proofs.Utc.put_fields.Goals.{else-loop-i-test, then-loop-i-test+then-i-count}
