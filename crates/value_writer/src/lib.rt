@@ -27,8 +27,7 @@ pub fn write<V: WriteAsIon>(
 ) -> Result<State, Refused>
     ensures { outcome_of result buf.new ≡ run (write (sids_of annotations.now) (V.argument value)) (config s buf.old) }
 {
-    let head =
-        steps::write(&s, buf, annotations, value).map_err(|why| steps::refused(s, why))?;
+    let head = steps::write(&s, buf, annotations, value).map_err(|why| steps::refused(s, why))?;
     Ok(steps::with_head(steps::counted(s, head.depth), head))
 }
 

@@ -51,8 +51,7 @@ pub fn open(
 ) -> Result<State, Refused>
     ensures { outcome_of result buf.new ≡ run (opening (sids_of annotations.now) (kind_of kind)) (config s buf.old) }
 {
-    let opened =
-        steps::open(&s, buf, annotations, kind).map_err(|why| steps::refused(s, why))?;
+    let opened = steps::open(&s, buf, annotations, kind).map_err(|why| steps::refused(s, why))?;
     let mut next = s;
     next.containers[opened.head.depth - 1] = opened.container;
     Ok(steps::with_head(next, opened.head))
