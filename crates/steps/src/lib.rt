@@ -84,9 +84,7 @@ pub fn write<S: PlaceCheck, V: WriteAsIon>(
     ensures uncut { let cs = (S.state s.now).containers in IfOk result (λ h. counted_cut cs h.depth ≡ counted cs h.depth) }
 {
     s.check(buf.len(), CallKind::Value)?;
-    let Some(put) = values::write(buf, s.used(), annotations, value) else {
-        return Err(value.refusal());
-    };
+    let put = values::write(buf, s.used(), annotations, value).ok_or_else(|| value.refusal())?;
     Ok(Head {
         used: s.used() + put,
         depth: s.depth(),

@@ -27,10 +27,8 @@ pub fn write<V: WriteAsIon>(
 ) -> Result<State, Refused>
     ensures { outcome_of result buf.new ≡ run (write (sids_of annotations.now) (V.argument value)) (config s buf.old) }
 {
-    match steps::write(&s, buf, annotations, value) {
-        Ok(head) => Ok(steps::with_head(steps::counted(s, head.depth), head)),
-        Err(why) => Err(steps::refused(s, why)),
-    }
+    let head = steps::write(&s, buf, annotations, value).map_err(|why| steps::refused(s, why))?;
+    Ok(steps::with_head(steps::counted(s, head.depth), head))
 }
 
 // The functions from here on are `write` of one type each, under the names and with the parameters of ion-rust's value_writer.

@@ -23,20 +23,16 @@ pub use value_writer::{
 pub fn start(buf: &mut [u8]) -> Result<State, Refused>
     ensures { outcome_of result buf.new ≡ start_run buf.old }
 {
-    match steps::start(buf) {
-        Ok(used) => Ok(State::empty(used)),
-        Err(why) => Err(steps::refused(State::empty(0), why)),
-    }
+    let used = steps::start(buf).map_err(|why| steps::refused(State::empty(0), why))?;
+    Ok(State::empty(used))
 }
 
 // A call that alters the head alone: the next state.
 fn stepped(s: State, step: Result<Head, Refusal>) -> Result<State, Refused>
     ensures { (b : List ℕ) → outcome_of result b ≡ stepped step s b }
 {
-    match step {
-        Ok(head) => Ok(steps::with_head(s, head)),
-        Err(why) => Err(steps::refused(s, why)),
-    }
+    let head = step.map_err(|why| steps::refused(s, why))?;
+    Ok(steps::with_head(s, head))
 }
 
 // A field name: its sid as a VarUInt.
@@ -55,29 +51,23 @@ pub fn open(
 ) -> Result<State, Refused>
     ensures { outcome_of result buf.new ≡ run (opening (sids_of annotations.now) (kind_of kind)) (config s buf.old) }
 {
-    match steps::open(&s, buf, annotations, kind) {
-        Ok(opened) => {
-            let mut next = s;
-            next.containers[opened.head.depth - 1] = opened.container;
-            Ok(steps::with_head(next, opened.head))
-        }
-        Err(why) => Err(steps::refused(s, why)),
-    }
+    let opened = steps::open(&s, buf, annotations, kind).map_err(|why| steps::refused(s, why))?;
+    let mut next = s;
+    next.containers[opened.head.depth - 1] = opened.container;
+    Ok(steps::with_head(next, opened.head))
 }
 
 // A closing: the header, and the wrapper's, in their final form. The container is then a member of the one that it lies in.
 pub fn close(s: State, buf: &mut [u8]) -> Result<Closed, Refused>
     ensures { closed_outcome result buf.new ≡ run closing (config s buf.old) }
 {
-    match steps::close(&s, buf) {
-        Ok(closed) => Ok(Closed {
-            state: steps::with_head(steps::counted(s, closed.head.depth), closed.head),
-            size: closed.size,
-            members: closed.members,
-            moved: closed.moved,
-        }),
-        Err(why) => Err(steps::refused(s, why)),
-    }
+    let closed = steps::close(&s, buf).map_err(|why| steps::refused(s, why))?;
+    Ok(Closed {
+        state: steps::with_head(steps::counted(s, closed.head.depth), closed.head),
+        size: closed.size,
+        members: closed.members,
+        moved: closed.moved,
+    })
 }
 
 // An abandonment: the innermost container's bytes are given back, and a name before it waits again.
