@@ -12,7 +12,7 @@ fn code(word: &[u8]) -> u8 {
     (hex::bits(word) % 256) as u8
 }
 
-// What a closing answers of the container. Any other call answers zeros, and so does one that is refused.
+// What a closing answers of the container, as a line has it. Any other call answers zeros, and so does one that is refused.
 #[derive(Clone, Copy, Default, PartialEq, Eq)]
 struct Figures {
     size: usize,
@@ -20,7 +20,7 @@ struct Figures {
     moved: usize,
 }
 
-// What a call answers, 0 or the refusal's number, and the state behind it.
+// What a call answers, 0 or the refusal's number, and the state behind it: the numbers as a line has them, so that the two are compared and shown alike.
 #[derive(Clone, Copy, PartialEq, Eq)]
 pub(crate) struct Got {
     answer: usize,

@@ -23,7 +23,7 @@ use std::io;
 use words::filled::Filled;
 use writes::Call;
 
-// As many bytes of input are too many. Nothing allocates, so the text and the buffer are arrays.
+// So many bytes of input are too many. Nothing allocates, so the text and the buffer are arrays.
 const MOST_TEXT: usize = 65536;
 
 // What the buffer holds before a list.
@@ -107,6 +107,7 @@ fn step(rt: &impl Print, line: &[u8], state: &mut State, buf: &mut [u8]) -> io::
 fn run_lines(rt: &impl Print, text: &[u8], buf: &mut [u8]) -> io::Result<()> {
     let mut state = State::empty(0);
     for line in text.split_inclusive(|byte| *byte == b'\n') {
+        // As in `vectors`: `words` knows of no `#`.
         let words = line
             .split(|byte| matches!(*byte, b'#' | b'\n'))
             .next()
@@ -124,6 +125,7 @@ fn longest_buffer() -> [u8; 2_200_000]
 }
 
 fn main(rt: HostRuntime) -> io::Result<()> {
+    // Here and not in a function: it could not lend its own array.
     let mut text = [0u8; MOST_TEXT];
     let n = words::input::read_full(&mut rt.stdin(), &mut text)?;
     if n == MOST_TEXT {

@@ -219,6 +219,7 @@ impl<'a> Call<'a> {
             Function::Blob => writer::write_blob(state, buf, annotations, bytes),
             Function::Empty => writer::empty(state, buf),
         };
+        // No closing, of whose container a line would have the figures: zeros, as in `lines`.
         Ok(Closed {
             state: state?,
             size: 0,

@@ -30,7 +30,7 @@ pub fn put_digits(
     }
     let base = u64::from(greatest) + 1;
     let mut rest = value;
-    // By place: a proof knows nothing of the elements that `iter_mut` lends.
+    // By place: a proof knows nothing of what `iter_mut().rev()` lends.
     for i in (0..count).rev() {
         buf[at + i] = (rest % base) as u8;
         rest = rest / base;

@@ -30,6 +30,7 @@ impl Lines {
         requires { length self.old.waiting ≤ 65529 }
         ensures { self.new.waiting ≡ self.old.waiting ++ (hex_text (low_digits 256 size.bytes number) ++ (10 ∷ [])) }
     {
+        // Nothing allocates, so a string is a part of an array, and in `main` the argument is one.
         let mut string = [0u8; 3];
         let string = &mut string[..size.bytes];
         small_values::spell(string, number);

@@ -11,7 +11,7 @@ mod walk;
 use std::io;
 use words::filled::Filled;
 
-// As many bytes of input are too many. Nothing allocates, so what is read and the numbers that the entry points put are arrays.
+// So many bytes of input are too many. Nothing allocates, so what is read and the numbers that the entry points put are arrays.
 const MOST_TEXT: usize = 65536;
 
 const LONGEST_STREAM: usize = 8192;
@@ -44,6 +44,7 @@ fn answer_lines(rt: &impl Print, text: &[u8]) -> io::Result<()> {
 }
 
 fn main(rt: HostRuntime) -> io::Result<()> {
+    // Here and not in a function: it could not lend its own array.
     let mut text = [0u8; MOST_TEXT];
     let n = words::input::read_full(&mut rt.stdin(), &mut text)?;
     if n == MOST_TEXT {

@@ -11,7 +11,7 @@ impl fmt::Display for Refusal {
     }
 }
 
-// What an entry point's number says: 0 is no refusal.
+// What an entry point's number says: 0 is no refusal. `trial` has such a function too, for refusals that are not all numbers.
 pub(crate) fn answered(number: u8) -> Result<(), Refusal> {
     if number == 0 {
         return Ok(());

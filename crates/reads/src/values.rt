@@ -76,7 +76,7 @@ impl fmt::Display for Offset {
     }
 }
 
-// The fields from the year on that the precision has.
+// The fields from the year on that the precision has: an array and its count, since nothing allocates, and six numbers are put at once.
 #[derive(Clone, Copy)]
 struct Fields {
     all: [u64; 6],
@@ -212,6 +212,7 @@ pub(crate) struct Value<'a> {
 impl fmt::Display for Value<'_> {
     fn fmt<W: fmt::Write>(&self, f: &mut fmt::Formatter<W>) -> fmt::Result {
         let body = self.body;
+        // The table of the type codes.
         match (self.kind / 16, self.kind % 16) {
             (NEGATIVE_INT, NULL) => write!(f, "n{INT}"),
             (code, NULL) => write!(f, "n{code}"),

@@ -1,14 +1,15 @@
 // The walk over a stream by the reader's entry points: item by item, containers entered.
-ghost use Rattle.std.specs.Prelude.{◌≡◌, ◌≤◌, length};
+ghost use Rattle.std.specs.Prelude.{◌≤◌, length};
 
 use crate::refusal::{Refusal, answered};
 use crate::values::{NULL, Value};
+use arrayvec::ArrayVec;
 use entry_reading::{gm_read_item, gm_read_rest, gm_read_sid};
 use std::{fmt, io};
 
 const MOST_OPEN: usize = 32;
 
-// The least type byte that is no pad's, that of a marker, and what stands for no item more.
+// Numbers, and no enum, as in `values`: the entry point gives the type byte as it stands. The least that is no pad's, that of a marker, and what stands for no item more.
 const PAST_PADS: u8 = 0x0F;
 
 const MARKER: u8 = 0xE0;
@@ -125,40 +126,37 @@ fn print_item(rt: &impl Print, stream: &[u8], holder: Holder, item: Item) -> io:
 }
 
 // What holds an item, a container or the stream: where it ends, its type byte, `STREAM` for the stream, and the least name that may follow in it.
-#[derive(Clone, Copy)]
+#[derive(Clone, Copy, Default)]
 struct Holder {
     end: usize,
     kind: u8,
     least: u64,
 }
 
-// Where a walk stands: the position, and what holds it, the stream first and then the containers that were entered. The stream is never left, so the
-// depth is an index into the array; of the kit's `ArrayVec` each look at the last would have to show that there is one.
+// Where a walk stands: the position, and what holds it, the stream and the containers that were entered.
 #[derive(Drop)]
 struct Walk {
     position: usize,
-    depth: usize,
-    holders: [Holder; MOST_OPEN + 1],
-    ghost standing: { (depth ≤ 32) × (length holders ≡ 33) },
+    stream: Holder,
+    containers: ArrayVec<Holder, MOST_OPEN>,
 }
 
 impl Walk {
     fn new(end: usize, position: usize) -> Self {
-        let stream = Holder {
-            end,
-            kind: STREAM,
-            least: 0,
-        };
         Walk {
             position,
-            depth: 0,
-            holders: [stream; MOST_OPEN + 1],
+            stream: Holder {
+                end,
+                kind: STREAM,
+                least: 0,
+            },
+            containers: ArrayVec::new(),
         }
     }
 
     // What holds the position.
     fn innermost(&self) -> Holder {
-        self.holders[self.depth]
+        self.containers.last().copied().unwrap_or(self.stream)
     }
 
     // The item at the position, or none where what holds it ends.
@@ -170,7 +168,7 @@ impl Walk {
             holder.end,
             holder.kind,
             holder.least,
-            self.depth as u8,
+            self.containers.len() as u8,
             self.position,
             &mut numbers,
         ))?;
@@ -180,32 +178,32 @@ impl Walk {
 
     // Goes behind the container that was entered last, if there is one.
     fn leave(&mut self) -> bool {
-        if self.depth == 0 {
-            return false;
+        match self.containers.pop() {
+            Some(container) => {
+                self.position = container.end;
+                true
+            }
+            None => false,
         }
-        self.position = self.innermost().end;
-        self.depth -= 1;
-        true
     }
 
     // Goes behind an item. The name of a pad does not count.
     fn pass(&mut self, item: Item) {
         self.position = item.stop;
         if !item.is_pad() {
-            self.holders[self.depth].least = item.name;
+            self.containers.last_mut().unwrap_or(&mut self.stream).least = item.name;
         }
     }
 
     // Goes into a container. The reader refuses one for which there is no room.
     fn enter(&mut self, item: Item) {
-        if self.depth < MOST_OPEN {
+        if !self.containers.is_full() {
             self.position = item.start;
-            self.depth += 1;
-            self.holders[self.depth] = Holder {
+            self.containers.push(Holder {
                 end: item.stop,
                 kind: item.kind,
                 least: 0,
-            };
+            });
         }
     }
 }

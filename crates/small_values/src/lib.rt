@@ -9,7 +9,7 @@ ghost use Rattle.small_values.specs.Listing.{next_value};
 
 const LONGEST: usize = 3;
 
-// How many byte strings of a size are asked: all up to three bytes, and as the definition has it none of more, which is a count.
+// How many byte strings of a size are asked: all up to three bytes, none of more. As in the definition that is a count, 0, and no Option.
 #[tactic(auto, using(crate::proofs::Steps::power_fits), unfolding(crate::specs::Listing::limit))]
 pub fn limit(size: usize) -> u32
     ensures { result ≡ S.limit size }
@@ -25,7 +25,7 @@ pub fn spell(bytes: &mut [u8], number: u32)
     ensures { bytes.new ≡ low_digits 256 (length bytes.old) number }
 {
     let size = bytes.len();
-    digits::put_digits(bytes, 0, size, 255, number as u64);
+    digits::put_digits(bytes, 0, size, 255, u64::from(number));
 }
 
 // Whether a string is one value without pad and mark.
@@ -34,6 +34,7 @@ fn is_value(size: usize, number: u32) -> bool
     requires { size ≤ 3 }
     ensures { result ≡ is_one_value (low_digits 256 size number) }
 {
+    // Nothing allocates, so the bytes are an array.
     let mut bytes = [0u8; LONGEST];
     spell(&mut bytes[..size], number);
     unpadded::is_one_value(&bytes[..size])

@@ -6,8 +6,6 @@ use crate::refused::Refused;
 use crate::walk::Part;
 use words::{count, hex, numbers, word};
 
-const MOST_I32: u64 = 2147483647;
-
 // The types of the Ion document, by their codes. 3 is that of negative ints. `scalars` has such a type, and `timestamp` one of the name below: this program
 // is built on the entry points alone, which take numbers.
 #[derive(Clone, Copy)]
@@ -80,7 +78,7 @@ pub(crate) struct Fraction {
     pub(crate) coefficient: u64,
 }
 
-// A field that is not there is 0.
+// A field that is not there is 0, as the call takes it.
 #[derive(Clone, Copy)]
 pub(crate) struct Timestamp {
     pub(crate) precision: Precision,
@@ -137,7 +135,7 @@ fn field(text: &[u8], words: usize, i: usize) -> Result<u32, Refused> {
     if words <= i {
         return Ok(0);
     }
-    Ok(number(word(text, i), MOST_I32)? as u32)
+    Ok(number(word(text, i), numbers::MOST_I32)? as u32)
 }
 
 fn fraction_of(text: &[u8], words: usize) -> Result<Option<Fraction>, Refused> {
@@ -191,6 +189,7 @@ impl<'a> TryFrom<&'a [u8]> for Scalar<'a> {
     }
 }
 
+// As `word(text, 0)`, which promises what the word is and not that it is no longer than the text: the walk's room needs that.
 pub(crate) fn first_word(text: &[u8]) -> &[u8]
     ensures { length result.now ≤ length text.now }
 {

@@ -105,7 +105,7 @@ fn answer_lines(rt: &impl Print, text: &[u8]) -> Result<usize, Failure>
     Ok(last + 1)
 }
 
-// What is read, of which the first `kept` bytes are behind the last line feed: a line and a byte at most.
+// What is read, an array, since nothing allocates, of which the first `kept` bytes are behind the last line feed: a line and a byte at most.
 #[derive(Drop)]
 struct Input {
     text: [u8; BLOCK],

@@ -17,7 +17,7 @@ const MOST_SIDS: usize = 32768;
 // A line has at most 4,096 hex digits.
 const MOST_SPELLED: usize = 2048;
 
-// What the calls of a line are lent. The state is empty where a line starts, and of the arrays only the part that this line has put is read.
+// What the calls of a line are lent. Nothing allocates, so the state and the buffer are arrays. The state is empty where a line starts, and of the arrays only the part that this line has put is read.
 #[derive(Drop)]
 pub(crate) struct Writer {
     state: [u8; STATE_SIZE],

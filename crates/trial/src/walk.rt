@@ -1,17 +1,20 @@
 // The walk along a line: its brackets, and the parts between them. What is due is kept on a stack, so a line may be as deep as its bytes allow.
 ghost use Rattle.std.specs.Prelude.{◌≡◌, ◌+◌, ◌<◌, ◌≤◌, length, MatchOption, MatchResult, IfOk, IfSome};
+ghost use Rattle.arrayvec.specs.ArrayVec.{array_vec_len};
 ghost use Rattle.trial.specs.Steps.{GoesOn};
 
 use crate::form::first_word;
 use crate::refused::Refused;
+use arrayvec::ArrayVec;
 
 const LONGEST_LINE: usize = 4096;
 
 // How many bytes tell that a line is too long.
 pub(crate) const TOO_LONG: usize = LONGEST_LINE + 1;
 
-#[derive(Clone, Copy)]
+#[derive(Clone, Copy, Default)]
 enum Due {
+    #[default]
     Value,
     // The value of an `ann`, which is no `ann` itself.
     BareValue,
@@ -21,35 +24,6 @@ enum Due {
     Field,
     // The bracket of a field or an `ann`.
     Bracket,
-}
-
-// What is due, the next on top. An array and a depth: the kit's `ArrayVec` proves as well, but it blanks what it drops, and a file of short lines
-// takes 3 in 100 longer.
-#[derive(Drop)]
-struct Stack {
-    items: [Due; TOO_LONG],
-    depth: usize,
-    ghost within: { depth ≤ 4097 },
-}
-
-impl Stack {
-    fn push(&mut self, due: Due)
-        requires { self.old.depth < 4097 }
-        ensures { self.new.depth ≡ self.old.depth + 1 }
-    {
-        self.items[self.depth] = due;
-        self.depth += 1;
-    }
-
-    fn pop(&mut self) -> Option<Due>
-        ensures { MatchOption result (self.new.depth ≡ self.old.depth) (λ _. self.new.depth + 1 ≡ self.old.depth) }
-    {
-        if self.depth == 0 {
-            return None;
-        }
-        self.depth -= 1;
-        Some(self.items[self.depth])
-    }
 }
 
 #[derive(Clone, Copy)]
@@ -92,33 +66,30 @@ impl<'a> Line<'a> {
     }
 }
 
-// What is left of a line, and what is due there: no more than the bytes passed, and one.
+// What is left of a line, and what is due there, the next last: no more than the bytes passed, and one.
 #[derive(Drop)]
 pub(crate) struct Walk<'a> {
     rest: &'a [u8],
-    due: Stack,
-    ghost deep: { due.depth + length rest.now ≤ 4097 },
+    due: ArrayVec<Due, TOO_LONG>,
+    ghost deep: { array_vec_len due + length rest.now ≤ 4097 },
 }
 
 impl<'a> Walk<'a> {
     pub(crate) fn new() -> Walk<'a> {
         Walk {
             rest: &[],
-            due: Stack {
-                items: [Due::Value; TOO_LONG],
-                depth: 0,
-            },
+            due: ArrayVec::new(),
         }
     }
 
     pub(crate) fn start(&mut self, line: Line<'a>) {
-        self.due.depth = 0;
+        self.due.clear();
         self.rest = line.bytes;
         self.due.push(Due::Value);
     }
 
     fn pass(&mut self, byte: u8) -> Result<(), Refused>
-        ensures depth { self.new.due.depth ≡ self.old.due.depth }
+        ensures depth { array_vec_len self.new.due ≡ array_vec_len self.old.due }
         ensures rest { MatchResult result (λ _. length self.new.rest.now + 1 ≡ length self.old.rest.now) (λ _. length self.new.rest.now ≡ length self.old.rest.now) }
     {
         match self.rest {
@@ -143,7 +114,7 @@ impl<'a> Walk<'a> {
     // Passes so many bytes.
     fn skip(&mut self, count: usize)
         requires { count ≤ length self.old.rest.now }
-        ensures depth { self.new.due.depth ≡ self.old.due.depth }
+        ensures depth { array_vec_len self.new.due ≡ array_vec_len self.old.due }
         ensures rest { length self.new.rest.now + count ≡ length self.old.rest.now }
     {
         self.rest = &self.rest[count..];
@@ -159,7 +130,7 @@ impl<'a> Walk<'a> {
 
     // A space before a member of a list or s-expression, or its bracket.
     fn member(&mut self) -> Result<Part<'a>, Refused>
-        requires { self.old.due.depth + length self.old.rest.now ≤ 4096 }
+        requires { array_vec_len self.old.due + length self.old.rest.now ≤ 4096 }
         ensures { GoesOn result self.old.rest.now self.new.rest.now }
     {
         if self.pass(b' ').is_err() {
@@ -203,7 +174,7 @@ impl<'a> Walk<'a> {
     // A container, up to its name, behind which `due` is due.
     fn opening(&mut self, name: &[u8], container: Container, due: Due) -> Part<'a>
         requires name { length name.now ≤ length self.old.rest.now }
-        requires room { self.old.due.depth + length self.old.rest.now ≤ 4096 }
+        requires room { array_vec_len self.old.due + length self.old.rest.now ≤ 4096 }
         ensures { length self.new.rest.now ≤ length self.old.rest.now }
     {
         self.skip(name.len());

@@ -39,7 +39,7 @@ pub fn fill(buf: &mut [u8], at: usize, value: u64, limit: usize) -> Option<usize
     let count = size.min(limit);
     let mut flag = END_FLAG;
     let mut rest = value;
-    // By place: a proof knows nothing of the elements that `iter_mut` lends.
+    // By place: a proof knows nothing of what `iter_mut().rev()` lends.
     for i in (size - count..size).rev() {
         buf[at + i] = flag + (rest % 128) as u8;
         flag = 0;

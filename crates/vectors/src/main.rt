@@ -15,7 +15,7 @@ use words::filled::Filled;
 
 const ROOM: usize = 512;
 
-// As many bytes of input are too many. Nothing allocates, so the text and the buffers are arrays.
+// So many bytes of input are too many. Nothing allocates, so the text and the buffers are arrays.
 const MOST_TEXT: usize = 65536;
 
 // What a buffer holds before a call.
@@ -104,7 +104,7 @@ fn answer(rt: &impl Print, line: &[u8]) -> io::Result<bool> {
     }
 }
 
-// A line's words, which stand before its `#`.
+// A line's words, which stand before its `#`. `calls` has these lines too: `words` knows of no `#`.
 fn words_of(line: &[u8]) -> &[u8] {
     line.split(|byte| matches!(*byte, b'#' | b'\n'))
         .next()
@@ -132,6 +132,7 @@ fn count_lines(rt: &HostRuntime, text: &[u8]) -> io::Result<Counts> {
 }
 
 fn main(rt: HostRuntime) -> io::Result<()> {
+    // Here and not in a function: it could not lend its own array.
     let mut text = [0u8; MOST_TEXT];
     let n = words::input::read_full(&mut rt.stdin(), &mut text)?;
     if n == MOST_TEXT {

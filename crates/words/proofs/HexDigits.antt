@@ -1,7 +1,7 @@
 -- The laws of hex, by which readings and writings digit by digit are proved: each turn takes one digit, or one byte, from the rest.
 -- Assumes nothing.
 use mathlib.Core.Path.{◌≡◌, refl, sym, ◌∙◌, ap}
-use mathlib.Core.List.{List, [], ◌∷◌, ◌++◌, map, append_assoc}
+use mathlib.Core.List.{List, [], ◌∷◌, ◌++◌, map, append_assoc, append-nil}
 use mathlib.Core.Bool.{Bool, true, false, ◌&&◌, and-eq-true_iff}
 use Prim.Native.Nat.{ℕ, zero, suc, ◌+◌, ◌-◌, ◌*◌, ◌/◌, ◌%◌, ◌^◌, ◌≤◌, ◌<◌}
 use native.Mathlib.Omega.{arith}
@@ -109,6 +109,12 @@ length-bytes s = omega (arith, length_pairs (padded (length s % 2) s), length-pa
 store_next : (d s : List ℕ) (i : ℕ) → i < length d → i < length s → set (paste d 0 s i) i (get_or s i 0) ≡ paste d 0 s (i + 1)
 store_next d s i h k =
     ap (λ n. set (paste d 0 s i) n (get_or s i 0)) (sym (zero-add i)) ∙ (paste-suc d 0 s i 0 (rw zero-add h) k ∙ ap (paste d 0 s) (sym (add-one i)))
+
+-- the start of a buffer that is filled, with what follows it
+pub filled_front : (d s l : List ℕ) (n : ℕ) → n ≤ length d → l ≡ paste (take n d) 0 s n → l ++ drop n d ≡ paste d 0 s n
+filled_front d s l n h e =
+    let none : drop (0 + n) (take n d) ≡ [] = drop_of_length-le (take n d) (omega (arith, length-take-le n d h)) in
+    ap (λ x. x ++ drop n d) (e ∙ (ap (λ x. take n s ++ x) none ∙ append-nil (take n s))) ∙ ap (λ k. take n s ++ drop k d) (sym (zero-add n))
 
 -- and that byte is made of two digits
 pub bytes_next : (d s out : List ℕ) (i high low : ℕ) → out ≡ paste d 0 (hex_bytes s) i → i < length d → i < length s / 2 + length s % 2 →

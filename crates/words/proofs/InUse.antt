@@ -9,7 +9,7 @@ use borrow.Author.Tests.{le-leb, lt-leb}
 use borrow.Rule.Slice.PartMut.{put_mid}
 use lib.ListN.{length, take}
 use lib.Seq.{length-take-le, take-append-add}
-use Rattle.std.specs.Prelude.{Option, unwrap_or, min, leb}
+use Rattle.std.specs.Prelude.{Option, unwrap_or, min}
 use Rattle.std.proofs.lemmas.List.{take_min}
 use Rattle.std.proofs.lemmas.Slice.{take-put_mid}
 use Rattle.buffer.specs.Laid.{placed}

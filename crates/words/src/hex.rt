@@ -68,9 +68,8 @@ pub fn bytes(word: &[u8], out: &mut [u8]) -> usize
     let digits = numbers::magnitude(word);
     let zeros = digits.len() % 2;
     let count = (digits.len() / 2 + zeros).min(out.len());
-    // By index: a proof knows nothing of the bytes that an iterator lends to be written.
-    for i in 0..count {
-        out[i] = digit_behind(digits, zeros, 2 * i) * 16 + digit_behind(digits, zeros, 2 * i + 1);
+    for (i, byte) in out[..count].iter_mut().enumerate() {
+        *byte = digit_behind(digits, zeros, 2 * i) * 16 + digit_behind(digits, zeros, 2 * i + 1);
     }
     count
 }
@@ -95,7 +94,7 @@ pub fn put(out: &mut [u8], at: usize, bytes: &[u8]) -> Option<usize>
     if !buffer::has_room(out.len(), at, 2 * bytes.len()) {
         return None;
     }
-    // By index, as in `bytes`.
+    // By index: a proof knows nothing of what `chunks_exact_mut` lends.
     for (i, byte) in bytes.iter().enumerate() {
         out[at + 2 * i] = glyph(*byte / 16);
         out[at + 2 * i + 1] = glyph(*byte);

@@ -4,10 +4,10 @@ ghost use Rattle.words.specs.Numbers.{digit_behind, natural, signed, has_minus, 
 
 const MINUS: u8 = b'-';
 
-// The largest numbers of signed 64 bits, signed 32 bits and unsigned 32 bits. A minus allows one more of the signed.
+// The largest numbers of signed 64 bits, signed 32 bits and unsigned 32 bits, spelled out, since each is a u64 here. A minus allows one more of the signed.
 const MOST_I64: u64 = 9223372036854775807;
 
-const MOST_I32: u64 = 2147483647;
+pub const MOST_I32: u64 = 2147483647;
 
 const MOST_U32: u64 = 4294967295;
 
@@ -76,6 +76,7 @@ fn negated(magnitude: u64) -> i64
     if magnitude == 0 {
         return 0;
     }
+    // By hand: 2 ^ 63 is no i64, so there is no `From`, and `try_from` would refuse it.
     -1 - (magnitude - 1) as i64
 }
 

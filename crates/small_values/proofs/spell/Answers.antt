@@ -9,4 +9,5 @@ use Rattle.small_values.proofs.spell.Goals as goal
 pub returns : goal.returns
 returns c = let a = c.args in
     filled a.bytes.now (low_digits 256 (length a.bytes.now) a.number) c.put_digits.result c.put_digits.new.buf
-    (length-low_digits 256 (length a.bytes.now) a.number) c.put_digits.ensures
+    (length-low_digits 256 (length a.bytes.now) a.number)
+    (rw (← c.from.ensures) c.put_digits.ensures)
