@@ -91,7 +91,7 @@ pub fn small_from(b: &[u8], at: usize, acc: u64) -> Option<u64>
 
 // ---- bodies
 
-// "3: int", whose magnitude may not be zero.
+// Whether all bytes are zero, which the magnitude of a negative int may not be ("3: int").
 pub fn is_zero(body: &[u8]) -> bool
     ensures { result ≡ eqb (uint body.now) 0 }
 {
@@ -111,6 +111,7 @@ pub fn decimal(body: &[u8]) -> Result<Decimal, Refusal>
         });
     }
     let exponent = var_int(body, 0)?;
+    // No `From`: this is the one use.
     Ok(Decimal {
         negative: exponent.negative,
         exponent: exponent.magnitude,

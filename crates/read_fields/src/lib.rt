@@ -18,6 +18,7 @@ pub fn var_uint_from(s: &[u8], at: usize, acc: u64, out: Refusal) -> Result<Numb
     ensures { result ≡ var_uint_from out acc at (drop at s.now) }
 {
     let mut value = acc;
+    // By place, which is what is answered.
     for i in at..s.len() {
         let b = s[i];
         if MAX_BEFORE_GROUP < value {
@@ -36,6 +37,7 @@ pub fn var_uint_from(s: &[u8], at: usize, acc: u64, out: Refusal) -> Result<Numb
 pub fn var_uint(s: &[u8], at: usize, out: Refusal) -> Result<Number, Refusal>
     ensures { result ≡ var_uint_at out s.now at }
 {
+    // Not `ok_or(out)?`: the byte is taken out of its place in the same line.
     let Some(&b) = s.get(at) else {
         return Err(out);
     };

@@ -104,7 +104,7 @@ fn any_header_at(s: &[u8], at: usize, out: Refusal) -> Result<Header, Refusal>
     })
 }
 
-// The least length of a type's bodies that the low four bits of its type byte may say; no length for types whose low bits say other things too.
+// The least length of a type's bodies that the low four bits of its type byte may say; `LONG`, above every length, for types whose low bits say other things too, so that `is_usual` asks once.
 fn least_length(t: u8) -> u8
     ensures { result ≡ least_length t }
 {
