@@ -61,10 +61,7 @@ fn with_sign(negative: bool, number: Number) -> Result<VarInt, Refusal>
 pub fn var_int(b: &[u8], at: usize) -> Result<VarInt, Refusal>
     ensures { result ≡ var_int_at b.now at }
 {
-    let Some(&first) = b.get(at) else {
-        return Err(Refusal::NotIon);
-    };
-    let first = u64::from(first);
+    let first = u64::from(*b.get(at).ok_or(Refusal::NotIon)?);
     let negative = first / 64 % 2 == 1;
     if 0x7F < first {
         return Ok(VarInt {

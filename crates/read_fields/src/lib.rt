@@ -37,10 +37,7 @@ pub fn var_uint_from(s: &[u8], at: usize, acc: u64, out: Refusal) -> Result<Numb
 pub fn var_uint(s: &[u8], at: usize, out: Refusal) -> Result<Number, Refusal>
     ensures { result ≡ var_uint_at out s.now at }
 {
-    // Not `ok_or(out)?`: the byte is taken out of its place in the same line.
-    let Some(&b) = s.get(at) else {
-        return Err(out);
-    };
+    let b = *s.get(at).ok_or(out)?;
     if END_FLAG <= b {
         return Ok(Number {
             value: u64::from(b % 128),
