@@ -61,10 +61,7 @@ fn with_sign(negative: bool, number: Number) -> Result<VarInt, Refusal>
 pub fn var_int(b: &[u8], at: usize) -> Result<VarInt, Refusal>
     ensures { result ≡ var_int_at b.now at }
 {
-    let Some(&first) = b.get(at) else {
-        return Err(Refusal::NotIon);
-    };
-    let first = u64::from(first);
+    let first = u64::from(*b.get(at).ok_or(Refusal::NotIon)?);
     let negative = first / 64 % 2 == 1;
     if 0x7F < first {
         return Ok(VarInt {
@@ -91,7 +88,7 @@ pub fn small_from(b: &[u8], at: usize, acc: u64) -> Option<u64>
 
 // ---- bodies
 
-// "3: int", whose magnitude may not be zero.
+// Whether all bytes are zero, which the magnitude of a negative int may not be ("3: int").
 pub fn is_zero(body: &[u8]) -> bool
     ensures { result ≡ eqb (uint body.now) 0 }
 {
@@ -111,6 +108,7 @@ pub fn decimal(body: &[u8]) -> Result<Decimal, Refusal>
         });
     }
     let exponent = var_int(body, 0)?;
+    // No `From`: this is the one use.
     Ok(Decimal {
         negative: exponent.negative,
         exponent: exponent.magnitude,

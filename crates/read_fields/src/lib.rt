@@ -18,6 +18,7 @@ pub fn var_uint_from(s: &[u8], at: usize, acc: u64, out: Refusal) -> Result<Numb
     ensures { result ≡ var_uint_from out acc at (drop at s.now) }
 {
     let mut value = acc;
+    // By place, which is what is answered.
     for i in at..s.len() {
         let b = s[i];
         if MAX_BEFORE_GROUP < value {
@@ -36,9 +37,7 @@ pub fn var_uint_from(s: &[u8], at: usize, acc: u64, out: Refusal) -> Result<Numb
 pub fn var_uint(s: &[u8], at: usize, out: Refusal) -> Result<Number, Refusal>
     ensures { result ≡ var_uint_at out s.now at }
 {
-    let Some(&b) = s.get(at) else {
-        return Err(out);
-    };
+    let b = *s.get(at).ok_or(out)?;
     if END_FLAG <= b {
         return Ok(Number {
             value: u64::from(b % 128),

@@ -74,9 +74,7 @@ fn length_at(s: &[u8], b: u8, at: usize, out: Refusal) -> Result<Number, Refusal
 fn any_header_at(s: &[u8], at: usize, out: Refusal) -> Result<Header, Refusal>
     ensures { result ≡ header_at out s.now at }
 {
-    let Some(&b) = s.get(at) else {
-        return Err(out);
-    };
+    let b = *s.get(at).ok_or(out)?;
     if is_impossible(b) {
         return Err(Refusal::NotIon);
     }
@@ -104,7 +102,7 @@ fn any_header_at(s: &[u8], at: usize, out: Refusal) -> Result<Header, Refusal>
     })
 }
 
-// The least length of a type's bodies that the low four bits of its type byte may say; no length for types whose low bits say other things too.
+// The least length of a type's bodies that the low four bits of its type byte may say; `LONG`, above every length, for types whose low bits say other things too, so that `is_usual` asks once.
 fn least_length(t: u8) -> u8
     ensures { result ≡ least_length t }
 {
@@ -129,9 +127,7 @@ fn is_usual(b: u8) -> bool
 pub fn header_at(s: &[u8], at: usize, out: Refusal) -> Result<Header, Refusal>
     ensures { result ≡ header_at out s.now at }
 {
-    let Some(&b) = s.get(at) else {
-        return Err(out);
-    };
+    let b = *s.get(at).ok_or(out)?;
     if !is_usual(b) {
         return any_header_at(s, at, out);
     }
@@ -171,9 +167,7 @@ fn marker_at(s: &[u8], at: usize) -> Result<Header, Refusal>
 pub fn top_header_at(s: &[u8], at: usize) -> Result<Header, Refusal>
     ensures { result ≡ top_header_at s.now at }
 {
-    let Some(&b) = s.get(at) else {
-        return Err(Refusal::CutShort);
-    };
+    let b = *s.get(at).ok_or(Refusal::CutShort)?;
     if b == MARKER {
         return marker_at(s, at);
     }

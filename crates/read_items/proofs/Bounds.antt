@@ -202,3 +202,10 @@ module _ (s : List ℕ) (parent least depth at : ℕ) (i : Item) where
       by_place true y q e = cc
       by_place false true q e = cc
       by_place false false q e = named_bounds (name_at s parent at) (λ n p. name_bounds s parent at n (ltb-false (length s) at q) p) e
+
+-- the item that a caller takes out of what it was answered
+pub found_here : (s : List ℕ) (parent least depth at : ℕ) {i : Item} {r : Found} {o : Option Item} → r ≡ item_at s parent least depth at → r ≡ Ok o → o ≡ Some i
+    → (item_at s parent least depth at ≡ Ok (Some i)) × Placed s depth at i
+found_here s parent least depth at {i} answer ok some =
+    let is = sym answer ∙ ok ∙ ap Ok some in
+    (is, item_bounds s parent least depth at i is)

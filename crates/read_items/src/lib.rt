@@ -232,7 +232,7 @@ fn judge(holder: Holder, name: Option<u64>, kind: u8, body: &[u8]) -> Result<(),
 }
 
 // The item at `at`, in what holds it, whose end the bytes reach to. It is not inlined: a walk that enters containers would take its frame for each.
-// Its parts are put together here: a struct that is handed on is copied with its padding, by which whole reading takes 333 ns a record for 249.
+// Its parts are put together here: a struct that is handed on is copied with its padding, with which whole reading takes 333 ns a record for 249.
 #[inline(never)]
 #[tactic(auto, using(crate::proofs::Bounds::body_bounds, crate::proofs::Parts::part_slice), unfolding(reading::specs::Items::item_at))]
 pub fn item(s: &[u8], holder: Holder, at: usize) -> Result<Option<Item>, Refusal>

@@ -31,6 +31,7 @@ pub fn reads(kind: u8, body: &[u8]) -> bool
     if kind % 16 == NULL {
         return kind / 16 < ANNOTATIONS;
     }
+    // The table of the type codes.
     match kind / 16 {
         BOOL => kind % 16 < 2,
         POSITIVE_INT => true,

@@ -60,12 +60,10 @@ fn body(s: &[u8], holder: Holder, at: usize) -> Result<(), Stopped>
 pub fn read(s: &[u8], end: usize, holder: Holder, at: usize) -> Result<(), Stopped>
     ensures { result ≡ (walk_in s.now end holder.kind holder.least holder.depth at).1 }
 {
-    let Some(part) = s.get(..end) else {
-        return Err(Stopped {
-            refusal: Refusal::PastTheEnd,
-            place: at,
-        });
-    };
+    let part = s.get(..end).ok_or(Stopped {
+        refusal: Refusal::PastTheEnd,
+        place: at,
+    })?;
     body(part, holder, at)
 }
 
@@ -74,8 +72,6 @@ pub fn read(s: &[u8], end: usize, holder: Holder, at: usize) -> Result<(), Stopp
 pub fn next(s: &[u8], end: usize, holder: Holder, at: usize) -> Result<Option<Item>, Refusal>
     ensures { result ≡ next_in s.now end holder.kind holder.least holder.depth at }
 {
-    let Some(part) = s.get(..end) else {
-        return Err(Refusal::PastTheEnd);
-    };
+    let part = s.get(..end).ok_or(Refusal::PastTheEnd)?;
     read_items::item(part, holder, at)
 }

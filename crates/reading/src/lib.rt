@@ -1,4 +1,4 @@
-// What a reader answers, by value. What it answers when is defined in specs/; a refusal's number is the one thing that is computed here.
+// What a reader answers, by value, and what holds an item. What it answers when is defined in specs/; here only a refusal's number and the holder inside a container are computed.
 #![tactic(auto)]
 
 ghost use Rattle.std.specs.Prelude.{◌≡◌, ◌+◌, ◌%◌};
@@ -127,7 +127,7 @@ pub struct Offset {
     pub minutes: u64,
 }
 
-// How many UTC fields a timestamp has, from the year down, and the fields, 0 where there is none.
+// How many UTC fields a timestamp has, from the year down, and the fields, 0 where there is none, as C is given it.
 // The count is a number, and no enum of precisions: one to six fields stand in a body, four of them too, an hour without minute, before they are refused.
 #[derive(Clone, Copy, Debug, PartialEq, Eq)]
 pub struct Fields {

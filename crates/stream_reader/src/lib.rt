@@ -1,4 +1,4 @@
-// A reader holds the stream that is lent to it and a position in it. The work is done by functions over a plain slice and a number.
+// A reader holds the stream that is lent to it and a position in it. The work is done by functions over a plain slice and a number, as document 01 has it.
 #![tactic(auto)]
 
 ghost use Rattle.std.specs.Prelude.{◌≡◌};

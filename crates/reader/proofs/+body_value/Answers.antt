@@ -5,7 +5,7 @@ use Rattle.reading.specs.Items.{raised}
 use Rattle.reading.specs.Walk.{Ending}
 use borrow.Author.Tests.{le-ltb, eq-eqb}
 use Rattle.reading.specs.Items.{item_at}
-use Rattle.read_items.proofs.Bounds.{item_bounds, one_more}
+use Rattle.read_items.proofs.Bounds.{found_here, one_more}
 use Rattle.reader.specs.Values.{past}
 use Rattle.reader.proofs.Walks.{walk_behind, value_stops, value_none, value_int, value_leaf, value_container, value_goes_on}
 use Rattle.reader.proofs.+body_value.Goals as goal
@@ -76,48 +76,45 @@ any_value-returns-in-Err t c = λ f h.
 pub any_value-slice_bounds-body-end : goal.any_value-slice_bounds-body-end
 any_value-slice_bounds-body-end t c =
     let a = c.args in
-    let is = sym c.item.ensures ∙ c.in-Ok-Some.is ∙ ap Ok c.in-Ok-Some.field-0-is in
-    let p = item_bounds a.s.now a.holder.kind a.holder.least a.holder.depth a.at c.in-Ok-Some.item is in
-    sym (length-take-le c.in-Ok-Some.item.held.header.stop a.s.now p.held.within)
+    let q = found_here a.s.now a.holder.kind a.holder.least a.holder.depth a.at c.item.ensures c.in-Ok-Some.is c.in-Ok-Some.field-0-is in
+    sym (length-take-le c.in-Ok-Some.item.held.header.stop a.s.now q.1.held.within)
 
 pub any_value-body-requires : goal.any_value-body-requires
 any_value-body-requires t c =
     let a = c.args in
-    let is = sym c.item.ensures ∙ c.in-Ok-Some.is ∙ ap Ok c.in-Ok-Some.field-0-is in
-    let w = (item_bounds a.s.now a.holder.kind a.holder.least a.holder.depth a.at c.in-Ok-Some.item is).held in
+    let q = found_here a.s.now a.holder.kind a.holder.least a.holder.depth a.at c.item.ensures c.in-Ok-Some.is c.in-Ok-Some.field-0-is in
+    let w = q.1.held in
     let prefix = length-take-le c.in-Ok-Some.item.held.header.stop a.s.now w.within in
     (omega (arith, prefix, w.after, w.behind, w.before, w.body, w.within), tt)
 
 pub any_value-returns-in_err-body : goal.any_value-returns-in_err-body
 any_value-returns-in_err-body t c = λ f h.
     let a = c.args in
-    let is = sym c.item.ensures ∙ c.in-Ok-Some.is ∙ ap Ok c.in-Ok-Some.field-0-is in
-    let p = item_bounds a.s.now a.holder.kind a.holder.least a.holder.depth a.at c.in-Ok-Some.item is in
-    let w = p.held in
+    let q = found_here a.s.now a.holder.kind a.holder.least a.holder.depth a.at c.item.ensures c.in-Ok-Some.is c.in-Ok-Some.field-0-is in
+    let w = q.1.held in
     let prefix = length-take-le c.in-Ok-Some.item.held.header.stop a.s.now w.within in
-    let deeper = one_more _ c.inside.ensures.1.1 (p.room (sym c.is_container.ensures ∙ c.if-is_container.true)) in
+    let deeper = one_more _ c.inside.ensures.1.1 (q.1.room (sym c.is_container.ensures ∙ c.if-is_container.true)) in
     let stopped : c.from_residual.result ≡ Err c.in_err-body.field-0.0 = search rules in
     stopped
     ∙ ap (λ (e : Ending). past e (record { next = c.in-Ok-Some.item.held.header.stop; least = raised a.holder.least c.in-Ok-Some.item.held.header.kind c.in-Ok-Some.item.name }))
     (rw (c.inside.ensures.0, c.inside.ensures.1.0, deeper) at
     (c.in_err-body.ensures f (omega (arith, prefix, w.after, w.behind, w.before, w.body, w.within))))
-    ∙ sym (value_container f a.s.now a.holder.kind a.holder.least a.holder.depth a.at c.in-Ok-Some.item is (sym c.is_container.ensures ∙ c.if-is_container.true))
+    ∙ sym (value_container f a.s.now a.holder.kind a.holder.least a.holder.depth a.at c.in-Ok-Some.item q.0 (sym c.is_container.ensures ∙ c.if-is_container.true))
 
 pub any_value-returns : goal.any_value-returns
 any_value-returns t c = λ f h.
     let a = c.args in
     let i = c.in-Ok-Some.item in
-    let is = sym c.item.ensures ∙ c.in-Ok-Some.is ∙ ap Ok c.in-Ok-Some.field-0-is in
-    let p = item_bounds a.s.now a.holder.kind a.holder.least a.holder.depth a.at i is in
-    let w = p.held in
+    let q = found_here a.s.now a.holder.kind a.holder.least a.holder.depth a.at c.item.ensures c.in-Ok-Some.is c.in-Ok-Some.field-0-is in
+    let w = q.1.held in
     let prefix = length-take-le i.held.header.stop a.s.now w.within in
     ap (λ (l : ℕ). Ok (Some (record { next = i.held.header.stop; least = l }))) c.least_after.ensures
     ∙ (elim c.if-is_container.branch [
       | any_value-then-is_container+in_ok-body b ↦
           ap (λ (e : Ending). past e (record { next = i.held.header.stop; least = raised a.holder.least i.held.header.kind i.name }))
-          (rw (b.inside.ensures.0, b.inside.ensures.1.0, one_more _ b.inside.ensures.1.1 (p.room (sym c.is_container.ensures ∙ b.if-is_container.true))) at
+          (rw (b.inside.ensures.0, b.inside.ensures.1.0, one_more _ b.inside.ensures.1.1 (q.1.room (sym c.is_container.ensures ∙ b.if-is_container.true))) at
           (b.in_ok-body.ensures f (omega (arith, prefix, w.after, w.behind, w.before, w.body, w.within))))
-          ∙ sym (value_container f a.s.now a.holder.kind a.holder.least a.holder.depth a.at i is (sym c.is_container.ensures ∙ b.if-is_container.true))
+          ∙ sym (value_container f a.s.now a.holder.kind a.holder.least a.holder.depth a.at i q.0 (sym c.is_container.ensures ∙ b.if-is_container.true))
       | any_value-else-is_container b ↦
-          sym (value_leaf f a.s.now a.holder.kind a.holder.least a.holder.depth a.at i is (sym c.is_container.ensures ∙ b.if-is_container.false))
+          sym (value_leaf f a.s.now a.holder.kind a.holder.least a.holder.depth a.at i q.0 (sym c.is_container.ensures ∙ b.if-is_container.false))
     ])

@@ -4,7 +4,7 @@ use Rattle.std.specs.Prelude.{not, Ok, Err, None}
 use Rattle.std.proofs.Math.Seq.{length-take-le}
 use Rattle.reading.specs.Scalars.{scalar_in}
 use Rattle.reading.specs.Bodies.{mark_in}
-use Rattle.read_items.proofs.Bounds.{item_bounds, one_more}
+use Rattle.read_items.proofs.Bounds.{found_here, one_more}
 use Rattle.read_items.proofs.Parts.{part_slice}
 use Rattle.unpadded.proofs.Steps.{no_item, at_pad, wrong_content, goes_past, content_inside, content_leaf}
 use Rattle.unpadded.proofs.+are_unpadded_is_content.Goals as goal
@@ -18,24 +18,22 @@ are_unpadded-loop-item-init t c = (omega arith, omega arith, λ r k. k)
 pub are_unpadded-is_content-requires : goal.are_unpadded-is_content-requires
 are_unpadded-is_content-requires t c =
     let a = c.args in
-    let is = sym c.item.ensures ∙ c.in-Ok-Some.is ∙ ap Ok c.in-Ok-Some.field-0-is in
-    let p = item_bounds a.s.now a.holder.kind c.loop-item.least a.holder.depth c.loop-item.i _ is in
-    let w = p.held in
-    (omega (arith, w.after, w.behind, w.before, w.body, w.within), (w.body, (w.within, p.room)))
+    let q = found_here a.s.now a.holder.kind c.loop-item.least a.holder.depth c.loop-item.i c.item.ensures c.in-Ok-Some.is c.in-Ok-Some.field-0-is in
+    let w = q.1.held in
+    (omega (arith, w.after, w.behind, w.before, w.body, w.within), (w.body, (w.within, q.1.room)))
 
 pub are_unpadded-returns-then-is_pad : goal.are_unpadded-returns-then-is_pad
 are_unpadded-returns-then-is_pad t c =
     let a = c.args in
-    let is = sym c.item.ensures ∙ c.in-Ok-Some.is ∙ ap Ok c.in-Ok-Some.field-0-is in
-    let p = item_bounds a.s.now a.holder.kind c.loop-item.least a.holder.depth c.loop-item.i _ is in
-    let w = p.held in
+    let q = found_here a.s.now a.holder.kind c.loop-item.least a.holder.depth c.loop-item.i c.item.ensures c.in-Ok-Some.is c.in-Ok-Some.field-0-is in
+    let w = q.1.held in
     let inside : c.loop-item.i < length a.s.now = omega (arith, w.after, w.behind, w.before, w.body, w.within) in
     elim c.then-is_pad.branch [
       | are_unpadded-then-is_pad-via-then-is_pad b ↦ c.loop-item.invariant.2 false (λ g h.
-          at_pad g (omega arith) a.s.now a.holder.kind c.loop-item.least a.holder.depth c.loop-item.i inside _ is
+          at_pad g (omega arith) a.s.now a.holder.kind c.loop-item.least a.holder.depth c.loop-item.i inside _ q.0
           (sym c.is_pad.ensures ∙ b.if-is_pad.true))
       | are_unpadded-then-is_pad-via-else-is_pad+then-not-is_content b ↦ c.loop-item.invariant.2 false (λ g h.
-          wrong_content g (omega arith) a.s.now a.holder.kind c.loop-item.least a.holder.depth c.loop-item.i inside _ is
+          wrong_content g (omega arith) a.s.now a.holder.kind c.loop-item.least a.holder.depth c.loop-item.i inside _ q.0
           (sym c.is_pad.ensures ∙ b.if-is_pad.false)
           (sym b.if-not-is_content.true ∙ b.is_content.ensures (g - 1) (omega (arith, w.after, w.behind, w.before, w.body, w.within))))
     ]
@@ -43,23 +41,23 @@ are_unpadded-returns-then-is_pad t c =
 pub are_unpadded-loop-item-smaller : goal.are_unpadded-loop-item-smaller
 are_unpadded-loop-item-smaller t c =
     let a = c.args in
-    let is = sym c.item.ensures ∙ c.in-Ok-Some.is ∙ ap Ok c.in-Ok-Some.field-0-is in
-    let w = (item_bounds a.s.now a.holder.kind c.loop-item.least a.holder.depth c.loop-item.i _ is).held in
+    let q = found_here a.s.now a.holder.kind c.loop-item.least a.holder.depth c.loop-item.i c.item.ensures c.in-Ok-Some.is c.in-Ok-Some.field-0-is in
+    let w = q.1.held in
     omega (arith, w.after, w.behind, w.before, w.body, w.within)
 
 pub are_unpadded-loop-item-preserved : goal.are_unpadded-loop-item-preserved
 are_unpadded-loop-item-preserved t c =
     let a = c.args in
-    let is = sym c.item.ensures ∙ c.in-Ok-Some.is ∙ ap Ok c.in-Ok-Some.field-0-is in
-    let w = (item_bounds a.s.now a.holder.kind c.loop-item.least a.holder.depth c.loop-item.i _ is).held in
+    let q = found_here a.s.now a.holder.kind c.loop-item.least a.holder.depth c.loop-item.i c.item.ensures c.in-Ok-Some.is c.in-Ok-Some.field-0-is in
+    let w = q.1.held in
     let inside : c.loop-item.i < length a.s.now = omega (arith, w.after, w.behind, w.before, w.body, w.within) in (
       omega (arith, w.after, w.behind, w.before, w.body),
       w.within,
-      λ r q. c.loop-item.invariant.2 r (λ g h.
-          goes_past g (omega arith) a.s.now a.holder.kind c.loop-item.least a.holder.depth c.loop-item.i inside _ is
+      λ r k. c.loop-item.invariant.2 r (λ g h.
+          goes_past g (omega arith) a.s.now a.holder.kind c.loop-item.least a.holder.depth c.loop-item.i inside _ q.0
           (sym c.is_pad.ensures ∙ c.if-is_pad.false) r
           (sym c.if-not-is_content.false ∙ c.is_content.ensures (g - 1) (omega (arith, w.after, w.behind, w.before, w.body, w.within)))
-          (rw c.unwrap_or-least.ensures at (q (g - 1) (omega (arith, w.after, w.behind, w.before, w.body, w.within))))),
+          (rw c.unwrap_or-least.ensures at (k (g - 1) (omega (arith, w.after, w.behind, w.before, w.body, w.within))))),
     )
 
 pub are_unpadded-returns : goal.are_unpadded-returns
