@@ -11,7 +11,7 @@ use Rattle.reading.specs.declared.Refusal.{Refusal}
 use Rattle.reading.specs.declared.Refusal.TheVariants.{NotIon}
 use Rattle.reading.specs.declared.Number.{Number}
 use Rattle.std.specs.Prelude.{Result, Ok, Err}
-use Rattle.reading.specs.Headers.{var_uint_at, impossible, alone, measured, never, framed, framed_by, headed, header_at}
+use Rattle.reading.specs.Headers.{impossible, alone, measured, never, framed, framed_by, headed, header_at}
 use Rattle.read_fields.proofs.VarUInts.{var_uint_bounds}
 use Rattle.ion.proofs.Tests.{by_cases}
 use Rattle.read_header.specs.Lengths.{length_at}

@@ -26,6 +26,7 @@ fn value(s: &[u8], holder: Holder, at: usize) -> Result<Option<Passed>, Stopped>
 fn any_value(s: &[u8], holder: Holder, at: usize) -> Result<Option<Passed>, Stopped>
     ensures { (f : ℕ) → length s.now - at ≤ f → result ≡ value_at f s.now holder.kind holder.least holder.depth at }
 {
+    // A match, so that the three ends stand together.
     let item = match read_items::item(s, holder, at) {
         Ok(Some(item)) => item,
         Ok(None) => return Ok(None),
