@@ -28,8 +28,10 @@ fn move_bytes(buf: &mut [u8], from: usize, to: usize, count: usize) -> usize
         × (buf.new ≡ laid buf.old to (take count (drop from buf.old))) }
 {
     if from != to {
-        buf.copy_within(from..from + count, to);
-        return count;
+        let part = from..from + count;
+        let moved = part.len();
+        buf.copy_within(part, to);
+        return moved;
     }
     0
 }

@@ -9,7 +9,7 @@ ghost use Rattle.state_bytes.specs.StateBytes.{entered};
 ghost use Rattle.entry_steps.specs.Entries.{entered_as};
 ghost use Rattle.entry_numbers.specs.EntryCall.{gm_write_int, gm_write_decimal, gm_write_string, gm_write_clob, gm_write_blob, call_of};
 
-use values::{Decimal, Int, Lob, Text};
+use values::{Decimal, Int, Lob};
 
 // An int of any size: its sign, and its magnitude from the highest byte on.
 pub fn gm_write_int(
@@ -56,7 +56,7 @@ pub fn gm_write_string(state: &mut [u8], buf: &mut [u8], annotations: &[u8], byt
     ensures { entered_as result state.new buf.new
         ≡ entered (call_of (gm_write_string annotations.now bytes.now)) state.old buf.old }
 {
-    entry_numbers::answered(entry_steps::write(state, buf, annotations, Text::new(bytes)))
+    entry_numbers::answered(entry_steps::write_string(state, buf, annotations, bytes))
 }
 
 // A clob.

@@ -6,16 +6,17 @@ use borrow.Author.Tests.{eqb-false}
 use Rattle.ion.proofs.Tests.{by_cases}
 use Rattle.machine.specs.declared.State.{State}
 use Rattle.machine.specs.declared.Refusal.{Refusal}
-use Rattle.machine.specs.Call.{Call, ContainerType, opening, closing}
+use Rattle.encoding.specs.Argument.{Argument}
+use Rattle.machine.specs.Call.{Call, ContainerType, write, opening, closing}
 use Rattle.machine.specs.Machine.{most_open, no_container, config, Outcome, run}
 use Rattle.machine.specs.Numbers.{number}
 use Rattle.steps.specs.declared.Head.{Head}
 use Rattle.steps.specs.declared.Opened.{Opened}
 use Rattle.steps.specs.declared.Closed.{Closed}
-use Rattle.steps.specs.Heads.{stepped, opened, closed}
+use Rattle.steps.specs.Heads.{stepped, written_one, opened, closed}
 use Rattle.state_bytes.specs.StateBytes.{state_size, state_of, stored_head, stored_container, stored_state, stored_by, numbers_laid, entered_by, entered, answered_by, answered}
 use Rattle.state_bytes.proofs.Laws.{state_is, state_none, length_containers}
-use Rattle.entry_steps.specs.Entries.{entered_as, stepped_as}
+use Rattle.entry_steps.specs.Entries.{entered_as, stepped_as, written_as}
 
 module _ (c : Call) (st b : List ℕ) where
   pub entered_run : (o : Outcome) → o ≡ run c (config (state_of st) b) → entered_by c st o ≡ entered c st b
@@ -27,6 +28,14 @@ module _ (c : Call) (st b : List ℕ) where
       → stepped r (state_of st) l ≡ run c (config (state_of st) b) → stepped_as r st l ≡ entered c st b
   stepped_entered l same (Ok h) e = ap (λ (x : List ℕ). entered_as 0 x l) (sym (same _)) ∙ entered_run _ e
   stepped_entered l same (Err why) e = entered_run _ e
+
+-- ---- a scalar
+
+module _ (an : List ℕ) (x : Argument) (st b l : List ℕ) where
+  pub written_entered : (r : Result Head Refusal) → written_one r (state_of st) l ≡ run (write an x) (config (state_of st) b)
+      → written_as r st l ≡ entered (write an x) st b
+  written_entered (Ok h) e = entered_run (write an x) st b _ e
+  written_entered (Err why) e = entered_run (write an x) st b _ e
 
 -- ---- an opening
 

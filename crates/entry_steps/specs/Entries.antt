@@ -2,10 +2,10 @@
 -- Assumes nothing.
 use Rattle.std.specs.Prelude.{ℕ, true, false, List, Result, Ok, Err, eqb, ltb, length, replicate}
 use Rattle.machine.specs.declared.Refusal.{Refusal}
-use Rattle.machine.specs.Machine.{longest_buffer, start_verdict, started}
+use Rattle.machine.specs.Machine.{counted, longest_buffer, start_verdict, started}
 use Rattle.machine.specs.Numbers.{number, verdict_of}
 use Rattle.steps.specs.declared.Head.{Head}
-use Rattle.state_bytes.specs.StateBytes.{state_size, stored_head, number_of, Entered}
+use Rattle.state_bytes.specs.StateBytes.{state_size, state_of, stored_head, stored_count, number_of, Entered}
 
 abbrev pub entered_as : ℕ → List ℕ → List ℕ → Entered
 entered_as n st b = record { number = n; state = st; buffer = b }
@@ -18,6 +18,12 @@ answered_as r st b = entered_as (number_of (verdict_of r)) st b
 abbrev pub stepped_as : Result Head Refusal → List ℕ → List ℕ → Entered
 stepped_as (Ok h) st b = entered_as 0 (stored_head h.used h.depth h.waiting st) b
 stepped_as (Err why) st b = entered_as (number why) st b
+
+-- of a scalar, which the innermost container has as a member more
+abbrev pub written_as : Result Head Refusal → List ℕ → List ℕ → Entered
+written_as (Ok h) st b =
+    entered_as 0 (stored_head h.used h.depth h.waiting (stored_count h.depth (counted (state_of st).containers h.depth) st)) b
+written_as (Err why) st b = entered_as (number why) st b
 
 -- the bytes of a state with no container and no name
 abbrev pub empty_bytes : ℕ → List ℕ

@@ -3,8 +3,9 @@
 // The laws in proofs/ say what the machine answers and leaves, by how far a call gets.
 #![tactic(auto)]
 
-ghost use Rattle.std.specs.Prelude.{◌≡◌, ◌<◌, ◌≤◌, IfOk};
-ghost use Rattle.machine.specs.Machine.{config, container_code, counted, most_open, run};
+ghost use Rattle.std.specs.Prelude.{◌≡◌, ◌<◌, ◌≤◌, length, IfOk};
+ghost use Rattle.encoding.specs.Argument.{write_string};
+ghost use Rattle.machine.specs.Machine.{accepted, config, container_code, counted, lacks_name, most_open, place_verdict, run};
 ghost use Rattle.machine.specs.Call.{write, name, opening, closing, abandonment, version_marker, emptying};
 ghost use Rattle.annotations.specs.Sids.{sids_of};
 ghost use Rattle.steps.specs.Counted.{counted_cut};
@@ -16,7 +17,7 @@ use machine::{
     Container, LIST, LONGEST_BUFFER, MARKER, MOST_OPEN, Refusal, Refused, SEXP, STRUCT, State,
 };
 use place::{CallKind, PlaceCheck};
-use values::WriteAsIon;
+use values::{Text, WriteAsIon};
 
 #[derive(Clone, Copy, Debug, PartialEq, Eq)]
 pub enum ContainerType {
@@ -72,7 +73,28 @@ pub fn start(buf: &mut [u8]) -> Result<usize, Refusal>
     buffer::copy(buf, 0, &MARKER).ok_or(Refusal::NoRoom)
 }
 
-// A scalar of any type: it is put at the end of the used bytes, and the innermost container has a member more.
+// A scalar whose place is checked: it is put at the end of the used bytes, and the innermost container has a member more.
+fn put<S: PlaceCheck, V: WriteAsIon>(
+    s: &S,
+    buf: &mut [u8],
+    annotations: &[u8],
+    value: V,
+) -> Result<Head, Refusal>
+    requires { let t = S.state s.now in accepted ≡ place_verdict t (length buf.old) (lacks_name t) }
+    ensures call { let t = S.state s.now in
+        written_one result t buf.new ≡ run (write (sids_of annotations.now) (V.argument value)) (config t buf.old) }
+    ensures uncut { let cs = (S.state s.now).containers in IfOk result (λ h. counted_cut cs h.depth ≡ counted cs h.depth) }
+{
+    // By move: lent to the closure, a bool lies on the stack, and its call takes 114 instructions for 111.
+    let put = values::write(buf, s.used(), annotations, value).ok_or_else(move || value.refusal())?;
+    Ok(Head {
+        used: s.used() + put,
+        depth: s.depth(),
+        waiting: false,
+    })
+}
+
+// A scalar of any type.
 pub fn write<S: PlaceCheck, V: WriteAsIon>(
     s: &S,
     buf: &mut [u8],
@@ -84,13 +106,22 @@ pub fn write<S: PlaceCheck, V: WriteAsIon>(
     ensures uncut { let cs = (S.state s.now).containers in IfOk result (λ h. counted_cut cs h.depth ≡ counted cs h.depth) }
 {
     s.check(buf.len(), CallKind::Value)?;
-    // By move: lent to the closure, a bool lies on the stack, and its call takes 114 instructions for 111.
-    let put = values::write(buf, s.used(), annotations, value).ok_or_else(move || value.refusal())?;
-    Ok(Head {
-        used: s.used() + put,
-        depth: s.depth(),
-        waiting: false,
-    })
+    put(s, buf, annotations, value)
+}
+
+// A string: its bytes are tested behind the checks of its place, so that a misplaced one costs nothing for its length.
+pub fn write_string<S: PlaceCheck>(
+    s: &S,
+    buf: &mut [u8],
+    annotations: &[u8],
+    bytes: &[u8],
+) -> Result<Head, Refusal>
+    ensures call { let t = S.state s.now in
+        written_one result t buf.new ≡ run (write (sids_of annotations.now) (write_string bytes.now)) (config t buf.old) }
+    ensures uncut { let cs = (S.state s.now).containers in IfOk result (λ h. counted_cut cs h.depth ≡ counted cs h.depth) }
+{
+    s.check(buf.len(), CallKind::Value)?;
+    put(s, buf, annotations, Text::new(bytes))
 }
 
 // A field name: its sid as a VarUInt.

@@ -16,7 +16,7 @@ ghost use Rattle.timestamp.specs.Arguments.{argument_of};
 
 use machine::{Refused, State};
 use timestamp::Timestamp;
-use values::{Bits, Decimal, Int, IonType, Lob, Symbol, Text, Value, WriteAsIon};
+use values::{Bits, Decimal, Int, IonType, Lob, Symbol, Value, WriteAsIon};
 
 // A scalar of any type: its place is checked, it is put at the end of the used bytes, and the innermost container has a member more.
 pub fn write<V: WriteAsIon>(
@@ -181,7 +181,10 @@ pub fn write_string(
 ) -> Result<State, Refused>
     ensures { outcome_of result buf.new ≡ run (write (sids_of annotations.now) (write_string bytes.now)) (config s buf.old) }
 {
-    write(s, buf, annotations, Text::new(bytes))
+    let head = steps::write_string(&s, buf, annotations, bytes).map_err(|why| steps::refused(
+        s, why,
+    ))?;
+    Ok(steps::with_head(steps::counted(s, head.depth), head))
 }
 
 // A clob.

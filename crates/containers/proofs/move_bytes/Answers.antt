@@ -7,10 +7,11 @@ use Rattle.containers.proofs.Moves.{part, pasted, moved_away, moved_nowhere, lai
 use Rattle.containers.proofs.move_bytes.Goals as goal
 
 pub returns-then-from-to : goal.returns-then-from-to
-returns-then-from-to c = let a = c.args in (
-  moved_away a.from a.to a.count c.if-from-to.true,
-  c.copy_within.ensures.after ∙ pasted a.buf.now a.from a.to _ a.count refl (omega arith),
-)
+returns-then-from-to c = let a = c.args in
+    let all : c.len-moved.result ≡ a.count = omega (arith, c.len-moved.ensures) in (
+      all ∙ moved_away a.from a.to a.count c.if-from-to.true,
+      c.copy_within.ensures.after ∙ pasted a.buf.now a.from a.to _ a.count refl (omega arith),
+    )
 
 pub returns : goal.returns
 returns c = let a = c.args in
