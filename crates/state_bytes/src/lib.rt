@@ -182,7 +182,11 @@ pub fn check(st: &[u8], room: usize, call: CallKind) -> Result<(), Refusal>
 {
     match st.as_array() {
         Some(st) if passes(st, room, call) => Ok(()),
-        _ => place::check(&StateBytes(st), room, call),
+        // Said, so that the compiler knows of a call that passes how long the slice is and how many containers are open.
+        _ => match place::check(&StateBytes(st), room, call) {
+            Ok(()) => unreachable!(),
+            refused => refused,
+        },
     }
 }
 
