@@ -53,6 +53,16 @@ impl From<Result<Closed, Refused>> for Got {
     }
 }
 
+impl Got {
+    // What is compared of a closing that stands behind `ann`, of whose container a line says nothing.
+    pub(crate) fn without_figures(self) -> Got {
+        Got {
+            figures: Figures::default(),
+            ..self
+        }
+    }
+}
+
 impl fmt::Display for Got {
     fn fmt<W: fmt::Write>(&self, f: &mut fmt::Formatter<W>) -> fmt::Result {
         write!(f, "{} {} {} ", self.answer, self.used, self.depth)?;
