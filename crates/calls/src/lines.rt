@@ -54,7 +54,7 @@ impl From<Result<Closed, Refused>> for Got {
 }
 
 impl Got {
-    // What is compared of a closing that stands behind `ann`, of whose container a line says nothing.
+    // What is compared where `close` is not the first word of the call: of the container of a closing behind `ann` a line says nothing.
     pub(crate) fn without_figures(self) -> Got {
         Got {
             figures: Figures::default(),
