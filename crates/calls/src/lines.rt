@@ -53,6 +53,16 @@ impl From<Result<Closed, Refused>> for Got {
     }
 }
 
+impl Got {
+    // What is compared where `close` is not the first word of the call: of the container of a closing behind `ann` a line says nothing.
+    pub(crate) fn without_figures(self) -> Got {
+        Got {
+            figures: Figures::default(),
+            ..self
+        }
+    }
+}
+
 impl fmt::Display for Got {
     fn fmt<W: fmt::Write>(&self, f: &mut fmt::Formatter<W>) -> fmt::Result {
         write!(f, "{} {} {} ", self.answer, self.used, self.depth)?;

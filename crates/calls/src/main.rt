@@ -57,10 +57,14 @@ fn call(
         Err(refused) => refused.state,
     };
     let got = Got::from(got);
-    if got != expected {
+    let compared = match words::word(words, 0) {
+        b"close" => got,
+        _ => got.without_figures(),
+    };
+    if compared != expected {
         print!(rt; "got {got} ")?;
     }
-    report(rt, got == expected)
+    report(rt, compared == expected)
 }
 
 fn step(rt: &impl Print, line: &[u8], state: &mut State, buf: &mut [u8]) -> io::Result<()> {
@@ -93,7 +97,8 @@ fn step(rt: &impl Print, line: &[u8], state: &mut State, buf: &mut [u8]) -> io::
             report(rt, writer::finished(*state, &buf[..room]).len() == length)
         }
         Line::All { from, to, byte } => {
-            report(rt, buf.iter().take(to).skip(from).all(|here| *here == byte))
+            let to = to.min(buf.len());
+            report(rt, buf[from.min(to)..to].iter().all(|here| *here == byte))
         }
         Line::Bytes { from, hex } => report(rt, has_bytes(buf, from, hex)),
         Line::Call {

@@ -17,28 +17,34 @@ const MOST_TEXT: usize = 65536;
 const LONGEST_STREAM: usize = 8192;
 
 // Printed as it is read, here and in `walk`: no value holds the items of a stream, which `Display` could show.
-fn print_stream(rt: &impl Print, line: &[u8]) -> io::Result<()> {
+fn print_stream(
+    rt: &impl Print,
+    line: &[u8],
+    stream: &mut Filled<LONGEST_STREAM>,
+) -> io::Result<()> {
     let hex = words::word(line, 0);
     if 2 * LONGEST_STREAM < hex.len() {
         return print!(rt; "longer than is read");
     }
-    let stream: Filled<LONGEST_STREAM> = Filled::from_hex(hex);
+    stream.read_hex(hex);
     let position = words::numbers::natural(words::word(line, 1), u64::MAX).unwrap_or(0);
     walk::print_walk(rt, stream.used(), position as usize)
 }
 
-fn answer(rt: &impl Print, line: &[u8]) -> io::Result<()> {
+fn answer(rt: &impl Print, line: &[u8], stream: &mut Filled<LONGEST_STREAM>) -> io::Result<()> {
     if line.starts_with(b"#") {
         rt.write_all(line)?;
     } else {
-        print_stream(rt, line)?;
+        print_stream(rt, line, stream)?;
     }
     println!(rt)
 }
 
+// The array of a stream is made once, since to clear it takes longer than a short line.
 fn answer_lines(rt: &impl Print, text: &[u8]) -> io::Result<()> {
+    let mut stream = Filled::new();
     for line in text.split_inclusive(|byte| *byte == b'\n') {
-        answer(rt, line.strip_suffix(b"\n").unwrap_or(line))?;
+        answer(rt, line.strip_suffix(b"\n").unwrap_or(line), &mut stream)?;
     }
     Ok(())
 }

@@ -267,7 +267,7 @@ pub(crate) fn check(part: Part) -> Result<(), Refused> {
             Name::try_from(word)?;
         }
         Part::Annotations(names) => {
-            if !are_names(names) {
+            if !are_names(names.text) {
                 return Err(Refused::Form);
             }
         }

@@ -8,7 +8,8 @@ mod refused;
 mod run;
 mod walk;
 
-ghost use Rattle.std.specs.Prelude.{◌≡◌, [], ◌≤◌, length, IfOk};
+ghost use Rattle.std.specs.Prelude.{◌≡◌, [], ◌∷◌, ◌++◌, ◌≤◌, length, IfOk};
+ghost use Rattle.words.specs.Hex.{hex_text};
 
 use run::Writer;
 use std::fmt;
@@ -70,17 +71,26 @@ impl Answers {
         Ok(())
     }
 
+    // Puts the answer that is bytes.
+    fn put(&mut self, bytes: &[u8])
+        requires { (length self.old.waiting ≤ 32767) × (length bytes.now ≤ 16384) }
+        ensures { self.new.waiting ≡ self.old.waiting ++ (hex_text bytes.now ++ (10 ∷ [])) }
+    {
+        self.waiting.append_hex(bytes);
+        self.waiting.append(b"\n");
+    }
+
     fn answer<'a>(&mut self, writer: &mut Writer, walk: &mut Walk<'a>, line: &'a [u8])
         requires { length self.old.waiting ≤ 32767 }
     {
         match writer.bytes_of(walk, line) {
-            Ok(bytes) => self.waiting.append_hex(bytes),
+            Ok(bytes) => self.put(bytes),
             Err(refused) => {
-                // There is room.
+                // There is room, as for bytes.
                 let _ = write!(self.waiting, "{refused}");
+                self.waiting.append(b"\n");
             }
         }
-        self.waiting.append(b"\n");
     }
 }
 

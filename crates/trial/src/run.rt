@@ -1,10 +1,11 @@
 // The calls of a line that has the form.
-ghost use Rattle.std.specs.Prelude.{◌≤◌, length, IfOk};
+ghost use Rattle.std.specs.Prelude.{◌≡◌, ◌++◌, ◌≤◌, length, IfOk};
+ghost use Rattle.std.specs.Int.{w64, to_le_bytes};
 
 use crate::form::{Fraction, Scalar, Timestamp, check};
 use crate::names::Name;
 use crate::refused::{Refused, answered};
-use crate::walk::{Container, Line, Part, Walk};
+use crate::walk::{Container, Line, Names, Part, Walk};
 use goatminute::STATE_SIZE;
 use words::filled::Filled;
 use words::numbers::has_minus;
@@ -136,14 +137,23 @@ impl Writer {
         answered(goatminute::gm_field_name(&mut self.state, &mut self.buf, sid))
     }
 
-    // Puts the sids of annotations, eight bytes each from the lowest on.
-    fn annotate(&mut self, names: &[u8]) -> Result<(), Refused> {
-        if names.is_empty() {
+    // Puts a sid behind those of the annotations before it, eight bytes from the lowest on.
+    fn put_sid(&mut self, sid: u64)
+        requires { length self.old.annotations ≤ 32760 }
+        ensures { self.new.annotations ≡ self.old.annotations ++ to_le_bytes w64 sid }
+    {
+        self.annotations.append(&sid.to_le_bytes());
+    }
+
+    // Puts the sids of annotations.
+    fn annotate(&mut self, names: Names<'_>) -> Result<(), Refused> {
+        self.annotations.clear();
+        if names.text.is_empty() {
             return Ok(());
         }
-        for word in names.split(|byte| *byte == b' ') {
+        for word in names.text.split(|byte| *byte == b' ') {
             let sid = Name::try_from(word)?.sid()?;
-            self.annotations.append(&sid.to_le_bytes());
+            self.put_sid(sid);
         }
         Ok(())
     }

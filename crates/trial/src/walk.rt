@@ -33,6 +33,13 @@ pub(crate) enum Container {
     Struct,
 }
 
+// The names of annotations, which are shorter than a line, so that there is room for their sids.
+#[derive(Clone, Copy)]
+pub(crate) struct Names<'a> {
+    pub(crate) text: &'a [u8],
+    ghost short: { length text.now < 4096 },
+}
+
 // Parts, each with its words, without its brackets.
 #[derive(Clone, Copy)]
 pub(crate) enum Part<'a> {
@@ -44,7 +51,7 @@ pub(crate) enum Part<'a> {
     // The name of the value that comes next.
     Name(&'a [u8]),
     // The annotations of the value that comes next.
-    Annotations(&'a [u8]),
+    Annotations(Names<'a>),
     // A space, or the bracket of a field or an `ann`.
     Mark,
 }
@@ -163,12 +170,12 @@ impl<'a> Walk<'a> {
     {
         self.pass(b' ')?;
         self.pass(b'(')?;
-        let names = self.text_to(b')')?;
-        self.skip(names.len() + 1);
+        let text = self.text_to(b')')?;
+        self.skip(text.len() + 1);
         self.pass(b' ')?;
         self.due.push(Due::Bracket);
         self.due.push(Due::BareValue);
-        Ok(Part::Annotations(names))
+        Ok(Part::Annotations(Names { text }))
     }
 
     // A container, up to its name, behind which `due` is due.

@@ -16,6 +16,8 @@ pub(crate) struct Call<'a> {
     sids: &'a [u8],
     // The function's name and its arguments.
     words: &'a [u8],
+    // All its words, from `ann` on where that stands.
+    vector: &'a [u8],
 }
 
 impl<'a> TryFrom<&'a [u8]> for Call<'a> {
@@ -31,6 +33,7 @@ impl<'a> TryFrom<&'a [u8]> for Call<'a> {
             function,
             sids,
             words,
+            vector,
         })
     }
 }
@@ -173,10 +176,14 @@ impl<'a> Call<'a> {
         }
     }
 
-    // How many bytes of the `size` expected ones the call puts: of a fill those that its limit lets, which are the last.
+    // How many bytes of the `size` expected ones the call puts: of a fill those that its limit lets, which are the last. Behind `ann` the word of the
+    // sids is counted as the limit.
     pub(crate) fn count(self, size: usize) -> usize {
         match self.function {
-            Function::Fill => size.min(self.number(1) as usize),
+            Function::Fill => {
+                let limit = numbers::natural(words::word(self.vector, 1), u64::MAX);
+                size.min(limit.unwrap_or(0) as usize)
+            }
             _ => size,
         }
     }
