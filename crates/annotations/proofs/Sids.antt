@@ -15,16 +15,17 @@ use Rattle.std.specs.Prelude.{Option, Some, None}
 use Rattle.buffer.proofs.Laid.{placed-some, placed_then, placed_then_none}
 use Rattle.encoding.specs.Fields.{var_uint_bytes, var_uints_bytes}
 use Rattle.encoding.specs.Headers.{annotation_bytes}
-use Rattle.encoding.proofs.Sizes.{var_uint-most}
+use Rattle.encoding.proofs.Sizes.{var_uint_least, var_uint-most}
 use Rattle.encoding.proofs.Fields.{var_uints_snoc}
 use Rattle.annotations.specs.Sids.{least_first, sid_at, sid_count, sids_up_to, sids_of}
 
--- the byte before the others, of eight
-pub least_first_more : (b : List ℕ) (k : ℕ) → 0 < k → k ≤ 8 → get_or b (k - 1) 0 + 256 * least_first b k (8 - k) ≡ least_first b (k - 1) (8 - (k - 1))
+-- the byte before k - 1 others, of eight
+pub least_first_more : (b : List ℕ) (at k : ℕ) → 0 < k → k ≤ 8
+    → get_or b (at + (k - 1)) 0 + 256 * least_first b (at + k) (8 - k) ≡ least_first b (at + (k - 1)) (8 - (k - 1))
 unfolding least_first
-least_first_more b k p h =
+least_first_more b at k p h =
     let n : 8 - (k - 1) ≡ suc (8 - k) = omega arith in
-    let e : k - 1 + 1 ≡ k = omega arith in
+    let e : at + (k - 1) + 1 ≡ at + k = omega arith in
     rw (n, least_first, e) refl
 
 -- past the end every byte is zero
@@ -214,6 +215,9 @@ length-annotations an = length-append (var_uint_bytes (length (var_uints_bytes a
 -- the same, of a sum and a whole that are known
 pub whole_parts : (an : List ℕ) (sum whole : ℕ) → sum ≡ length (var_uints_bytes an) → whole ≡ length (annotation_bytes an) → whole ≡ length (var_uint_bytes sum) + sum
 whole_parts an sum whole e q = q ∙ (length-annotations an ∙ ap (λ (n : ℕ). length (var_uint_bytes n) + n) (sym e))
+
+pub annotations_least : (an : List ℕ) → 1 ≤ length (annotation_bytes an)
+annotations_least an = omega (arith, length-annotations an, var_uint_least (length (var_uints_bytes an)))
 
 -- ---- an empty list, and one that is not
 

@@ -1,13 +1,13 @@
 -- The days of a month: from the table of a year that is no leap year, and at most 31.
 -- By cases on the leap year. Assumes nothing.
-use Prim.Native.Nat.{ℕ, zero, suc, ◌≤◌}
+use Prim.Native.Nat.{ℕ, zero, suc, ◌≤◌, ◌<◌}
 use native.Mathlib.Omega.{arith}
-use mathlib.Core.Path.{◌≡◌, refl}
+use mathlib.Core.Path.{◌≡◌, refl, sym}
 use mathlib.Core.Bool.{Bool, true, false, cond, ◌&&◌}
 use mathlib.Core.List.{List, [], ◌∷◌}
 use borrow.Author.Tests.{eqb-true, leb-true}
 use lib.Dec.{eqb, leb}
-use lib.ListN.{get_or}
+use lib.ListN.{get_or, get_or-eq_default}
 use Rattle.ion.specs.Calendar.{is_leap_year, days_in_month}
 use Rattle.ion.proofs.Tests.{both}
 
@@ -23,6 +23,9 @@ days_plain y zero e = refl
 days_plain y (suc zero) e = refl
 days_plain y (suc (suc zero)) e = rw e
 days_plain y (suc (suc (suc m))) e = refl
+
+pub days_none : (y m : ℕ) → 12 < m → 0 ≡ days_in_month y m
+days_none y m h = sym (get_or-eq_default (days_by (cond (is_leap_year y) 29 28)) 0 {n = m} (omega arith))
 
 -- no number of the list is above `most`
 abbrev all_up_to : ℕ → List ℕ → Bool

@@ -104,7 +104,7 @@ signed_groups s (Ok n) = with_sign s n
 signed_groups s (Err r) = Err r
 
 -- signed 64 bits are within 64 bits
-signed-groups : (s : Bool) (size : ℕ) (o : Option (ℕ × List ℕ)) → signed_groups s (number_in size (in_u64 o)) ≡ signed_in size (give_sign s o)
+pub signed-groups : (s : Bool) (size : ℕ) (o : Option (ℕ × List ℕ)) → signed_groups s (number_in size (in_u64 o)) ≡ signed_in size (give_sign s o)
 signed-groups s size none = refl
 signed-groups s size (some x) =
     by_cases (ltb x.0 (2 ^ 64))

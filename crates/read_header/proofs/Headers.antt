@@ -19,14 +19,14 @@ use Rattle.read_header.specs.Lengths.{length_at}
 -- ---- the body within the bytes
 
 module _ (out : Refusal) (s : List ℕ) (b n start : ℕ) where
-  framed-never : never (b / 16) (b % 16) n ≡ true → framed out s b n start ≡ Err NotIon
+  pub framed-never : never (b / 16) (b % 16) n ≡ true → framed out s b n start ≡ Err NotIon
   framed-never e = rw (e) refl
 
   module _ (possible : never (b / 16) (b % 16) n ≡ false) (inside : start ≤ length s) where
-    framed_cut : length s - start < n → framed out s b n start ≡ Err out
+    pub framed_cut : length s - start < n → framed out s b n start ≡ Err out
     framed_cut h = rw (possible, lt-leb (start + n) (length s) (omega arith)) refl
 
-    framed-whole : n ≤ length s - start → framed out s b n start ≡ Ok (record { kind = b; start = start; stop = start + n })
+    pub framed-whole : n ≤ length s - start → framed out s b n start ≡ Ok (record { kind = b; start = start; stop = start + n })
     framed-whole h = rw (possible, le-leb (start + n) (length s) (omega arith)) refl
 
 -- ---- the type byte

@@ -102,7 +102,7 @@ module _ (y m d h i s : ℕ) where
         minute = ltb-true i 60 g;
       }
 
-  time : (n : ℕ) → are_fields (take n six) ≡ true → 5 ≤ n → Time
+  pub time : (n : ℕ) → are_fields (take n six) ≡ true → 5 ≤ n → Time
   unfolding are_fields
   time zero e k = absurd (omega arith)
   time (suc zero) e k = absurd (omega arith)
@@ -120,7 +120,7 @@ module _ (y m d h i s : ℕ) where
       let c = both {a = ltb h 24} b.1 in
       time_of b.0 c.0 (both {a = ltb i 60} c.1).0
 
-  utc_inside : (n : ℕ) → are_fields (take n six) ≡ true → (ltb y 1 || ltb 9999 y) ≡ false → 5 ≤ n → is_calendar_minute (pos (minute_number y m d h i)) ≡ true
+  pub utc_inside : (n : ℕ) → are_fields (take n six) ≡ true → (ltb y 1 || ltb 9999 y) ≡ false → 5 ≤ n → is_calendar_minute (pos (minute_number y m d h i)) ≡ true
   utc_inside n e f k =
       let t = time n e k in
       year_by_minute y m d h i t.real t.hour t.minute ∙ inside f

@@ -239,7 +239,7 @@ impl<'a> WriteAsIon for Int<'a> {
     }
 
     fn refusal(self) -> Refusal {
-        if self.is_negative_zero() {
+        if Int::is_negative_zero(self) {
             return Refusal::NegativeZero;
         }
         Refusal::NoRoom

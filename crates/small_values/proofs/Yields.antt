@@ -54,7 +54,7 @@ first_is t (suc k) n x = by_cases (t (low_digits 256 n x))
     (λ e. rw (e) (first_here t k n x e))
     (λ e. rw (e) (first-later t k n x (first_from t k n (x + 1)) e (first_is t k n (x + 1))))
 
-next-from : (n x : ℕ) → x ≤ next_of n x
+pub next-from : (n x : ℕ) → x ≤ next_of n x
 unfolding next_of
 next-from n x = (first_is is_one_value (limit n - x) n x).from
 

@@ -1,6 +1,6 @@
 -- The UTC fields of a timestamp that keeps the local rules of check 7 are small, and they are those that its body has.
 -- By the fields of the grammar, which they are. Assumes nothing.
-use Prim.Native.Nat.{ℕ}
+use Prim.Native.Nat.{ℕ, ◌<◌}
 use native.Mathlib.Omega.{arith}
 use mathlib.Core.Path.{◌≡◌, refl}
 use mathlib.Core.Bool.{true}
@@ -33,6 +33,21 @@ offset_small (some z) fs e = omega (arith, offset-fits z fs e)
 fraction_small : (x : Fraction) (fs : List ℕ) → fraction_fits x fs ≡ true → SmallFraction x
 fraction_small no_fraction fs e = tt
 fraction_small (fraction k c) fs e = let f = fraction-fits k c fs e in (f.0, omega (arith, f.1), f.2)
+
+-- another year in the place of the first field
+year_in : (y m d h i s : ℕ) (p : Precision) (y' : ℕ) → SmallFields (fields_by p y m d h i s) → y' < 16384 → SmallFields (fields_by p y' m d h i s)
+year_in y m d h i s Year y' k l = (l, k.1)
+year_in y m d h i s Month y' k l = (l, k.1)
+year_in y m d h i s Day y' k l = (l, k.1)
+year_in y m d h i s Minute y' k l = (l, k.1)
+year_in y m d h i s Second y' k l = (l, k.1)
+
+year_of : (y m d h i s : ℕ) (p : Precision) → SmallFields (fields_by p y m d h i s) → y < 16384
+year_of y m d h i s Year k = k.0
+year_of y m d h i s Month k = k.0
+year_of y m d h i s Day k = k.0
+year_of y m d h i s Minute k = k.0
+year_of y m d h i s Second k = k.0
 
 -- ---- in the place of the local ones
 
@@ -81,6 +96,18 @@ module _ (t : Timestamp) where
           offset_small o (fields_of t) a.offset,
           rw (fields_with_utc t.precision o) (fields-below (utc o (fields_of t)) (fields-moved o (fields_of t) a.fields a.year)),
           fraction_small (fraction_digits t.fraction) (fields_of t) a.fraction,
+        )
+
+    -- with the UTC year alone
+    pub utc_year_small : Small (with_fields t ((with_fields t (utc (offset_minutes t.offset) (fields_of t))).year ∷ []))
+    unfolding with_fields
+    utc_year_small =
+        let l = fields-below (fields_of t) keeps.fields in
+        let y = with_fields t (utc (offset_minutes t.offset) (fields_of t)) in
+        let u = utc_small in (
+          u.0,
+          year_in t.year t.month t.day t.hour t.minute t.second t.precision y.year l (year_of y.year y.month y.day y.hour y.minute y.second y.precision u.1),
+          u.2,
         )
 
   pub utc_body : body_of (in_utc t)

@@ -26,6 +26,10 @@ pub annotated-plain : (a : Argument) → annotated_checked [] a ≡ checked_byte
 unfolding annotated_checked checked_bytes annotated_bytes
 annotated-plain a = refl
 
+pub annotated_bytes-none : (an v : List ℕ) → an ≡ [] → annotated_bytes an v ≡ v
+unfolding annotated_bytes
+annotated_bytes-none an v e = rw e refl
+
 -- what a call without annotations left
 pub unannotated : (b : List ℕ) (at : ℕ) (notes : List ℕ) (a : Argument) → length notes ≡ 0 → (r : Option ℕ) (l : List ℕ)
     → ◌≡◌ {A = Option ℕ × List ℕ} (r, l) (written b at (checked_bytes a)) → ◌≡◌ {A = Option ℕ × List ℕ} (r, l) (written b at (annotated_checked (sids_of notes) a))

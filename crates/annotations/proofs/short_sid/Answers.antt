@@ -2,6 +2,7 @@
 use mathlib.Core.Path.{◌≡◌, refl, sym, ◌∙◌, ap}
 use Prim.Native.Nat.{ℕ, suc, ◌+◌, ◌-◌, ◌*◌, ◌^◌, ◌<◌, ◌≤◌}
 use native.Mathlib.Omega.{arith}
+use native.Mathlib.Nat.{zero-add}
 use mathlib.Core.List.{List, [], ◌∷◌}
 use lib.ListN.{length, take, get_or, length-append}
 use lib.Seq.{take_at, take_all, take-take, get_or-take, get_or-append_seam}
@@ -32,7 +33,7 @@ module _ (b r r' : List ℕ) (v sid : ℕ) (front : r ≡ take (length r) b) (wi
   more : v + 256 * sid ≡ least_first b (length r') (8 - length r')
   more =
       let n : length r - 1 ≡ length r' = omega (arith, one_less) in
-      rw (last, is) (rw n at (least_first_more b (length r) (omega (arith, one_less)) (omega arith)))
+      rw (last, is) (rw (n, zero-add (length r'), zero-add (length r)) at (least_first_more b 0 (length r) (omega (arith, one_less)) (omega arith)))
 
 pub loop-byte-init : goal.loop-byte-init
 loop-byte-init c =
