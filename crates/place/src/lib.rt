@@ -139,7 +139,8 @@ pub fn state_fits<S: Standing>(s: &S, room: usize) -> bool
     containers_fit(s, used, depth)
 }
 
-// The first of the lines 1 to 3 that fails.
+// The first of the lines 1 to 3 that fails. In line, so that what a call has asked of its state is not asked again for its refusal.
+#[inline(always)]
 pub fn check<S: Standing>(s: &S, room: usize, call: CallKind) -> Result<(), Refusal>
     ensures { verdict_of result ≡ place_verdict (S.state s.now) room (misplaced call (S.state s.now)) }
 {
