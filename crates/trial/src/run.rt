@@ -142,7 +142,7 @@ impl Writer {
         requires { length self.old.annotations ≤ 32760 }
         ensures { self.new.annotations ≡ self.old.annotations ++ to_le_bytes w64 sid }
     {
-        self.annotations.append(&sid.to_le_bytes());
+        self.annotations.append_array(sid.to_le_bytes());
     }
 
     // Puts the sids of annotations.

@@ -65,6 +65,20 @@ impl<const N: usize> Filled<N> {
         self.used = end;
     }
 
+    // `append` of an array: where there is room, its bytes are stored at once.
+    pub fn append_array<const M: usize>(&mut self, bytes: [u8; M])
+        ensures { self.new ≡ take N (self.old ++ bytes.entry) }
+    {
+        if N - self.used < M {
+            self.append(&bytes);
+            return;
+        }
+        let behind = self.used + M;
+        let room = &mut self.bytes[..];
+        room[self.used..behind].copy_from_slice(&bytes);
+        self.used = behind;
+    }
+
     // Puts the digits of bytes behind those in use, where there is room for all of them.
     pub fn append_hex(&mut self, bytes: &[u8])
         ensures { self.new ≡ with_hex N self.old bytes.now }

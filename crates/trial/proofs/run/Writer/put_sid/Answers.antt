@@ -13,4 +13,4 @@ eight most s bytes t all size is whole room =
     whole ∙ take_all most (s ++ t) (omega (arith, length-append s t, ap length is)) ∙ ap (λ (l : List ℕ). s ++ l) is
 
 pub returns : goal.returns
-returns c = eight MOST_SIDS _ _ _ _ refl c.to_le_bytes.ensures c.append.ensures (omega (arith, c.requires))
+returns c = eight MOST_SIDS _ _ _ _ refl c.to_le_bytes.ensures c.append_array.ensures (omega (arith, c.requires))
